@@ -1,0 +1,17 @@
+-- The tree that a tree of the code stands for.
+use Rattle.std.specs.Prelude.{List, [], ◌∷◌, string_bytes}
+use Rattle.upon_types.specs.Tree.{Statement, raw, inline_expr, Statements, no_statements, statement_then}
+use Rattle.upon_types.specs.declared.types.ast.Stmt.{Stmt}
+use Rattle.upon_types.specs.declared.types.ast.Stmt.TheVariants.{Raw, InlineExpr}
+use Rattle.upon_types.specs.declared.types.ast.Template.{Template}
+
+abbrev pub statement_of : Stmt → Statement
+statement_of (Raw span) = raw span
+statement_of (InlineExpr e) = inline_expr (string_bytes e.name.name) e.name.span e.span
+
+abbrev pub statements_of : List Stmt → Statements
+statements_of [] = no_statements
+statements_of (t ∷ ts) = statement_then (statement_of t) (statements_of ts)
+
+abbrev pub tree_of : Template → Statements
+tree_of template = statements_of template.scope.stmts.items

@@ -1,0 +1,5 @@
+pub mod Place
+pub mod Tree
+pub mod Fault
+pub mod Error
+pub mod Ast

@@ -1,0 +1,14 @@
+-- Places in a text.
+use Rattle.std.specs.Prelude.{ℕ, ◌-◌, ◌≤◌, List, take, drop}
+use Rattle.std.specs.Str.{IsCharBoundary}
+use Rattle.upon_types.specs.declared.types.Span.{Span}
+
+-- the place lies in the text, and both its ends are between characters
+pub record LiesIn (s : List ℕ) (span : Span) : Type 0 where
+  pub ordered : span.m ≤ span.n
+  pub start : IsCharBoundary s span.m
+  pub end : IsCharBoundary s span.n
+
+-- what stands at the place
+abbrev pub part : List ℕ → Span → List ℕ
+part s span = take (span.n - span.m) (drop span.m s)

@@ -1,0 +1,214 @@
+// Faults, and the one line that tells each.
+ghost use Rattle.std.specs.Prelude.{◌≡◌, ◌⊎◌, Some, None, IsSome, IfOk, option_map, string_bytes, ◌↔◌};
+ghost use Rattle.std.specs.Option.{ForSome};
+ghost use Rattle.upon_types.specs.Place.{LiesIn};
+ghost use Rattle.upon_types.specs.Fault.{io, format, line, plain, out_of_memory, made, named, OrMemory};
+ghost use Rattle.upon_types.specs.Error.{fault_of, kind_of};
+
+use crate::types::Span;
+use std::alloc::{AllocError, Global};
+use std::{fmt, io};
+
+/// What kind of fault an error tells.
+#[derive(Debug, Drop)]
+pub enum ErrorKind {
+    /// The text is no template.
+    Syntax,
+    /// A context could not be turned into a value.
+    Serialize,
+    /// A template could not be rendered.
+    Render,
+    /// A function refused its arguments.
+    Function,
+    /// A value could not be written.
+    Format,
+    /// A writer failed, with this error.
+    Io(io::Error),
+    /// There was no memory.
+    OutOfMemory,
+}
+
+/// Why a template was refused, or where its rendering ended.
+#[derive(Debug, Drop)]
+pub struct Error {
+    kind: ErrorKind,
+    name: Option<String>,
+    reason: Option<String>,
+    place: Option<Span>,
+}
+
+/// What a call gives that can end with an [`Error`].
+pub type Result<T> = std::result::Result<T, Error>;
+
+impl Error {
+    /// The error of a kind, with a reason and a place in a source, where they are given.
+    /// It bears no template's name. Where there is no memory for the reason, it tells that instead.
+    pub fn from_parts(
+        alloc: Global,
+        kind: ErrorKind,
+        reason: Option<&str>,
+        at: Option<(&str, Span)>,
+    ) -> Error
+        requires { ForSome at (λ place. LiesIn place.0.now place.1) }
+        ensures { OrMemory
+            (made
+            (kind_of kind)
+            (option_map (λ r. r.now) reason.entry)
+            (option_map (λ place. place.1) at.entry))
+            (fault_of result) }
+    {
+        let place = match at {
+            Some((_, span)) => Some(span),
+            None => None,
+        };
+        match copied(alloc, reason) {
+            Ok(reason) => Error {
+                kind,
+                name: None,
+                reason,
+                place,
+            },
+            Err(e) => e.into(),
+        }
+    }
+
+    /// The same fault in the template of this name. Where there is no memory for the name, it tells that instead.
+    pub fn with_name(self, alloc: Global, name: &str) -> Error
+        ensures { OrMemory (named name.now (fault_of self)) (fault_of result) }
+    {
+        match String::from_str(alloc, name) {
+            Ok(name) => Error {
+                name: Some(name),
+                ..self
+            },
+            Err(e) => e.into(),
+        }
+    }
+
+    /// What kind of fault it is.
+    pub fn kind(&self) -> &ErrorKind
+        ensures { kind_of result.now ≡ (fault_of self.now).kind }
+    {
+        &self.kind
+    }
+
+    /// The name of the template in which it lies, where it bears one.
+    pub fn template_name(&self) -> Option<&str>
+        ensures { option_map (λ name. name.now) result ≡ (fault_of self.now).name }
+    {
+        as_text(&self.name)
+    }
+
+    /// What is wrong, beside the kind.
+    pub fn reason(&self) -> Option<&str>
+        ensures { option_map (λ reason. reason.now) result ≡ (fault_of self.now).reason }
+    {
+        as_text(&self.reason)
+    }
+
+    /// The place in the template's source where it lies, in bytes.
+    pub fn place(&self) -> Option<Span>
+        ensures { result ≡ (fault_of self.now).place }
+    {
+        self.place
+    }
+
+    /// The writer's error, where that is the fault.
+    pub fn io_error(&self) -> Option<&io::Error>
+        ensures { IsSome result ↔ ((fault_of self.now).kind ≡ io) }
+    {
+        match &self.kind {
+            ErrorKind::Io(error) => Some(error),
+            _ => None,
+        }
+    }
+}
+
+fn copied(alloc: Global, text: Option<&str>) -> std::result::Result<Option<String>, AllocError>
+    ensures { IfOk result (λ copy. option_map string_bytes copy ≡ option_map (λ t. t.now) text.entry) }
+{
+    match text {
+        Some(text) => Ok(Some(String::from_str(alloc, text)?)),
+        None => Ok(None),
+    }
+}
+
+fn as_text(text: &Option<String>) -> Option<&str>
+    ensures { option_map (λ t. t.now) result ≡ option_map string_bytes text.now }
+{
+    match text {
+        Some(text) => Some(text.as_str()),
+        None => None,
+    }
+}
+
+impl From<AllocError> for Error {
+    ghost from_gives = { λ _ error. fault_of error ≡ out_of_memory };
+
+    fn from(_: AllocError) -> Error {
+        Error {
+            kind: ErrorKind::OutOfMemory,
+            name: None,
+            reason: None,
+            place: None,
+        }
+    }
+}
+
+impl From<io::Error> for Error {
+    ghost from_gives = { λ _ error. fault_of error ≡ plain io };
+
+    fn from(error: io::Error) -> Error {
+        Error {
+            kind: ErrorKind::Io(error),
+            name: None,
+            reason: None,
+            place: None,
+        }
+    }
+}
+
+impl From<fmt::Error> for Error {
+    ghost from_gives = { λ _ error. fault_of error ≡ plain format };
+
+    fn from(_: fmt::Error) -> Error {
+        Error {
+            kind: ErrorKind::Format,
+            name: None,
+            reason: None,
+            place: None,
+        }
+    }
+}
+
+impl fmt::Display for ErrorKind {
+    ghost use Rattle.upon_types.specs.Fault.{kind_text};
+    ghost use Rattle.upon_types.specs.Error.{kind_of};
+
+    ghost output = { λ kind. Some (kind_text (kind_of kind)) };
+
+    fn fmt<W: fmt::Write>(&self, f: &mut fmt::Formatter<W>) -> fmt::Result {
+        let text = match self {
+            ErrorKind::Syntax => "invalid syntax",
+            ErrorKind::Serialize => "serialize error",
+            ErrorKind::Render => "render error",
+            ErrorKind::Function => "function error",
+            ErrorKind::Format => "format error",
+            ErrorKind::Io(_) => "io error",
+            ErrorKind::OutOfMemory => "out of memory",
+        };
+        write!(f, "{text}")
+    }
+}
+
+impl fmt::Display for Error {
+    ghost output = { λ error. Some (line (fault_of error)) };
+
+    fn fmt<W: fmt::Write>(&self, f: &mut fmt::Formatter<W>) -> fmt::Result {
+        let kind = &self.kind;
+        match &self.reason {
+            Some(reason) => write!(f, "{kind}: {reason}"),
+            None => write!(f, "{kind}"),
+        }
+    }
+}

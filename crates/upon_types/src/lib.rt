@@ -1,0 +1,5 @@
+// The values, places, trees and faults that every part of the template engine speaks of.
+#![tactic(auto)]
+
+pub mod error;
+pub mod types;

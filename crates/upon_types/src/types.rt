@@ -1,0 +1,63 @@
+// Places in a template's source, and the kinds of delimiters.
+ghost use Rattle.std.specs.Prelude.{◌≡◌, min, max};
+ghost use Rattle.upon_types.specs.Place.{LiesIn, part};
+
+use std::ops::Range;
+
+pub mod ast;
+
+/// A place in a template's source: the bytes from `m` on, up to `n` and without it.
+#[derive(Clone, Copy, Debug, PartialEq, Eq)]
+pub struct Span {
+    pub m: usize,
+    pub n: usize,
+}
+
+impl Span {
+    /// The least place that covers both.
+    pub fn combine(self, other: Span) -> Span
+        ensures start { result.m ≡ min self.m other.m }
+        ensures end { result.n ≡ max self.n other.n }
+    {
+        Span {
+            m: self.m.min(other.m),
+            n: self.n.max(other.n),
+        }
+    }
+}
+
+impl From<Range<usize>> for Span {
+    ghost from_gives = { λ range span. (span.m ≡ range.start) × (span.n ≡ range.end) };
+
+    fn from(range: Range<usize>) -> Span {
+        Span {
+            m: range.start,
+            n: range.end,
+        }
+    }
+}
+
+/// The bytes of a text at a place, which has to lie in the text, on character boundaries.
+pub fn slice(source: &str, span: Span) -> &str
+    requires { LiesIn source.now span }
+    ensures { result.now ≡ part source.now span }
+{
+    &source[span.m..span.n]
+}
+
+/// What a delimiter is for. A `Trim` kind is the one with the hyphen.
+#[derive(Clone, Copy, Debug, PartialEq, Eq)]
+pub enum Delimiter {
+    BeginExpr,
+    EndExpr,
+    BeginExprTrim,
+    EndExprTrim,
+    BeginBlock,
+    EndBlock,
+    BeginBlockTrim,
+    EndBlockTrim,
+    BeginComment,
+    EndComment,
+    BeginCommentTrim,
+    EndCommentTrim,
+}
