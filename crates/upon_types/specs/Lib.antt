@@ -3,3 +3,5 @@ pub mod Tree
 pub mod Fault
 pub mod Error
 pub mod Ast
+pub mod Val
+pub mod View

@@ -1,0 +1,58 @@
+// The values that templates read and make.
+ghost use Rattle.std.specs.Prelude.{◌≡◌};
+ghost use Rattle.upon_types.specs.Val.{none_val, kind_word};
+ghost use Rattle.upon_types.specs.View.{view};
+
+mod from;
+pub mod look;
+
+use std::collections::BTreeMap;
+
+/// A value that a template can read or make.
+#[derive(Debug, Drop)]
+pub enum Value {
+    /// No value.
+    None,
+    /// A truth value.
+    Bool(bool),
+    /// A whole number.
+    Integer(i64),
+    /// A text.
+    String(String),
+    /// Values in a row.
+    List(Vec<Value>),
+    /// Values by name.
+    Map(BTreeMap<String, Value>),
+}
+
+impl Value {
+    /// What a message calls this kind of value.
+    pub fn human(&self) -> &'static str
+        ensures { result.now ≡ kind_word (view self.now) }
+    {
+        match self {
+            Value::None => "none",
+            Value::Bool(_) => "bool",
+            Value::Integer(_) => "integer",
+            Value::String(_) => "string",
+            Value::List(_) => "list",
+            Value::Map(_) => "map",
+        }
+    }
+}
+
+impl Default for Value {
+    ghost is_default = { λ v. view v ≡ none_val };
+
+    fn default() -> Value {
+        Value::None
+    }
+}
+
+impl AsRef<Value> for Value {
+    fn as_ref(&self) -> &Value
+        ensures { result.now ≡ self.now }
+    {
+        self
+    }
+}
