@@ -5,6 +5,7 @@ ghost use Rattle.upon_types.specs.View.{view};
 
 mod from;
 pub mod look;
+pub mod same;
 
 use std::collections::BTreeMap;
 
