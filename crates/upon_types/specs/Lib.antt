@@ -5,3 +5,4 @@ pub mod Error
 pub mod Ast
 pub mod Val
 pub mod View
+pub mod Same

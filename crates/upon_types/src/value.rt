@@ -3,8 +3,10 @@ ghost use Rattle.std.specs.Prelude.{◌≡◌};
 ghost use Rattle.upon_types.specs.Val.{none_val, kind_word};
 ghost use Rattle.upon_types.specs.View.{view};
 
+mod clone;
 mod from;
 pub mod look;
+pub mod same;
 
 use std::collections::BTreeMap;
 
