@@ -32,9 +32,9 @@ before_middle k l v (entry_then m w es) fs h = before_middle k l v es fs (and_pa
 -- where a new entry is put that is before all that is to follow
 pub insert_entry-joined : (es : List Entry) (k : String Global) (v : Value) (fs : Entries) → rises (joined (entries_view es) (entry_then (string_bytes k) (view v) fs)) ≡ true
     → joined (entries_view (insert_entry string_cmp es k v)) fs ≡ joined (entries_view es) (entry_then (string_bytes k) (view v) fs)
-insert_entry-joined [] k v fs up = refl
-insert_entry-joined (e ∷ es) k v fs up =
-    let parts = and_parts _ _ up in
+insert_entry-joined [] k v fs rise = refl
+insert_entry-joined (e ∷ es) k v fs rise =
+    let parts = and_parts _ _ rise in
     let less : slice_cmp nat_cmp (string_bytes e.0) (string_bytes k) ≡ Less = before_middle (string_bytes e.0) (string_bytes k) (view v) (entries_view es) fs parts.0 in
     let above : slice_cmp nat_cmp (string_bytes k) (string_bytes e.0) ≡ Greater =
     nat_list_cmp_total.antisymm (string_bytes k) (string_bytes e.0) ∙ ap ordering_reverse less in

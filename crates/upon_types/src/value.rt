@@ -46,8 +46,8 @@ impl Value {
 impl Default for Value {
     ghost is_default = { λ v. view v ≡ none_val };
 
-    fn default() -> Value {
-        Value::None
+    fn default() -> Self {
+        Self::None
     }
 }
 

@@ -30,11 +30,13 @@ fn same(a: &Value, b: &Value) -> bool
 {
     match (a, b) {
         (Value::None, Value::None) => true,
-        (Value::Bool(a), Value::Bool(b)) => *a == *b,
-        (Value::Integer(a), Value::Integer(b)) => *a == *b,
-        (Value::String(a), Value::String(b)) => a == b,
-        (Value::List(a), Value::List(b)) => a.len() == b.len() && same_items(a, b),
-        (Value::Map(a), Value::Map(b)) => a.len() == b.len() && same_entries(a, b),
+        (Value::Bool(one), Value::Bool(other)) => *one == *other,
+        (Value::Integer(one), Value::Integer(other)) => *one == *other,
+        (Value::String(one), Value::String(other)) => one == other,
+        (Value::List(one), Value::List(other)) => one.len() == other.len()
+            && same_items(one, other),
+        (Value::Map(one), Value::Map(other)) => one.len() == other.len()
+            && same_entries(one, other),
         _ => false,
     }
 }

@@ -1,8 +1,8 @@
 use Rattle.std.proofs.Common.{◌≡◌, string_bytes, sym, ap, ◌∙◌}
 use Rattle.upon_types.specs.Val.{entry_then, rises}
 use Rattle.upon_types.specs.View.{view, entries_view}
+use Rattle.upon_types.proofs.Bindings.{rises-entries}
 use Rattle.upon_types.proofs.Copies.{joined, joined-none, insert_entry-joined}
-use Rattle.upon_types.proofs.Same.{rises-entries}
 use Rattle.upon_types.proofs.value.+clone.Goals as goal
 
 pub clone::clone_entries-loop-key-preserved : goal.clone::clone_entries-loop-key-preserved
@@ -15,9 +15,9 @@ clone::clone_entries-loop-key-preserved t c =
     (λ i. joined (entries_view so_far) (entry_then (key i) (value i) (entries_view left)))
     ∙ ap (λ es. joined (entries_view so_far) (entries_view es)) (sym c.in-Some.ensures.steps)
     ∙ c.loop-key.invariant in
-    let up = ap rises whole ∙ rises-entries c.args.entries.now.entries c.iter-key-items.ensures.ordered in
+    let rise = ap rises whole ∙ rises-entries c.args.entries.now.entries c.iter-key-items.ensures.ordered in
     ap (λ es. joined (entries_view es) (entries_view left)) c.in_ok-insert.ensures.entries
-    ∙ insert_entry-joined so_far c.in_ok-clone.field-0 c.in_ok-try_clone.field-0 (entries_view left) up
+    ∙ insert_entry-joined so_far c.in_ok-clone.field-0 c.in_ok-try_clone.field-0 (entries_view left) rise
     ∙ whole
 
 pub clone::clone_entries-returns : goal.clone::clone_entries-returns

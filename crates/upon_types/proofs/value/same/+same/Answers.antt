@@ -5,12 +5,12 @@ use Rattle.upon_types.proofs.value.same.+same.Goals as goal
 
 pub same-returns-else-len : goal.same-returns-else-len
 same-returns-else-len t c =
-    let apart : length c.in-List-List.a.items ≢ length c.in-List-List.b.items =
-    λ even. c.if-len.false (omega (arith, even, c.len.ensures, c.len-in-List-List.ensures, c.in-List-List.a.ok.0, c.in-List-List.b.ok.0)) in
-    rw (c.in-List-List.is-0, c.in-List-List.is-1, view-List c.in-List-List.a, view-List c.in-List-List.b) (ne_eqb _ _ c.if-len.false ∙ sym (apart_items _ _ apart))
+    let apart : length c.in-List-List.one.items ≢ length c.in-List-List.other.items =
+    λ even. c.if-len.false (omega (arith, even, c.len.ensures, c.len-in-List-List.ensures, c.in-List-List.one.ok.0, c.in-List-List.other.ok.0)) in
+    rw (c.in-List-List.is-0, c.in-List-List.is-1, view-List c.in-List-List.one, view-List c.in-List-List.other) (ne_eqb _ _ c.if-len.false ∙ sym (apart_items _ _ apart))
 
 pub same-returns-else-len-2 : goal.same-returns-else-len-2
 same-returns-else-len-2 t c =
-    let apart : length c.in-Map-Map.a.entries ≢ length c.in-Map-Map.b.entries =
+    let apart : length c.in-Map-Map.one.entries ≢ length c.in-Map-Map.other.entries =
     λ even. c.if-len-2.false (omega (arith, even, c.len-in-Map-Map.ensures.len, c.len-in-Map-Map-2.ensures.len)) in
-    rw (c.in-Map-Map.is-0, c.in-Map-Map.is-1, view-Map c.in-Map-Map.a, view-Map c.in-Map-Map.b) (ne_eqb _ _ c.if-len-2.false ∙ sym (apart_entries _ _ apart))
+    rw (c.in-Map-Map.is-0, c.in-Map-Map.is-1, view-Map c.in-Map-Map.one, view-Map c.in-Map-Map.other) (ne_eqb _ _ c.if-len-2.false ∙ sym (apart_entries _ _ apart))

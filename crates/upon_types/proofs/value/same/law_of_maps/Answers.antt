@@ -1,4 +1,4 @@
-use Rattle.upon_types.proofs.Same.{one_map}
+use Rattle.upon_types.proofs.Bindings.{one_map}
 use Rattle.upon_types.proofs.value.same.law_of_maps.Goals as goal
 
 pub returns : goal.returns
