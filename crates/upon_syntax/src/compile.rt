@@ -1,3 +1,2 @@
 // The steps from a template's text to its tree.
-pub mod parse;
 pub mod search;
