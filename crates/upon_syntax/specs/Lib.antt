@@ -1,6 +1,12 @@
 pub mod Search
-pub mod Bounds
 pub mod Entry
 pub mod Searcher
 pub mod Inside
+pub mod Class
 pub mod Grammar
+pub mod Parsed
+pub mod Bounds
+pub mod OneDelimiter
+pub mod OneRun
+pub mod OneTag
+pub mod OneTree

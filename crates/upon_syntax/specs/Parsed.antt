@@ -1,0 +1,20 @@
+-- What a parser reads, and the tree and the fault that it answers.
+use Rattle.std.specs.Prelude.{ℕ, List, [], ◌∷◌, Some, codes, string_bytes}
+use Rattle.upon_types.specs.Fault.{Fault, syntax, made}
+use Rattle.upon_types.specs.declared.types.ast.Stmt.{Stmt}
+use Rattle.upon_types.specs.declared.types.ast.Stmt.TheVariants.{Raw, InlineExpr}
+use Rattle.upon_types.specs.declared.types.ast.Template.{Template}
+use Rattle.upon_types.specs.Tree.{Statement, raw, inline_expr, Statements, no_statements, statement_then}
+use Rattle.upon_syntax.specs.Search.{Pair}
+use Rattle.upon_syntax.specs.Searcher.{pairs_of}
+use Rattle.upon_syntax.specs.declared.compile.parse.Parser.{Parser}
+
+abbrev pub source_of : Parser → List ℕ
+source_of parser = parser.source.now
+
+abbrev pub syntax_of : Parser → List Pair
+syntax_of parser = pairs_of parser.searcher.now
+
+-- the fault of a text that has no tree
+abbrev pub unsupported : Fault
+unsupported = made syntax (Some (codes "unsupported template")) (Some (record { m = 0; n = 0 }))
