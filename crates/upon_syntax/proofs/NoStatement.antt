@@ -1,5 +1,5 @@
 -- Where a begin of expression stands, a statement is a tag.
-use Rattle.std.proofs.Common.{◌≡◌, ℕ, ◌<◌, List, arith, subst}
+use Rattle.std.proofs.Common.{ℕ, List, arith, subst}
 use Rattle.upon_types.specs.declared.types.Span.{Span}
 use Rattle.upon_types.specs.declared.types.Delimiter.TheVariants.{BeginExpr}
 use Rattle.upon_types.specs.Place.{part}

@@ -1,9 +1,9 @@
 -- Where a tag fails to stand, by what a reader of tags meets.
-use Rattle.std.proofs.Common.{◌≡◌, ℕ, ◌⊎◌, inl, inr, true, false, List, sym, ap, ◌∙◌, subst}
+use Rattle.std.proofs.Common.{◌≡◌, ℕ, inl, inr, true, List, sym, ap, ◌∙◌, subst}
 use Rattle.upon_types.specs.declared.types.Span.{Span}
 use Rattle.upon_types.specs.declared.types.Delimiter.TheVariants.{BeginExpr, EndExpr}
 use Rattle.upon_types.specs.Place.{part}
-use Rattle.upon_syntax.specs.Search.{Pair, NoneAt, Stands}
+use Rattle.upon_syntax.specs.Search.{Pair, Stands}
 use Rattle.upon_syntax.specs.Inside.{IsSpace, IsGap, IsName, is_keyword}
 use Rattle.upon_syntax.specs.Grammar.{IsTag}
 use Rattle.upon_syntax.specs.OneDelimiter.{one_stands, not_bare}

@@ -1,5 +1,5 @@
 -- Statements that were read one behind the other: one more of them, and where no more can be read.
-use Rattle.std.proofs.Common.{◌≡◌, ℕ, ◌<◌, List, [], ◌∷◌, ◌++◌, length, arith, refl, sym, subst}
+use Rattle.std.proofs.Common.{ℕ, ◌<◌, List, [], ◌∷◌, ◌++◌, length, arith, refl, sym, subst}
 use Rattle.upon_types.specs.declared.types.ast.Stmt.{Stmt}
 use Rattle.upon_types.specs.Tree.{Statement, Statements, no_statements, statement_then}
 use Rattle.upon_types.specs.Ast.{statement_of, statements_of}
@@ -25,6 +25,6 @@ module _ (pairs : List Pair) (s : List ℕ) where
   pub no_tree : (n : ℕ) (ts us : Statements) → HasTexts pairs → Reads pairs s 0 ts n → n < length s → ((t : Statement) (to : ℕ) → IsStatement pairs s t (record { m = n; n = to }) → ⊥) → Reads pairs s 0 us (length s) → ⊥
   no_tree n ts us texts h l none k = let rest = goes_on 0 n ts us texts h k in stuck rest.0 rest.1
     where
-    stuck : (rest : Statements) → Reads pairs s n rest (length s) → ⊥
-    stuck no_statements r = omega (arith, r)
-    stuck (statement_then t ts) r = none t r.0 r.1
+      stuck : (rest : Statements) → Reads pairs s n rest (length s) → ⊥
+      stuck no_statements r = omega (arith, r)
+      stuck (statement_then t ts) r = none t r.0 r.1

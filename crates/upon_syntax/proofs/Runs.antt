@@ -1,5 +1,5 @@
 -- A run of characters that grows at its end.
-use Rattle.std.proofs.Common.{◌≡◌, ℕ, ◌+◌, Bool, true, false, List, [], ◌∷◌, ◌++◌, ◌⊎◌, inl, inr, length, drop, encode_utf8, encode_utf8_all, add-zero, add_assoc, arith, refl, sym, ap, ◌∙◌, subst, append_assoc, length-append}
+use Rattle.std.proofs.Common.{◌≡◌, ℕ, ◌+◌, Bool, true, false, List, [], ◌∷◌, ◌++◌, ◌⊎◌, inl, inr, length, drop, encode_utf8, encode_utf8_all, add-zero, arith, refl, sym, ap, ◌∙◌, subst, append_assoc, length-append}
 use Rattle.std.proofs.lemmas.List.{append-nil}
 use Rattle.std.proofs.lemmas.Str.{encodes-append}
 use Rattle.upon_syntax.specs.Search.{Occurs}
@@ -51,16 +51,16 @@ module _ (test : ℕ → Bool) (s : List ℕ) (m : ℕ) where
   pub run_or_none : (n : ℕ) → Passes test s m n → ((c : ℕ) → Occurs s n (encode_utf8 c) → test c ≡ false) → (n ≡ m) ⊎ IsRun test s m n
   run_or_none n h longest = go n h.characters h.each h.stand h.to longest
     where
-    go : (n : ℕ) (cs : List ℕ) → EachPasses test cs → drop m s ≡ encode_utf8_all cs ++ drop n s → n ≡ m + length (encode_utf8_all cs) → ((c : ℕ) → Occurs s n (encode_utf8 c) → test c ≡ false) → (n ≡ m) ⊎ IsRun test s m n
-    go n [] each stand to longest = inl (to ∙ add-zero m)
-    go n (c ∷ cs) each stand to longest = inr (record {
-      first = c;
-      others = cs;
-      each = each;
-      stand = Occurs-from_drop s m (encode_utf8_all (c ∷ cs)) (drop n s) stand;
-      to = to;
-      longest = longest;
-    })
+      go : (n : ℕ) (cs : List ℕ) → EachPasses test cs → drop m s ≡ encode_utf8_all cs ++ drop n s → n ≡ m + length (encode_utf8_all cs) → ((c : ℕ) → Occurs s n (encode_utf8 c) → test c ≡ false) → (n ≡ m) ⊎ IsRun test s m n
+      go n [] each stand to longest = inl (to ∙ add-zero m)
+      go n (c ∷ cs) each stand to longest = inr (record {
+        first = c;
+        others = cs;
+        each = each;
+        stand = Occurs-from_drop s m (encode_utf8_all (c ∷ cs)) (drop n s) stand;
+        to = to;
+        longest = longest;
+      })
 
   -- what was read is the whole run
   pub whole_run : (n : ℕ) → (n ≡ m) ⊎ IsRun test s m n → ((c : ℕ) → Occurs s n (encode_utf8 c) → test c ≡ false) → (k : ℕ) → IsRun test s m k → k ≡ n

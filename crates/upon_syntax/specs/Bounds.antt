@@ -33,7 +33,7 @@ module _ (s : List ℕ) (p : ℕ) (d : List ℕ) (some : 0 < length d) (o : Occu
   ends_between s_text d_text =
       let within = occurs_within in
       IsCharBoundary-from_rest s p (length d) (omega arith)
-        (IsCharBoundary-from_take (drop p s) (length d) (IsUtf8-drop s p s_text (begins_between d_text)) (omega (arith, length-drop {A = ℕ})) (subst IsUtf8 o d_text))
+      (IsCharBoundary-from_take (drop p s) (length d) (IsUtf8-drop s p s_text (begins_between d_text)) (omega (arith, length-drop {A = ℕ})) (subst IsUtf8 o d_text))
 
   pub occurs_lies_in : IsUtf8 s → IsUtf8 d → LiesIn s (record { m = p; n = p + length d })
   occurs_lies_in s_text d_text = record {

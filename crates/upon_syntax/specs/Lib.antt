@@ -10,3 +10,6 @@ pub mod OneDelimiter
 pub mod OneRun
 pub mod OneTag
 pub mod OneTree
+pub mod EachLiesIn
+pub mod PlacesLieIn
+pub mod DefaultTexts

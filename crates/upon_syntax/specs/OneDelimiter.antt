@@ -1,5 +1,5 @@
 -- At a place stands one delimiter at most that is the best.
-use Rattle.std.proofs.Common.{◌≡◌, ℕ, ◌+◌, ◌<◌, ◌≤◌, ◌⊎◌, inl, inr, List, length, arith, sym, ap, ◌∙◌}
+use Rattle.std.proofs.Common.{◌≡◌, ℕ, ◌+◌, ◌<◌, ◌≤◌, inl, inr, List, length, arith, sym, ap, ◌∙◌}
 use Rattle.std.proofs.lemmas.Bool.{cases_order}
 use Rattle.upon_types.specs.declared.types.Delimiter.{Delimiter}
 use Rattle.upon_syntax.specs.Search.{Pair, text_at, kind_at, HasTexts, NoneAt, IsBest, Stands}
@@ -7,10 +7,12 @@ use Rattle.upon_syntax.specs.Bounds.{occurs_within}
 
 one_best : (pairs : List Pair) (s : List ℕ) (p i j : ℕ) → IsBest pairs s p i → IsBest pairs s p j → i ≡ j
 one_best pairs s p i j h k = elim (cases_order i j) [
-    inl e ↦ e
+  | inl e ↦ e
   | inr differ ↦ elim differ [
-      inl l ↦ absurd (omega (arith, k.earliest i l h.occurs, h.longest j k.in_range k.occurs))
-    | inr l ↦ absurd (omega (arith, h.earliest j l k.occurs, k.longest i h.in_range h.occurs)) ] ]
+    | inl l ↦ absurd (omega (arith, k.earliest i l h.occurs, h.longest j k.in_range k.occurs))
+    | inr l ↦ absurd (omega (arith, h.earliest j l k.occurs, k.longest i h.in_range h.occurs))
+  ]
+]
 
 pub one_stands : (pairs : List Pair) (s : List ℕ) (kind other : Delimiter) (m n k : ℕ) → Stands pairs s kind m n → Stands pairs s other m k → (kind ≡ other) × (n ≡ k)
 one_stands pairs s kind other m n k a b =

@@ -1,5 +1,5 @@
 -- A text has one character at a place, and a run of characters has one end.
-use Rattle.std.proofs.Common.{◌≡◌, ℕ, ◌+◌, ◌<◌, ◌≤◌, Bool, true, false, List, [], ◌∷◌, ◌++◌, length, drop, encode_utf8, encode_utf8_all, arith, refl, sym, ap, ◌∙◌, append_assoc, length-append}
+use Rattle.std.proofs.Common.{◌≡◌, ℕ, ◌+◌, ◌<◌, ◌≤◌, Bool, false, List, [], ◌∷◌, ◌++◌, length, drop, encode_utf8, encode_utf8_all, arith, refl, sym, ap, ◌∙◌, append_assoc, length-append}
 use Rattle.std.proofs.lemmas.Str.{encode_same, length-encode, len_utf8_bounds}
 use Rattle.upon_syntax.specs.Search.{Occurs}
 use Rattle.upon_syntax.specs.Inside.{EachPasses, IsRun}
@@ -15,7 +15,7 @@ char_has_bytes c = omega (arith, length-encode c, (len_utf8_bounds c).0)
 pub run_first : (test : ℕ → Bool) (s : List ℕ) (m n : ℕ) (run : IsRun test s m n) → Occurs s m (encode_utf8 run.first)
 run_first test s m n run = Occurs-from_drop s m (encode_utf8 run.first) (encode_utf8_all run.others ++ drop (m + length (encode_utf8_all (run.first ∷ run.others))) s)
     (drop-Occurs s m (encode_utf8_all (run.first ∷ run.others)) run.stand
-      ∙ append_assoc (encode_utf8 run.first) (encode_utf8_all run.others) (drop (m + length (encode_utf8_all (run.first ∷ run.others))) s))
+    ∙ append_assoc (encode_utf8 run.first) (encode_utf8_all run.others) (drop (m + length (encode_utf8_all (run.first ∷ run.others))) s))
 
 pub run_ends : (test : ℕ → Bool) (s : List ℕ) (m n : ℕ) → IsRun test s m n → (m < n) × (n ≤ length s)
 run_ends test s m n run =

@@ -1,14 +1,14 @@
 -- A place begins one tag at most: its whitespace, its name and its end are determined.
-use Rattle.std.proofs.Common.{◌≡◌, ℕ, ◌<◌, ◌≤◌, ◌⊎◌, inl, inr, true, false, List, length, arith, sym, ap, ◌∙◌, subst}
+use Rattle.std.proofs.Common.{◌≡◌, ℕ, ◌<◌, ◌≤◌, inl, inr, true, false, List, length, arith, sym, ap, ◌∙◌, subst}
 use Rattle.std.proofs.lemmas.Bool.Decides.{nat_tests}
-use Rattle.unicode_ident.specs.Ident.{is_xid_start, is_xid_continue}
+use Rattle.unicode_ident.specs.Ident.{is_xid_continue}
 use Rattle.unicode_ident.proofs.IdentLemmas.{is_xid_start-ascii}
 use Rattle.upon_types.specs.declared.types.Span.{Span}
 use Rattle.upon_types.specs.declared.types.Delimiter.{Delimiter}
 use Rattle.upon_types.specs.declared.types.Delimiter.TheVariants.{BeginExpr, EndExpr}
 use Rattle.upon_types.specs.Place.{part}
-use Rattle.upon_syntax.specs.Search.{Pair, Occurs, HasTexts, NoneAt, Stands}
-use Rattle.upon_syntax.specs.Inside.{is_tag_space, begins_name, IsRun, IsSpace, IsGap, IsName}
+use Rattle.upon_syntax.specs.Search.{Pair, HasTexts, Stands}
+use Rattle.upon_syntax.specs.Inside.{is_tag_space, begins_name, IsSpace, IsGap, IsName}
 use Rattle.upon_syntax.specs.Grammar.{IsTag}
 use Rattle.upon_syntax.specs.OneDelimiter.{one_stands, not_bare, stands_ends}
 use Rattle.upon_syntax.specs.OneRun.{one_char, one_run, run_first, run_ends}

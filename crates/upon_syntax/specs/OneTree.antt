@@ -1,5 +1,5 @@
 -- A text has one tree at most.
-use Rattle.std.proofs.Common.{◌≡◌, ℕ, ◌<◌, ◌≤◌, ◌⊎◌, inl, inr, List, length, arith, refl, sym, ap, ◌∙◌, subst}
+use Rattle.std.proofs.Common.{◌≡◌, ℕ, ◌<◌, ◌≤◌, inl, inr, List, length, arith, refl, sym, ap, ◌∙◌, subst}
 use Rattle.std.proofs.lemmas.Bool.{cases_order}
 use Rattle.upon_types.specs.declared.types.Span.{Span}
 use Rattle.upon_types.specs.declared.types.Delimiter.TheVariants.{BeginExpr}
@@ -12,13 +12,15 @@ use Rattle.upon_syntax.specs.OneTag.{one_tag, tag_ends}
 module _ (pairs : List Pair) (s : List ℕ) where
   raw_is_longest : (m n k : ℕ) → IsRaw pairs s m n → IsRaw pairs s m k → n < k → ⊥
   raw_is_longest m n k a b l = elim a.ends [
-      inl e ↦ omega (arith, e, b.within)
-    | inr d ↦ not_bare pairs s d.0 n d.1 d.2 (b.bare n (omega (arith, a.some)) l) ]
+    | inl e ↦ omega (arith, e, b.within)
+    | inr d ↦ not_bare pairs s d.0 n d.1 d.2 (b.bare n (omega (arith, a.some)) l)
+  ]
 
   one_raw : (m n k : ℕ) → IsRaw pairs s m n → IsRaw pairs s m k → n ≡ k
   one_raw m n k a b = elim (cases_order n k) [
-      inl e ↦ e
-    | inr differ ↦ elim differ [ inl l ↦ absurd (raw_is_longest m n k a b l) | inr l ↦ absurd (raw_is_longest m k n b a l) ] ]
+    | inl e ↦ e
+    | inr differ ↦ elim differ [ inl l ↦ absurd (raw_is_longest m n k a b l) | inr l ↦ absurd (raw_is_longest m k n b a l) ]
+  ]
 
   raw_is_no_tag : (name : List ℕ) (at : Span) (m n k : ℕ) → IsRaw pairs s m n → IsTag pairs s name at m k → ⊥
   raw_is_no_tag name at m n k a b = not_bare pairs s BeginExpr m b.inside b.begins (a.bare m (omega arith) a.some)

@@ -39,7 +39,18 @@ pub fn is_keyword(word: &str) -> bool
 {
     matches!(
         word,
-        "if" | "not" | "else" | "endif" | "for" | "in" | "endfor" | "with" | "as" | "endwith" | "include" | "true" | "false"
+        "if" | "not"
+            | "else"
+            | "endif"
+            | "for"
+            | "in"
+            | "endfor"
+            | "with"
+            | "as"
+            | "endwith"
+            | "include"
+            | "true"
+            | "false"
     )
 }
 

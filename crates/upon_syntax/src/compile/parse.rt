@@ -144,7 +144,9 @@ impl<'a> Parser<'a> {
         if is_keyword(slice(self.source, place)) {
             return None;
         }
-        let (kind, last) = self.searcher.starts_with(self.source, self.skip_space(end))?;
+        let (kind, last) = self
+            .searcher
+            .starts_with(self.source, self.skip_space(end))?;
         if kind != Delimiter::EndExpr {
             return None;
         }

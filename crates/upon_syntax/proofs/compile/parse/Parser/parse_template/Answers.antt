@@ -1,4 +1,4 @@
-use Rattle.std.proofs.Common.{◌≡◌, ℕ, List, ◌∷◌, ◌++◌, [], length, arith, refl, sym, subst}
+use Rattle.std.proofs.Common.{◌≡◌, ℕ, List, length, arith, refl, sym, subst}
 use Rattle.std.proofs.lemmas.Str.{IsUtf8-had, IsCharBoundary-start}
 use Rattle.upon_types.specs.declared.types.ast.Stmt.{Stmt}
 use Rattle.upon_types.specs.Ast.{statements_of}
