@@ -4,6 +4,7 @@ pub mod Searcher
 pub mod Inside
 pub mod Class
 pub mod Grammar
+pub mod Steps
 pub mod Parsed
 pub mod Bounds
 pub mod OneDelimiter

@@ -7,16 +7,17 @@ ghost use Rattle.upon_syntax.specs.Search.{Occurs};
 ghost use Rattle.upon_syntax.specs.Inside.{IsRun, begins_name, is_keyword};
 ghost use Rattle.upon_syntax.specs.Class.{class_test};
 
-// The characters of which runs are made.
+/// The characters of which runs are made.
 #[derive(Clone, Copy)]
 pub enum CharClass {
-    // the whitespace inside tags
+    /// The whitespace inside tags.
     Space,
-    // what continues a name
+    /// What continues a name.
     Name,
 }
 
 impl CharClass {
+    /// Whether a character is of the class.
     pub fn has(self, c: char) -> bool
         ensures { result ≡ class_test self c }
     {
@@ -27,13 +28,14 @@ impl CharClass {
     }
 }
 
+/// Whether a character may begin a name.
 pub fn begins_name(c: char) -> bool
     ensures { result ≡ begins_name c }
 {
     c == '_' || unicode_ident::is_xid_start(c)
 }
 
-// The words that are never a name.
+/// Whether a word is never a name.
 pub fn is_keyword(word: &str) -> bool
     ensures { result ≡ is_keyword word.now }
 {
@@ -54,7 +56,7 @@ pub fn is_keyword(word: &str) -> bool
     )
 }
 
-// The character at a place of a text; none stands at its end.
+/// The character at a place of a text; none stands at its end.
 pub fn char_at(source: &str, at: usize) -> Option<char>
     requires { IsCharBoundary source.now at }
     ensures stands { MatchOption result (at ≡ length source.now) (λ c. Occurs source.now at (encode_utf8 c)) }
@@ -63,7 +65,7 @@ pub fn char_at(source: &str, at: usize) -> Option<char>
     source[at..].chars().next()
 }
 
-// Where the run of a class's characters at a place ends; the place itself, where none stands.
+/// Where the run of a class's characters at a place ends; the place itself, where none stands.
 pub fn run_end(class: CharClass, source: &str, at: usize) -> usize
     requires { IsCharBoundary source.now at }
     ensures run { (result ≡ at) ⊎ IsRun (class_test class) source.now at result }

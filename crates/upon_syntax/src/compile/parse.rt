@@ -1,15 +1,16 @@
 // From a template's text to its tree.
-ghost use Rattle.std.specs.Prelude.{◌≡◌, ℕ, ◌<◌, length, IfOk, IfErr, IfSome, MatchOption};
+ghost use Rattle.std.specs.Prelude.{◌≡◌, ℕ, ◌<◌, length, IfOk, IfErr, IfSome};
 ghost use Rattle.std.specs.Str.{IsUtf8, IsCharBoundary};
-ghost use Rattle.upon_types.specs.Place.{LiesIn, part};
-ghost use Rattle.upon_types.specs.Tree.{Statement, Statements};
-ghost use Rattle.upon_types.specs.Ast.{tree_of, statement_of};
+ghost use Rattle.upon_types.specs.Place.{LiesIn};
+ghost use Rattle.upon_types.specs.Tree.{Statements};
+ghost use Rattle.upon_types.specs.Ast.{tree_of};
 ghost use Rattle.upon_types.specs.Fault.{syntax, out_of_memory, OrMemory};
 ghost use Rattle.upon_types.specs.Error.{fault_of};
 ghost use Rattle.upon_syntax.specs.Searcher.{pairs_of};
 ghost use Rattle.upon_syntax.specs.Search.{NoneAt, Stands};
-ghost use Rattle.upon_syntax.specs.Inside.{IsSpace, IsGap, IsName};
-ghost use Rattle.upon_syntax.specs.Grammar.{HasTree, IsRaw, IsTag, IsStatement};
+ghost use Rattle.upon_syntax.specs.Inside.{IsSpace, IsGap};
+ghost use Rattle.upon_syntax.specs.Grammar.{HasTree, IsRaw};
+ghost use Rattle.upon_syntax.specs.Steps.{FindsStatement, FindsTag, FindsName};
 
 use crate::compile::chars::{CharClass, begins_name, char_at, is_keyword, run_end};
 use crate::compile::search::Searcher;
@@ -46,7 +47,8 @@ impl<'a> Parser<'a> {
     pub fn parse_template(self) -> Result<Template>
         ensures has_tree { IfOk result (λ t. HasTree (syntax_of self.entry) (source_of self.entry) (tree_of t)) }
         ensures only_tree { IfOk result
-            (λ t. (tree : Statements) → HasTree (syntax_of self.entry) (source_of self.entry) tree → tree ≡ tree_of t) }
+            (λ t. (tree : Statements)
+            → HasTree (syntax_of self.entry) (source_of self.entry) tree → tree ≡ tree_of t) }
         ensures fault { IfErr result (λ e. OrMemory unsupported (fault_of e)) }
         ensures no_tree { IfErr result
             (λ e. (fault_of e).kind ≡ syntax
@@ -72,11 +74,9 @@ impl<'a> Parser<'a> {
     fn parse_stmt(&self, at: usize) -> Result<Option<(Stmt, usize)>>
         requires inside { at < length (source_of self.now) }
         requires boundary { IsCharBoundary (source_of self.now) at }
-        ensures statement { IfOk result (λ found. MatchOption
-            found
-            ((t : Statement) (to : ℕ) → IsStatement (syntax_of self.now) (source_of self.now) t (record { m = at; n = to }) → ⊥)
-            (λ read. IsStatement (syntax_of self.now) (source_of self.now) (statement_of read.0) (record { m = at; n = read.1 }))) }
-        ensures place { IfOk result (λ found. IfSome found (λ read. LiesIn (source_of self.now) (record { m = at; n = read.1 }))) }
+        ensures statement { IfOk result (FindsStatement (syntax_of self.now) (source_of self.now) at) }
+        ensures place { IfOk result (λ found. IfSome found
+            (λ read. LiesIn (source_of self.now) (record { m = at; n = read.1 }))) }
         ensures memory { IfErr result (λ e. fault_of e ≡ out_of_memory) }
     {
         match self.searcher.starts_with(self.source, at) {
@@ -105,13 +105,16 @@ impl<'a> Parser<'a> {
 
     // The tag behind a begin of expression, and where it ends.
     fn parse_tag(&self, begin: Span) -> Result<Option<(Stmt, usize)>>
-        requires begins { Stands (syntax_of self.now) (source_of self.now) (Delimiter.BeginExpr) begin.m begin.n }
+        requires begins { Stands
+            (syntax_of self.now)
+            (source_of self.now)
+            (Delimiter.BeginExpr)
+            begin.m
+            begin.n }
         requires place { LiesIn (source_of self.now) begin }
-        ensures statement { IfOk result (λ found. MatchOption
-            found
-            ((t : Statement) (to : ℕ) → IsStatement (syntax_of self.now) (source_of self.now) t (record { m = begin.m; n = to }) → ⊥)
-            (λ read. IsStatement (syntax_of self.now) (source_of self.now) (statement_of read.0) (record { m = begin.m; n = read.1 }))) }
-        ensures place { IfOk result (λ found. IfSome found (λ read. LiesIn (source_of self.now) (record { m = begin.m; n = read.1 }))) }
+        ensures statement { IfOk result (FindsStatement (syntax_of self.now) (source_of self.now) begin.m) }
+        ensures place { IfOk result (λ found. IfSome found
+            (λ read. LiesIn (source_of self.now) (record { m = begin.m; n = read.1 }))) }
         ensures memory { IfErr result (λ e. fault_of e ≡ out_of_memory) }
     {
         match self.tag_at(begin) {
@@ -129,12 +132,14 @@ impl<'a> Parser<'a> {
 
     // Where the name in the tag stands, and where the tag ends.
     fn tag_at(&self, begin: Span) -> Option<(Span, usize)>
-        requires begins { Stands (syntax_of self.now) (source_of self.now) (Delimiter.BeginExpr) begin.m begin.n }
+        requires begins { Stands
+            (syntax_of self.now)
+            (source_of self.now)
+            (Delimiter.BeginExpr)
+            begin.m
+            begin.n }
         requires place { LiesIn (source_of self.now) begin }
-        ensures tag { MatchOption
-            result
-            ((at : Span) (to : ℕ) → IsTag (syntax_of self.now) (source_of self.now) (part (source_of self.now) at) at begin.m to → ⊥)
-            (λ read. IsTag (syntax_of self.now) (source_of self.now) (part (source_of self.now) read.0) read.0 begin.m read.1) }
+        ensures tag { FindsTag (syntax_of self.now) (source_of self.now) begin.m result }
         ensures name_place { IfSome result (λ read. LiesIn (source_of self.now) read.0) }
         ensures place { IfSome result (λ read. LiesIn (source_of self.now) (record { m = begin.m; n = read.1 })) }
     {
@@ -157,7 +162,8 @@ impl<'a> Parser<'a> {
     fn skip_space(&self, at: usize) -> usize
         requires { IsCharBoundary (source_of self.now) at }
         ensures gap { IsGap (syntax_of self.now) (source_of self.now) at result }
-        ensures longest { (n : ℕ) → IsSpace (syntax_of self.now) (source_of self.now) at n → n ≡ result }
+        ensures longest { (n : ℕ)
+            → IsSpace (syntax_of self.now) (source_of self.now) at n → n ≡ result }
         ensures place { LiesIn (source_of self.now) (record { m = at; n = result }) }
     {
         match self.searcher.starts_with(self.source, at) {
@@ -169,13 +175,10 @@ impl<'a> Parser<'a> {
     // Where the name at a place ends.
     fn name_end(&self, at: usize) -> Option<usize>
         requires { IsCharBoundary (source_of self.now) at }
-        ensures name { MatchOption
-            result
-            ((n : ℕ) → IsName (syntax_of self.now) (source_of self.now) at n → ⊥)
-            (λ n. IsName (syntax_of self.now) (source_of self.now) at n) }
+        ensures name { FindsName (syntax_of self.now) (source_of self.now) at result }
         ensures place { IfSome result (λ n. LiesIn (source_of self.now) (record { m = at; n = n })) }
     {
-        if let Some(_) = self.searcher.starts_with(self.source, at) {
+        if self.searcher.starts_with(self.source, at).is_some() {
             return None;
         }
         let first = char_at(self.source, at)?;
