@@ -2,5 +2,15 @@ pub mod Search
 pub mod Entry
 pub mod Searcher
 pub mod Inside
+pub mod Class
 pub mod Grammar
+pub mod Steps
 pub mod Parsed
+pub mod Bounds
+pub mod OneDelimiter
+pub mod OneRun
+pub mod OneTag
+pub mod OneTree
+pub mod EachLiesIn
+pub mod PlacesLieIn
+pub mod DefaultTexts

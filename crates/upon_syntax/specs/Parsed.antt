@@ -1,10 +1,6 @@
 -- What a parser reads, and the tree and the fault that it answers.
-use Rattle.std.specs.Prelude.{ℕ, List, [], ◌∷◌, Some, codes, string_bytes}
+use Rattle.std.specs.Prelude.{ℕ, List, Some, codes}
 use Rattle.upon_types.specs.Fault.{Fault, syntax, made}
-use Rattle.upon_types.specs.declared.types.ast.Stmt.{Stmt}
-use Rattle.upon_types.specs.declared.types.ast.Stmt.TheVariants.{Raw, InlineExpr}
-use Rattle.upon_types.specs.declared.types.ast.Template.{Template}
-use Rattle.upon_types.specs.Tree.{Statement, raw, inline_expr, Statements, no_statements, statement_then}
 use Rattle.upon_syntax.specs.Search.{Pair}
 use Rattle.upon_syntax.specs.Searcher.{pairs_of}
 use Rattle.upon_syntax.specs.declared.compile.parse.Parser.{Parser}

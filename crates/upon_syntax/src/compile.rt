@@ -1,3 +1,4 @@
 // The steps from a template's text to its tree.
+mod chars;
 pub mod parse;
 pub mod search;

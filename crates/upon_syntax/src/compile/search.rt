@@ -1,5 +1,5 @@
 // Where delimiters stand in a text, by comparison with each delimiter of a list.
-ghost use Rattle.std.specs.Prelude.{◌≡◌, ℕ, ◌<◌, ◌≤◌, ◌↔◌, length, map, IsTrue, MatchOption, IfSome};
+ghost use Rattle.std.specs.Prelude.{◌≡◌, ℕ, ◌+◌, ◌<◌, ◌≤◌, ◌↔◌, length, map, IsTrue, MatchOption, IfSome};
 ghost use Rattle.std.specs.Str.{IsCharBoundary};
 ghost use Rattle.upon_types.specs.Place.{LiesIn};
 ghost use Rattle.upon_syntax.specs.Search.{Occurs, HasTexts, NoneAt, NoneFrom, IsBest, Stands, IsFirst};
@@ -144,11 +144,21 @@ impl Searcher {
         match longest {
             Some(best) => {
                 let entry = self.entries[best];
-                Some((entry.kind, at + entry.text.len()))
+                Some((entry.kind, end_of(source, at, entry.text)))
             }
             None => None,
         }
     }
+}
+
+// Where a text ends that stands at a place.
+fn end_of(source: &str, at: usize, text: &str) -> usize
+    requires some { 0 < length text.now }
+    requires stands { Occurs source.now at text.now }
+    ensures end { result ≡ at + length text.now }
+    ensures place { LiesIn source.now (record { m = at; n = result }) }
+{
+    at + text.len()
 }
 
 // Whether the text `wanted` stands at a place.

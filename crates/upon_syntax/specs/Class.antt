@@ -1,0 +1,10 @@
+-- Which characters a class has.
+use Rattle.std.specs.Prelude.{ℕ, Bool}
+use Rattle.unicode_ident.specs.Ident.{is_xid_continue}
+use Rattle.upon_syntax.specs.Inside.{is_tag_space}
+use Rattle.upon_syntax.specs.declared.compile.chars.CharClass.{CharClass}
+use Rattle.upon_syntax.specs.declared.compile.chars.CharClass.TheVariants.{Space, Name}
+
+abbrev pub class_test : CharClass → ℕ → Bool
+class_test Space = is_tag_space
+class_test Name = is_xid_continue
