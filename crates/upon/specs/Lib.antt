@@ -1,0 +1,4 @@
+pub mod Meaning
+pub mod Rendered
+pub mod Engine
+pub mod Program

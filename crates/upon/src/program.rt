@@ -1,0 +1,175 @@
+// The work of the program `upon-render`: renders a file on the texts of its arguments.
+ghost use Rattle.std.specs.Prelude.{◌≡◌, ◌≤◌, false, IsNone, IsErrAnd};
+ghost use Rattle.std.specs.List.{list_all};
+ghost use Rattle.upon.specs.Program.{is_call, has_equals, status_of};
+
+use crate::{Engine, Value};
+use std::alloc::{AllocError, Global};
+use std::borrow::CowStr;
+use std::collections::BTreeMap;
+use std::io::{self, Read, Write};
+use upon_types::error::Error;
+
+/// Why a run did not show a text.
+#[derive(Drop)]
+enum Failure {
+    /// The arguments are not those of a call.
+    Usage,
+    /// The file could not be read.
+    Unreadable,
+    /// The file is not UTF-8.
+    NotText,
+    /// The template was refused, could not be rendered or not be shown.
+    Fault(Error),
+}
+
+impl From<Error> for Failure {
+    fn from(error: Error) -> Failure {
+        Failure::Fault(error)
+    }
+}
+
+impl From<AllocError> for Failure {
+    fn from(error: AllocError) -> Failure {
+        Failure::Fault(error.into())
+    }
+}
+
+/// Renders `file` on the texts of `args`, the words `FILE [KEY=TEXT]..` behind the program's name, writes the text to
+/// `out`, flushes that, and answers the program's status; a fault is told on `err`.
+///
+/// - 0: rendered.
+/// - 1: a fault of the engine, of memory or of `out`; its one line is on `err`.
+/// - 2: no FILE or a later word without `=`; or no `file`, or one that can't be read; or one that is not UTF-8.
+///
+/// The words are looked at before the file is read. Of equal keys the last stands. A failed write to `err` is ignored.
+pub fn run<R: io::Read + Drop, O: io::Write, E: io::Write>(
+    alloc: Global,
+    args: &[String],
+    file: Option<R>,
+    out: &mut O,
+    err: &mut E,
+) -> u8
+    ensures range { result ≤ 2 }
+    ensures usage { is_call args.now ≡ false → result ≡ 2 }
+    ensures no_file { IsNone file → result ≡ 2 }
+{
+    let failure = match work(alloc, args, file, out) {
+        Ok(()) => return 0,
+        Err(failure) => failure,
+    };
+    let name = match args.first() {
+        Some(name) => name.as_str(),
+        None => "",
+    };
+    tell(&failure, name, err)
+}
+
+// Tells on standard error why a run failed, and answers the status.
+fn tell<E: Write>(failure: &Failure, name: &str, err: &mut E) -> u8
+    ensures { result ≡ status_of failure.now }
+{
+    match failure {
+        Failure::Usage => {
+            let _ = writeln!(err, "usage: upon-render FILE [KEY=TEXT]..");
+            2
+        }
+        Failure::Unreadable => {
+            let _ = writeln!(err, "upon-render: cannot read {name}");
+            2
+        }
+        Failure::NotText => {
+            let _ = writeln!(err, "upon-render: {name} is not UTF-8");
+            2
+        }
+        Failure::Fault(error) => {
+            let _ = writeln!(err, "{error}");
+            1
+        }
+    }
+}
+
+// Does the work, up to the first failure.
+fn work<R: Read + Drop, O: Write>(
+    alloc: Global,
+    args: &[String],
+    file: Option<R>,
+    out: &mut O,
+) -> Result<(), Failure>
+    ensures usage { is_call args.now ≡ false → IsErrAnd result (λ failure. status_of failure ≡ 2) }
+    ensures no_file { IsNone file → IsErrAnd result (λ failure. status_of failure ≡ 2) }
+{
+    if !is_call(args) {
+        return Err(Failure::Usage);
+    }
+    let source = read_source(alloc, file)?;
+    let context = read_context(alloc, &args[1..])?;
+    let text = render(alloc, source, &context)?;
+    show(text.as_str(), out)?;
+    Ok(())
+}
+
+// The text of the template with this source, on a context.
+fn render(alloc: Global, source: String, context: &Value) -> Result<String, Error> {
+    let engine = Engine::new(alloc);
+    let template = engine.compile(CowStr::Owned(source))?;
+    template.render_from(&engine, context).to_string()
+}
+
+// Whether the words are those of a call: a file's name, and then words with a `=` each.
+fn is_call(args: &[String]) -> bool
+    ensures { result ≡ is_call args.now }
+{
+    match args.split_first() {
+        Some((_, words)) => each_has_equals(words),
+        None => false,
+    }
+}
+
+fn each_has_equals(words: &[String]) -> bool
+    ensures { result ≡ list_all has_equals words.now }
+{
+    words.iter().all(|word| has_equals(word))
+}
+
+fn has_equals(word: &String) -> bool
+    ensures { result ≡ has_equals word.now }
+{
+    word.as_bytes().contains(&b'=')
+}
+
+// The text of the file.
+fn read_source<R: Read + Drop>(alloc: Global, file: Option<R>) -> Result<String, Failure>
+    ensures { IsNone file → IsErrAnd result (λ failure. status_of failure ≡ 2) }
+{
+    let Some(mut file) = file else {
+        return Err(Failure::Unreadable);
+    };
+    let mut bytes = Vec::new(alloc);
+    match file.read_to_end(&mut bytes) {
+        Ok(_) => String::from_utf8(bytes).map_err(|_| Failure::NotText),
+        Err(e) if e.kind() == io::ErrorKind::OutOfMemory => Err(AllocError.into()),
+        Err(_) => Err(Failure::Unreadable),
+    }
+}
+
+// The map of the words `KEY=TEXT`, each split at its first `=`.
+fn read_context(alloc: Global, words: &[String]) -> Result<Value, AllocError> {
+    let mut texts = BTreeMap::new(alloc);
+    for word in words {
+        if let Some((key, text)) = word.as_str().split_once('=') {
+            texts.insert(
+                String::from_str(alloc, key)?,
+                Value::from_text(alloc, text)?,
+            )?;
+        }
+    }
+    Ok(Value::from(texts))
+}
+
+// Writes the text and flushes.
+fn show<O: Write>(text: &str, out: &mut O) -> Result<(), Error> {
+    out.write_all(text.as_bytes())?;
+    out.flush()?;
+    Ok(())
+}

@@ -1,0 +1,13 @@
+// Tests that cross the crates: worked examples, each call once with its value, and the program's statuses.
+#![tactic(auto)]
+
+#[cfg(test)]
+mod faults;
+#[cfg(test)]
+mod program;
+#[cfg(test)]
+mod rendering;
+#[cfg(test)]
+mod search;
+#[cfg(test)]
+mod values;
