@@ -3,7 +3,7 @@ use Rattle.std.proofs.Common.{◌≡◌, ℕ, List, [], sym, ap, ◌∙◌, subs
 use Rattle.std.proofs.Math.Logic.{∥∥₁_elim}
 use Rattle.std.specs.Str.{IsUtf8}
 use Rattle.upon_types.specs.Tree.{Statements, Statements-one_path}
-use Rattle.upon_syntax.specs.Grammar.{HasTree}
+use Rattle.upon_syntax.specs.FirstGrammar.{HasTree}
 use Rattle.upon_syntax.specs.Searcher.{default_pairs}
 use Rattle.upon_syntax.specs.EachLiesIn.{EachLiesIn, EachLiesIn-prop}
 use Rattle.upon_syntax.specs.DefaultTexts.{default_texts, lies_in_default}

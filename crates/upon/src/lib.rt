@@ -8,7 +8,7 @@ ghost use Rattle.upon_types.specs.Error.{fault_of};
 ghost use Rattle.upon_types.specs.Fault.{syntax, OrMemory};
 ghost use Rattle.upon_types.specs.Tree.{Statements};
 ghost use Rattle.upon_types.specs.View.{view};
-ghost use Rattle.upon_syntax.specs.Grammar.{HasTree};
+ghost use Rattle.upon_syntax.specs.FirstGrammar.{HasTree};
 ghost use Rattle.upon_syntax.specs.Parsed.{unsupported};
 ghost use Rattle.upon_syntax.specs.Searcher.{default_pairs, pairs_of};
 

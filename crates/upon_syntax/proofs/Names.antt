@@ -4,7 +4,8 @@ use Rattle.std.proofs.lemmas.Bool.Decides.{nat_tests}
 use Rattle.unicode_ident.specs.Ident.{is_xid_continue}
 use Rattle.unicode_ident.proofs.IdentLemmas.{is_xid_continue-ascii, is_xid_start-is_xid_continue}
 use Rattle.upon_syntax.specs.Search.{Pair, Occurs, NoneAt}
-use Rattle.upon_syntax.specs.Inside.{begins_name, IsRun, IsName}
+use Rattle.upon_syntax.specs.Words.{begins_name, IsRun}
+use Rattle.upon_syntax.specs.FirstGrammar.{IsName}
 use Rattle.upon_syntax.specs.OneRun.{one_char, run_first}
 use Rattle.upon_syntax.proofs.Runs.{some_run}
 

@@ -4,8 +4,9 @@ use Rattle.upon_types.specs.declared.types.Span.{Span}
 use Rattle.upon_types.specs.declared.types.Delimiter.TheVariants.{BeginExpr, EndExpr}
 use Rattle.upon_types.specs.Place.{part}
 use Rattle.upon_syntax.specs.Search.{Pair, Stands}
-use Rattle.upon_syntax.specs.Inside.{IsSpace, IsGap, IsName, is_keyword}
-use Rattle.upon_syntax.specs.Grammar.{IsTag}
+use Rattle.upon_syntax.specs.Words.{is_keyword}
+use Rattle.upon_syntax.specs.FirstGrammar.{IsSpace, IsGap, IsName}
+use Rattle.upon_syntax.specs.FirstGrammar.{IsTag}
 use Rattle.upon_syntax.specs.OneDelimiter.{one_stands, not_bare}
 use Rattle.upon_syntax.specs.OneTag.{space_is_no_name, one_name}
 

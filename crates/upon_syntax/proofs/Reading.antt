@@ -4,7 +4,7 @@ use Rattle.upon_types.specs.declared.types.ast.Stmt.{Stmt}
 use Rattle.upon_types.specs.Tree.{Statement, Statements, no_statements, statement_then}
 use Rattle.upon_types.specs.Ast.{statement_of, statements_of}
 use Rattle.upon_syntax.specs.Search.{Pair, HasTexts}
-use Rattle.upon_syntax.specs.Grammar.{IsStatement, Reads}
+use Rattle.upon_syntax.specs.FirstGrammar.{IsStatement, Reads}
 use Rattle.upon_syntax.specs.OneTree.{one_statement, ends_there}
 
 module _ (pairs : List Pair) (s : List ℕ) where

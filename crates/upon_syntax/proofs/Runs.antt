@@ -3,7 +3,7 @@ use Rattle.std.proofs.Common.{◌≡◌, ℕ, ◌+◌, Bool, true, false, List, 
 use Rattle.std.proofs.lemmas.List.{append-nil}
 use Rattle.std.proofs.lemmas.Str.{encodes-append}
 use Rattle.upon_syntax.specs.Search.{Occurs}
-use Rattle.upon_syntax.specs.Inside.{EachPasses, IsRun}
+use Rattle.upon_syntax.specs.Words.{EachPasses, IsRun}
 use Rattle.upon_syntax.specs.Bounds.{drop-Occurs, Occurs-from_drop, occurs_within}
 use Rattle.upon_syntax.specs.OneRun.{one_char, one_run, run_first, char_has_bytes}
 

@@ -1,7 +1,7 @@
 -- Which characters a class has.
 use Rattle.std.specs.Prelude.{ℕ, Bool}
 use Rattle.unicode_ident.specs.Ident.{is_xid_continue}
-use Rattle.upon_syntax.specs.Inside.{is_tag_space}
+use Rattle.upon_syntax.specs.Words.{is_tag_space}
 use Rattle.upon_syntax.specs.declared.compile.chars.CharClass.{CharClass}
 use Rattle.upon_syntax.specs.declared.compile.chars.CharClass.TheVariants.{Space, Name}
 

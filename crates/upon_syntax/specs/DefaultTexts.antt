@@ -4,7 +4,7 @@ use Rattle.std.specs.Str.{IsUtf8}
 use Rattle.upon_types.specs.Tree.{Statements}
 use Rattle.upon_syntax.specs.Search.{Pair, HasTexts}
 use Rattle.upon_syntax.specs.Searcher.{default_pairs}
-use Rattle.upon_syntax.specs.Grammar.{HasTree}
+use Rattle.upon_syntax.specs.FirstGrammar.{HasTree}
 use Rattle.upon_syntax.specs.EachLiesIn.{EachLiesIn}
 use Rattle.upon_syntax.specs.PlacesLieIn.{HasUtf8, lies_in}
 

@@ -1,9 +1,10 @@
 pub mod Search
 pub mod Entry
 pub mod Searcher
-pub mod Inside
+pub mod Words
 pub mod Class
-pub mod Grammar
+pub mod Raw
+pub mod FirstGrammar
 pub mod Steps
 pub mod Parsed
 pub mod Bounds

@@ -2,7 +2,7 @@
 use Rattle.std.proofs.Common.{◌≡◌, ℕ, ◌+◌, ◌<◌, ◌≤◌, Bool, false, List, [], ◌∷◌, ◌++◌, length, drop, encode_utf8, encode_utf8_all, arith, refl, sym, ap, ◌∙◌, append_assoc, length-append}
 use Rattle.std.proofs.lemmas.Str.{encode_same, length-encode, len_utf8_bounds}
 use Rattle.upon_syntax.specs.Search.{Occurs}
-use Rattle.upon_syntax.specs.Inside.{EachPasses, IsRun}
+use Rattle.upon_syntax.specs.Words.{EachPasses, IsRun}
 use Rattle.upon_syntax.specs.Bounds.{drop-Occurs, Occurs-from_drop, occurs_within}
 
 pub one_char : (s : List ℕ) (p c d : ℕ) → Occurs s p (encode_utf8 c) → Occurs s p (encode_utf8 d) → c ≡ d

@@ -8,8 +8,9 @@ use Rattle.upon_types.specs.declared.types.Delimiter.{Delimiter}
 use Rattle.upon_types.specs.declared.types.Delimiter.TheVariants.{BeginExpr, EndExpr}
 use Rattle.upon_types.specs.Place.{part}
 use Rattle.upon_syntax.specs.Search.{Pair, HasTexts, Stands}
-use Rattle.upon_syntax.specs.Inside.{is_tag_space, begins_name, IsSpace, IsGap, IsName}
-use Rattle.upon_syntax.specs.Grammar.{IsTag}
+use Rattle.upon_syntax.specs.Words.{is_tag_space, begins_name}
+use Rattle.upon_syntax.specs.FirstGrammar.{IsSpace, IsGap, IsName}
+use Rattle.upon_syntax.specs.FirstGrammar.{IsTag}
 use Rattle.upon_syntax.specs.OneDelimiter.{one_stands, not_bare, stands_ends}
 use Rattle.upon_syntax.specs.OneRun.{one_char, one_run, run_first, run_ends}
 

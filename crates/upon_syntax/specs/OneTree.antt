@@ -5,7 +5,8 @@ use Rattle.upon_types.specs.declared.types.Span.{Span}
 use Rattle.upon_types.specs.declared.types.Delimiter.TheVariants.{BeginExpr}
 use Rattle.upon_types.specs.Tree.{Statement, raw, inline_expr, Statements, no_statements, statement_then}
 use Rattle.upon_syntax.specs.Search.{Pair, HasTexts}
-use Rattle.upon_syntax.specs.Grammar.{IsRaw, IsTag, IsStatement, Reads, HasTree}
+use Rattle.upon_syntax.specs.FirstGrammar.{IsTag, IsStatement, Reads, HasTree}
+use Rattle.upon_syntax.specs.Raw.{IsRaw}
 use Rattle.upon_syntax.specs.OneDelimiter.{not_bare}
 use Rattle.upon_syntax.specs.OneTag.{one_tag, tag_ends}
 

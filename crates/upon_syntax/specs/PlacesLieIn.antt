@@ -9,8 +9,10 @@ use Rattle.upon_types.specs.declared.types.Delimiter.TheVariants.{BeginExpr, End
 use Rattle.upon_types.specs.Place.{LiesIn}
 use Rattle.upon_types.specs.Tree.{Statement, raw, inline_expr, Statements, no_statements, statement_then}
 use Rattle.upon_syntax.specs.Search.{Pair, text_at, HasTexts, Stands}
-use Rattle.upon_syntax.specs.Inside.{is_tag_space, IsRun, IsGap}
-use Rattle.upon_syntax.specs.Grammar.{IsRaw, IsTag, IsStatement, Reads, HasTree}
+use Rattle.upon_syntax.specs.Words.{is_tag_space, IsRun}
+use Rattle.upon_syntax.specs.FirstGrammar.{IsGap}
+use Rattle.upon_syntax.specs.FirstGrammar.{IsTag, IsStatement, Reads, HasTree}
+use Rattle.upon_syntax.specs.Raw.{IsRaw}
 use Rattle.upon_syntax.specs.Bounds.{drop-Occurs, occurs_lies_in}
 use Rattle.upon_syntax.specs.OneRun.{run_ends}
 use Rattle.upon_syntax.specs.EachLiesIn.{StatementLiesIn, EachLiesIn}

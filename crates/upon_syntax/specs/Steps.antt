@@ -6,8 +6,8 @@ use Rattle.upon_types.specs.Place.{part}
 use Rattle.upon_types.specs.Tree.{Statement}
 use Rattle.upon_types.specs.Ast.{statement_of}
 use Rattle.upon_syntax.specs.Search.{Pair}
-use Rattle.upon_syntax.specs.Inside.{IsName}
-use Rattle.upon_syntax.specs.Grammar.{IsTag, IsStatement}
+use Rattle.upon_syntax.specs.FirstGrammar.{IsName}
+use Rattle.upon_syntax.specs.FirstGrammar.{IsTag, IsStatement}
 
 abbrev pub FindsStatement : List Pair → List ℕ → ℕ → Option (Stmt × ℕ) → Type 0
 FindsStatement pairs s m found = MatchOption found

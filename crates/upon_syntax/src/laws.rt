@@ -3,7 +3,7 @@ ghost use Rattle.std.specs.Prelude.{◌≡◌, ℕ, List};
 ghost use Rattle.std.specs.Str.{IsUtf8};
 ghost use Rattle.upon_types.specs.Tree.{Statements};
 ghost use Rattle.upon_syntax.specs.Search.{Pair, HasTexts};
-ghost use Rattle.upon_syntax.specs.Grammar.{HasTree};
+ghost use Rattle.upon_syntax.specs.FirstGrammar.{HasTree};
 ghost use Rattle.upon_syntax.specs.EachLiesIn.{EachLiesIn};
 ghost use Rattle.upon_syntax.specs.PlacesLieIn.{HasUtf8};
 

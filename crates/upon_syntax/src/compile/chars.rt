@@ -4,7 +4,7 @@ ghost use Rattle.std.specs.Str.{IsCharBoundary};
 ghost use Rattle.std.specs.Char.{len_utf8};
 ghost use Rattle.upon_types.specs.Place.{LiesIn};
 ghost use Rattle.upon_syntax.specs.Search.{Occurs};
-ghost use Rattle.upon_syntax.specs.Inside.{IsRun, begins_name, is_keyword};
+ghost use Rattle.upon_syntax.specs.Words.{IsRun, begins_name, is_keyword};
 ghost use Rattle.upon_syntax.specs.Class.{class_test};
 
 /// The characters of which runs are made.

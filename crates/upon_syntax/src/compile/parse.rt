@@ -8,8 +8,9 @@ ghost use Rattle.upon_types.specs.Fault.{syntax, out_of_memory, OrMemory};
 ghost use Rattle.upon_types.specs.Error.{fault_of};
 ghost use Rattle.upon_syntax.specs.Searcher.{pairs_of};
 ghost use Rattle.upon_syntax.specs.Search.{NoneAt, Stands};
-ghost use Rattle.upon_syntax.specs.Inside.{IsSpace, IsGap};
-ghost use Rattle.upon_syntax.specs.Grammar.{HasTree, IsRaw};
+ghost use Rattle.upon_syntax.specs.FirstGrammar.{IsSpace, IsGap};
+ghost use Rattle.upon_syntax.specs.FirstGrammar.{HasTree};
+ghost use Rattle.upon_syntax.specs.Raw.{IsRaw};
 ghost use Rattle.upon_syntax.specs.Steps.{FindsStatement, FindsTag, FindsName};
 
 use crate::compile::chars::{CharClass, begins_name, char_at, is_keyword, run_end};

@@ -1,4 +1,4 @@
-use Rattle.upon_syntax.specs.Inside.{is_tag_space}
+use Rattle.upon_syntax.specs.Words.{is_tag_space}
 use Rattle.upon_syntax.proofs.Runs.{whole_run}
 use Rattle.upon_syntax.proofs.compile.parse.Parser.skip_space.Goals as goal
 

@@ -1,19 +1,28 @@
--- Which tree a text has: raw parts and tags, one behind the other.
-use Rattle.std.specs.Prelude.{◌≡◌, ◌⊎◌, ℕ, ◌<◌, ◌≤◌, List, length, false}
+-- Which tree a text of the first stage has: raw parts and tags with a name, one behind the other.
+use Rattle.std.specs.Prelude.{◌≡◌, ◌⊎◌, ℕ, List, length, true, false}
 use Rattle.upon_types.specs.declared.types.Span.{Span}
-use Rattle.upon_types.specs.declared.types.Delimiter.{Delimiter}
 use Rattle.upon_types.specs.declared.types.Delimiter.TheVariants.{BeginExpr, EndExpr}
 use Rattle.upon_types.specs.Place.{part}
 use Rattle.upon_types.specs.Tree.{Statement, raw, inline_expr, Statements, no_statements, statement_then}
-use Rattle.upon_syntax.specs.Search.{Pair, NoneFrom, Stands}
-use Rattle.upon_syntax.specs.Inside.{IsGap, IsName, is_keyword}
+use Rattle.upon_syntax.specs.Search.{Pair, NoneAt, Stands}
+use Rattle.upon_syntax.specs.Raw.{IsRaw}
+use Rattle.unicode_ident.specs.Ident.{is_xid_continue}
+use Rattle.upon_syntax.specs.Words.{is_tag_space, begins_name, IsRun, is_keyword}
 
--- a raw part: it is not empty, no delimiter stands at any of its places, and the end of the text or a delimiter follows
-pub record IsRaw (pairs : List Pair) (s : List ℕ) (m n : ℕ) : Type 0 where
-  pub some : m < n
-  pub within : n ≤ length s
-  pub bare : NoneFrom pairs s m n
-  pub ends : (n ≡ length s) ⊎ ((kind : Delimiter) × (to : ℕ) × Stands pairs s kind n to)
+-- a run of whitespace, at whose start no delimiter stands
+pub record IsSpace (pairs : List Pair) (s : List ℕ) (m n : ℕ) : Type 0 where
+  pub bare : NoneAt pairs s m
+  pub run : IsRun is_tag_space s m n
+
+-- whitespace, or nothing
+abbrev pub IsGap : List Pair → List ℕ → ℕ → ℕ → Type 0
+IsGap pairs s m n = (m ≡ n) ⊎ IsSpace pairs s m n
+
+-- a run of characters that continue a name, the first of which may begin one; no delimiter stands at its start
+pub record IsName (pairs : List Pair) (s : List ℕ) (m n : ℕ) : Type 0 where
+  pub bare : NoneAt pairs s m
+  pub run : IsRun is_xid_continue s m n
+  pub begins : begins_name run.first ≡ true
 
 -- a tag from m to n: a begin of expression, a name at the place `at` that is no keyword, and an end of expression; whitespace may stand around the name
 pub record IsTag (pairs : List Pair) (s : List ℕ) (name : List ℕ) (at : Span) (m n : ℕ) : Type 0 where

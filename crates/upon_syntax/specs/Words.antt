@@ -1,4 +1,4 @@
--- What may stand inside a tag: runs of characters, whitespace and names.
+-- Runs of characters, and what they are made of inside tags: whitespace, names and keywords.
 use Rattle.std.specs.Prelude.{◌≡◌, ◌⊎◌, ℕ, ◌+◌, ◌==◌, ◌||◌, List, [], ◌∷◌, length, Bool, true, false, codes, encode_utf8, encode_utf8_all}
 use Rattle.std.specs.List.{list_any}
 use Rattle.std.specs.Str.{bytes_eq}
@@ -26,21 +26,6 @@ pub record IsRun (test : ℕ → Bool) (s : List ℕ) (m n : ℕ) : Type 0 where
   pub stand : Occurs s m (encode_utf8_all (first ∷ others))
   pub to : n ≡ m + length (encode_utf8_all (first ∷ others))
   pub longest : (c : ℕ) → Occurs s n (encode_utf8 c) → test c ≡ false
-
--- a run of whitespace, at whose start no delimiter stands
-pub record IsSpace (pairs : List Pair) (s : List ℕ) (m n : ℕ) : Type 0 where
-  pub bare : NoneAt pairs s m
-  pub run : IsRun is_tag_space s m n
-
--- whitespace, or nothing
-abbrev pub IsGap : List Pair → List ℕ → ℕ → ℕ → Type 0
-IsGap pairs s m n = (m ≡ n) ⊎ IsSpace pairs s m n
-
--- a run of characters that continue a name, the first of which may begin one; no delimiter stands at its start
-pub record IsName (pairs : List Pair) (s : List ℕ) (m n : ℕ) : Type 0 where
-  pub bare : NoneAt pairs s m
-  pub run : IsRun is_xid_continue s m n
-  pub begins : begins_name run.first ≡ true
 
 -- the words that are never a name
 abbrev pub keywords : List (List ℕ)
