@@ -1,8 +1,12 @@
 pub mod Place
-pub mod Tree
+pub mod Sets
+pub mod FirstTree
+pub mod First
 pub mod Fault
 pub mod Error
-pub mod Ast
 pub mod Val
+pub mod Path
+pub mod Expression
+pub mod Tree
 pub mod View
 pub mod Same

@@ -1,5 +1,5 @@
 -- Places in a text.
-use Rattle.std.specs.Prelude.{ℕ, ◌-◌, ◌≤◌, List, take, drop}
+use Rattle.std.specs.Prelude.{ℕ, ◌-◌, ◌≤◌, List, take, drop, min, max}
 use Rattle.std.specs.Str.{IsCharBoundary}
 use Rattle.upon_types.specs.declared.types.Span.{Span}
 
@@ -12,3 +12,7 @@ pub record LiesIn (s : List ℕ) (span : Span) : Type 0 where
 -- what stands at the place
 abbrev pub part : List ℕ → Span → List ℕ
 part s span = take (span.n - span.m) (drop span.m s)
+
+-- the least place that covers both
+abbrev pub combined : Span → Span → Span
+combined a b = record { m = min a.m b.m; n = max a.n b.n }

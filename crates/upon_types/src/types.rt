@@ -5,6 +5,7 @@ ghost use Rattle.upon_types.specs.Place.{LiesIn, part};
 use std::ops::Range;
 
 pub mod ast;
+pub mod first;
 
 /// A place in a template's source: the bytes from `m` on, up to `n` and without it.
 #[derive(Clone, Copy, Debug, PartialEq, Eq)]

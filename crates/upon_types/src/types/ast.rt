@@ -1,5 +1,10 @@
-// The syntax tree of a template.
+// The syntax tree of a template: its statements. Each place tells where in the source a part of the template stands.
+pub mod expression;
+pub mod path;
+
 use super::Span;
+pub use expression::{Args, BaseExpr, Call, Expr, Filter, List, Literal, Map, Paren, String};
+pub use path::{Access, AccessOp, Ident, Index, Member, Var};
 
 /// A template's tree.
 #[derive(Drop)]
@@ -8,30 +13,85 @@ pub struct Template {
 }
 
 /// Statements, one after the other.
+#[cycle(statement)]
 #[derive(Drop)]
 pub struct Scope {
     pub stmts: Vec<Stmt>,
 }
 
 /// A statement.
+#[cycle(statement)]
 #[derive(Drop)]
 pub enum Stmt {
     /// Text that is shown as it is.
     Raw(Span),
     /// An expression that is shown.
     InlineExpr(InlineExpr),
+    /// Another template that is shown.
+    Include(Include),
+    /// Statements that a condition chooses.
+    IfElse(IfElse),
+    /// Statements that are shown for each item.
+    ForLoop(ForLoop),
+    /// Statements in which a value has a name.
+    With(With),
 }
 
 /// An expression that is shown, and the whole tag that it stands in.
 #[derive(Drop)]
 pub struct InlineExpr {
-    pub name: Ident,
+    pub expr: Expr,
     pub span: Span,
 }
 
-/// A name, and where it stands.
+/// Another template that is shown, by its name, with the values that it sees where they are given.
 #[derive(Drop)]
-pub struct Ident {
+pub struct Include {
     pub name: String,
+    pub globals: Option<Expr>,
+}
+
+/// Statements that a condition chooses: the first ones where it holds, or where it does not if `not` is set.
+#[cycle(statement)]
+#[derive(Drop)]
+pub struct IfElse {
+    pub not: bool,
+    pub cond: Expr,
+    pub then_branch: Scope,
+    pub else_branch: Option<Scope>,
+}
+
+/// Statements that are shown for each item of a value.
+#[cycle(statement)]
+#[derive(Drop)]
+pub struct ForLoop {
+    pub vars: LoopVars,
+    pub iterable: Expr,
+    pub body: Scope,
+}
+
+/// Statements in which the value of an expression has a name.
+#[cycle(statement)]
+#[derive(Drop)]
+pub struct With {
+    pub expr: Expr,
+    pub name: Ident,
+    pub body: Scope,
+}
+
+/// The names that a loop gives.
+#[derive(Drop)]
+pub enum LoopVars {
+    /// One name, for each item.
+    Item(Ident),
+    /// Two names, for each key and its value.
+    KeyValue(KeyValue),
+}
+
+/// The names that a loop gives to a key and its value.
+#[derive(Drop)]
+pub struct KeyValue {
+    pub key: Ident,
+    pub value: Ident,
     pub span: Span,
 }

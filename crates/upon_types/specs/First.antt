@@ -1,9 +1,9 @@
 -- The tree that a tree of the code stands for.
 use Rattle.std.specs.Prelude.{List, [], ◌∷◌, string_bytes}
-use Rattle.upon_types.specs.Tree.{Statement, raw, inline_expr, Statements, no_statements, statement_then}
-use Rattle.upon_types.specs.declared.types.ast.Stmt.{Stmt}
-use Rattle.upon_types.specs.declared.types.ast.Stmt.TheVariants.{Raw, InlineExpr}
-use Rattle.upon_types.specs.declared.types.ast.Template.{Template}
+use Rattle.upon_types.specs.FirstTree.{Statement, raw, inline_expr, Statements, no_statements, statement_then}
+use Rattle.upon_types.specs.declared.types.first.Stmt.{Stmt}
+use Rattle.upon_types.specs.declared.types.first.Stmt.TheVariants.{Raw, InlineExpr}
+use Rattle.upon_types.specs.declared.types.first.Template.{Template}
 
 abbrev pub statement_of : Stmt → Statement
 statement_of (Raw span) = raw span

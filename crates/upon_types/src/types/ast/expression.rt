@@ -1,0 +1,97 @@
+// The expressions of a template.
+use super::path::{Ident, Var};
+use crate::types::Span;
+use crate::value::Value;
+
+/// An expression.
+#[cycle(expression)]
+#[derive(Drop)]
+pub enum Expr {
+    /// An expression without a filter.
+    Base(BaseExpr),
+    /// An expression whose value goes through a filter.
+    Filter(Filter),
+}
+
+/// An expression without a filter.
+#[cycle(expression)]
+#[derive(Drop)]
+pub enum BaseExpr {
+    /// The value that a path leads to.
+    Var(Var),
+    /// A value that stands in the template.
+    Literal(Literal),
+    /// A list of the values of expressions.
+    List(List),
+    /// A map from texts to the values of expressions.
+    Map(Map),
+    /// An expression in parentheses.
+    Paren(Paren),
+    /// What a function gives.
+    Call(Call),
+}
+
+/// A filter, and the expression before it.
+#[cycle(expression)]
+#[derive(Drop)]
+pub struct Filter {
+    pub name: Ident,
+    pub args: Option<Args>,
+    pub receiver: Box<Expr>,
+    pub span: Span,
+}
+
+/// A value that stands in the template.
+#[derive(Drop)]
+pub struct Literal {
+    pub value: Value,
+    pub span: Span,
+}
+
+/// Expressions in brackets.
+#[cycle(expression)]
+#[derive(Drop)]
+pub struct List {
+    pub items: Vec<BaseExpr>,
+    pub span: Span,
+}
+
+/// Keys and expressions in braces.
+#[cycle(expression)]
+#[derive(Drop)]
+pub struct Map {
+    pub items: Vec<(String, BaseExpr)>,
+    pub span: Span,
+}
+
+/// An expression in parentheses.
+#[cycle(expression)]
+#[derive(Drop)]
+pub struct Paren {
+    pub expr: Box<Expr>,
+    pub span: Span,
+}
+
+/// A call of a function by its name.
+#[cycle(expression)]
+#[derive(Drop)]
+pub struct Call {
+    pub name: Ident,
+    pub args: Option<Args>,
+    pub span: Span,
+}
+
+/// Arguments in parentheses.
+#[cycle(expression)]
+#[derive(Drop)]
+pub struct Args {
+    pub values: Vec<BaseExpr>,
+    pub span: Span,
+}
+
+/// A text in quotes, as what it says, and where it stands.
+#[derive(Drop)]
+pub struct String {
+    pub value: std::string::String,
+    pub span: Span,
+}
