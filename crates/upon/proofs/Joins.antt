@@ -2,9 +2,9 @@
 use Rattle.std.proofs.Common.{◌≡◌, inl, inr, ℕ, suc, ◌+◌, ◌<◌, List, [], ◌∷◌, ◌++◌, length, drop, get_or, sym, ap, ◌∙◌, subst, append_assoc, add-one}
 use Rattle.std.proofs.Math.Seq.{drop-cons}
 use Rattle.std.proofs.lemmas.List.{append-nil}
-use Rattle.upon_types.specs.declared.types.ast.Stmt.{Stmt}
+use Rattle.upon_types.specs.declared.types.first.Stmt.{Stmt}
 use Rattle.upon_types.specs.declared.error.Error.{Error}
-use Rattle.upon_types.specs.Ast.{statement_of, statements_of}
+use Rattle.upon_types.specs.First.{statement_of, statements_of}
 use Rattle.upon_types.specs.Fault.{Fault}
 use Rattle.upon_types.specs.Val.{Val}
 use Rattle.upon_syntax.specs.EachLiesIn.{EachLiesIn, StatementLiesIn}

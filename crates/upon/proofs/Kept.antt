@@ -2,7 +2,7 @@
 use Rattle.std.proofs.Common.{◌≡◌, ℕ, List, [], sym, ap, ◌∙◌, subst}
 use Rattle.std.proofs.Math.Logic.{∥∥₁_elim}
 use Rattle.std.specs.Str.{IsUtf8}
-use Rattle.upon_types.specs.Tree.{Statements, Statements-one_path}
+use Rattle.upon_types.specs.FirstTree.{Statements, Statements-one_path}
 use Rattle.upon_syntax.specs.FirstGrammar.{HasTree}
 use Rattle.upon_syntax.specs.Searcher.{default_pairs}
 use Rattle.upon_syntax.specs.EachLiesIn.{EachLiesIn, EachLiesIn-prop}

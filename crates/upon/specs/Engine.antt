@@ -1,8 +1,8 @@
 -- What an engine, a template and a renderer show.
 use Rattle.std.specs.Prelude.{List, ℕ}
 use Rattle.std.specs.Cow.{cow_str_bytes}
-use Rattle.upon_types.specs.Ast.{tree_of}
-use Rattle.upon_types.specs.Tree.{Statements}
+use Rattle.upon_types.specs.First.{tree_of}
+use Rattle.upon_types.specs.FirstTree.{Statements}
 use Rattle.upon_types.specs.Val.{Val}
 use Rattle.upon_types.specs.View.{view}
 use Rattle.upon_syntax.specs.Search.{Pair}

@@ -3,10 +3,10 @@
 
 ghost use Rattle.std.specs.Prelude.{◌≡◌, IfOk, IfErr};
 ghost use Rattle.std.specs.Cow.{cow_str_bytes};
-ghost use Rattle.upon_types.specs.Ast.{tree_of};
+ghost use Rattle.upon_types.specs.First.{tree_of};
 ghost use Rattle.upon_types.specs.Error.{fault_of};
 ghost use Rattle.upon_types.specs.Fault.{syntax, OrMemory};
-ghost use Rattle.upon_types.specs.Tree.{Statements};
+ghost use Rattle.upon_types.specs.FirstTree.{Statements};
 ghost use Rattle.upon_types.specs.View.{view};
 ghost use Rattle.upon_syntax.specs.FirstGrammar.{HasTree};
 ghost use Rattle.upon_syntax.specs.Parsed.{unsupported};
@@ -25,7 +25,7 @@ pub use upon_syntax::compile;
 use upon_syntax::compile::parse::Parser;
 use upon_syntax::compile::search::Searcher;
 pub use upon_types::error::{Error, Result};
-use upon_types::types::ast;
+use upon_types::types::first;
 pub use upon_types::value::Value;
 pub use upon_types::{error, types, value};
 
@@ -87,7 +87,7 @@ impl<'e> Engine<'e> {
 #[derive(Drop)]
 pub struct Template<'s> {
     source: CowStr<'s>,
-    tree: ast::Template,
+    tree: first::Template,
     ghost stands: { ∥ HasTree default_pairs (cow_str_bytes source) (tree_of tree) ∥₁ },
 }
 

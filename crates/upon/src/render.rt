@@ -1,6 +1,6 @@
 // Rendering: what a template is rendered on, and the renderer.
 ghost use Rattle.std.specs.Prelude.{◌≡◌};
-ghost use Rattle.upon_types.specs.Tree.{Statements};
+ghost use Rattle.upon_types.specs.FirstTree.{Statements};
 ghost use Rattle.upon_types.specs.View.{view};
 ghost use Rattle.upon_syntax.specs.FirstGrammar.{HasTree};
 ghost use Rattle.upon.specs.Meaning.{alone};

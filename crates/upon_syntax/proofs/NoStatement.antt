@@ -3,7 +3,7 @@ use Rattle.std.proofs.Common.{ℕ, List, arith, subst}
 use Rattle.upon_types.specs.declared.types.Span.{Span}
 use Rattle.upon_types.specs.declared.types.Delimiter.TheVariants.{BeginExpr}
 use Rattle.upon_types.specs.Place.{part}
-use Rattle.upon_types.specs.Tree.{Statement, raw, inline_expr}
+use Rattle.upon_types.specs.FirstTree.{Statement, raw, inline_expr}
 use Rattle.upon_syntax.specs.Search.{Pair, Stands}
 use Rattle.upon_syntax.specs.FirstGrammar.{IsTag, IsStatement}
 use Rattle.upon_syntax.specs.OneDelimiter.{not_bare}

@@ -1,8 +1,8 @@
 -- Statements that were read one behind the other: one more of them, and where no more can be read.
 use Rattle.std.proofs.Common.{ℕ, ◌<◌, List, [], ◌∷◌, ◌++◌, length, arith, refl, sym, subst}
-use Rattle.upon_types.specs.declared.types.ast.Stmt.{Stmt}
-use Rattle.upon_types.specs.Tree.{Statement, Statements, no_statements, statement_then}
-use Rattle.upon_types.specs.Ast.{statement_of, statements_of}
+use Rattle.upon_types.specs.declared.types.first.Stmt.{Stmt}
+use Rattle.upon_types.specs.FirstTree.{Statement, Statements, no_statements, statement_then}
+use Rattle.upon_types.specs.First.{statement_of, statements_of}
 use Rattle.upon_syntax.specs.Search.{Pair, HasTexts}
 use Rattle.upon_syntax.specs.FirstGrammar.{IsStatement, Reads}
 use Rattle.upon_syntax.specs.OneTree.{one_statement, ends_there}

@@ -1,7 +1,7 @@
 -- The delimiters of the default syntax have texts, and these are UTF-8: what its trees' places need.
 use Rattle.std.proofs.Common.{ℕ, zero, suc, List, [], ◌∷◌, arith, rules}
 use Rattle.std.specs.Str.{IsUtf8}
-use Rattle.upon_types.specs.Tree.{Statements}
+use Rattle.upon_types.specs.FirstTree.{Statements}
 use Rattle.upon_syntax.specs.Search.{Pair, HasTexts}
 use Rattle.upon_syntax.specs.Searcher.{default_pairs}
 use Rattle.upon_syntax.specs.FirstGrammar.{HasTree}

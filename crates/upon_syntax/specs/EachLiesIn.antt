@@ -2,7 +2,7 @@
 use Rattle.std.specs.Prelude.{◌≡◌, ℕ, List}
 use Rattle.std.proofs.Props.{props}
 use Rattle.upon_types.specs.Place.{LiesIn, part}
-use Rattle.upon_types.specs.Tree.{Statement, raw, inline_expr, Statements, no_statements, statement_then}
+use Rattle.upon_types.specs.FirstTree.{Statement, raw, inline_expr, Statements, no_statements, statement_then}
 
 abbrev pub StatementLiesIn : List ℕ → Statement → Type 0
 StatementLiesIn s (raw span) = LiesIn s span

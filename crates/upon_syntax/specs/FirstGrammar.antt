@@ -3,7 +3,7 @@ use Rattle.std.specs.Prelude.{◌≡◌, ◌⊎◌, ℕ, List, length, true, fal
 use Rattle.upon_types.specs.declared.types.Span.{Span}
 use Rattle.upon_types.specs.declared.types.Delimiter.TheVariants.{BeginExpr, EndExpr}
 use Rattle.upon_types.specs.Place.{part}
-use Rattle.upon_types.specs.Tree.{Statement, raw, inline_expr, Statements, no_statements, statement_then}
+use Rattle.upon_types.specs.FirstTree.{Statement, raw, inline_expr, Statements, no_statements, statement_then}
 use Rattle.upon_syntax.specs.Search.{Pair, NoneAt, Stands}
 use Rattle.upon_syntax.specs.Raw.{IsRaw}
 use Rattle.unicode_ident.specs.Ident.{is_xid_continue}

@@ -7,7 +7,7 @@ use Rattle.upon_types.specs.declared.types.Span.{Span}
 use Rattle.upon_types.specs.declared.types.Delimiter.{Delimiter}
 use Rattle.upon_types.specs.declared.types.Delimiter.TheVariants.{BeginExpr, EndExpr}
 use Rattle.upon_types.specs.Place.{LiesIn}
-use Rattle.upon_types.specs.Tree.{Statement, raw, inline_expr, Statements, no_statements, statement_then}
+use Rattle.upon_types.specs.FirstTree.{Statement, raw, inline_expr, Statements, no_statements, statement_then}
 use Rattle.upon_syntax.specs.Search.{Pair, text_at, HasTexts, Stands}
 use Rattle.upon_syntax.specs.Words.{is_tag_space, IsRun}
 use Rattle.upon_syntax.specs.FirstGrammar.{IsGap}

@@ -1,10 +1,10 @@
 -- What the parser's steps find at a place: what stands there, and where it ends; or that nothing of the kind does.
 use Rattle.std.specs.Prelude.{ℕ, List, Option, MatchOption}
 use Rattle.upon_types.specs.declared.types.Span.{Span}
-use Rattle.upon_types.specs.declared.types.ast.Stmt.{Stmt}
+use Rattle.upon_types.specs.declared.types.first.Stmt.{Stmt}
 use Rattle.upon_types.specs.Place.{part}
-use Rattle.upon_types.specs.Tree.{Statement}
-use Rattle.upon_types.specs.Ast.{statement_of}
+use Rattle.upon_types.specs.FirstTree.{Statement}
+use Rattle.upon_types.specs.First.{statement_of}
 use Rattle.upon_syntax.specs.Search.{Pair}
 use Rattle.upon_syntax.specs.FirstGrammar.{IsName}
 use Rattle.upon_syntax.specs.FirstGrammar.{IsTag, IsStatement}

@@ -1,7 +1,7 @@
 // What the grammar keeps, beside the functions that read by it.
 ghost use Rattle.std.specs.Prelude.{◌≡◌, ℕ, List};
 ghost use Rattle.std.specs.Str.{IsUtf8};
-ghost use Rattle.upon_types.specs.Tree.{Statements};
+ghost use Rattle.upon_types.specs.FirstTree.{Statements};
 ghost use Rattle.upon_syntax.specs.Search.{Pair, HasTexts};
 ghost use Rattle.upon_syntax.specs.FirstGrammar.{HasTree};
 ghost use Rattle.upon_syntax.specs.EachLiesIn.{EachLiesIn};

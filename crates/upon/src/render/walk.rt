@@ -1,6 +1,6 @@
 // The walk over a template's tree that writes its text.
 ghost use Rattle.std.specs.Prelude.{None, string_bytes};
-ghost use Rattle.upon_types.specs.Ast.{statement_of, statements_of};
+ghost use Rattle.upon_types.specs.First.{statement_of, statements_of};
 ghost use Rattle.upon_types.specs.Place.{LiesIn};
 ghost use Rattle.upon_types.specs.View.{view};
 ghost use Rattle.upon_syntax.specs.EachLiesIn.{EachLiesIn, StatementLiesIn};
@@ -9,7 +9,7 @@ ghost use Rattle.upon.specs.Rendered.{Writes, EndsWith};
 
 use std::alloc::Global;
 use upon_types::error::{Error, ErrorKind, Result};
-use upon_types::types::ast::{InlineExpr, Stmt};
+use upon_types::types::first::{InlineExpr, Stmt};
 use upon_types::types::{Span, slice};
 use upon_types::value::Value;
 use upon_types::value::look::entry;

@@ -2,8 +2,8 @@
 ghost use Rattle.std.specs.Prelude.{◌≡◌, ℕ, ◌<◌, length, IfOk, IfErr, IfSome};
 ghost use Rattle.std.specs.Str.{IsUtf8, IsCharBoundary};
 ghost use Rattle.upon_types.specs.Place.{LiesIn};
-ghost use Rattle.upon_types.specs.Tree.{Statements};
-ghost use Rattle.upon_types.specs.Ast.{tree_of};
+ghost use Rattle.upon_types.specs.FirstTree.{Statements};
+ghost use Rattle.upon_types.specs.First.{tree_of};
 ghost use Rattle.upon_types.specs.Fault.{syntax, out_of_memory, OrMemory};
 ghost use Rattle.upon_types.specs.Error.{fault_of};
 ghost use Rattle.upon_syntax.specs.Searcher.{pairs_of};
@@ -17,7 +17,7 @@ use crate::compile::chars::{CharClass, begins_name, char_at, is_keyword, run_end
 use crate::compile::search::Searcher;
 use std::alloc::{AllocError, Global};
 use upon_types::error::{Error, ErrorKind, Result};
-use upon_types::types::ast::{Ident, InlineExpr, Scope, Stmt, Template};
+use upon_types::types::first::{Ident, InlineExpr, Scope, Stmt, Template};
 use upon_types::types::{Delimiter, Span, slice};
 
 /// Parses a template's text.

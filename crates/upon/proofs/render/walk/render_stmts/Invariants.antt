@@ -1,5 +1,5 @@
 use Rattle.std.proofs.Common.{string_bytes, ◌≡◌, drop}
-use Rattle.upon_types.specs.Ast.{statements_of}
+use Rattle.upon_types.specs.First.{statements_of}
 use Rattle.upon_types.specs.View.{view}
 use Rattle.upon_syntax.specs.EachLiesIn.{EachLiesIn}
 use Rattle.upon.specs.Meaning.{statements_mean, after}

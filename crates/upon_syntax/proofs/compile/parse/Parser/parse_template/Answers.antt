@@ -1,7 +1,7 @@
 use Rattle.std.proofs.Common.{◌≡◌, ℕ, List, length, arith, refl, sym, subst}
 use Rattle.std.proofs.lemmas.Str.{IsUtf8-had, IsCharBoundary-start}
-use Rattle.upon_types.specs.declared.types.ast.Stmt.{Stmt}
-use Rattle.upon_types.specs.Ast.{statements_of}
+use Rattle.upon_types.specs.declared.types.first.Stmt.{Stmt}
+use Rattle.upon_types.specs.First.{statements_of}
 use Rattle.upon_syntax.specs.FirstGrammar.{Reads}
 use Rattle.upon_syntax.specs.Parsed.{source_of, syntax_of}
 use Rattle.upon_syntax.specs.OneTree.{one_tree}
