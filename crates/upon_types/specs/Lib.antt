@@ -6,7 +6,11 @@ pub mod Fault
 pub mod Error
 pub mod Val
 pub mod Path
+pub mod Token
 pub mod Expression
 pub mod Tree
 pub mod View
+pub mod AstPath
+pub mod AstExpression
+pub mod Ast
 pub mod Same

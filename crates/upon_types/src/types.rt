@@ -3,9 +3,11 @@ ghost use Rattle.std.specs.Prelude.{◌≡◌, min, max};
 ghost use Rattle.upon_types.specs.Place.{LiesIn, part};
 
 use std::ops::Range;
+pub use token::Token;
 
 pub mod ast;
 pub mod first;
+pub mod token;
 
 /// A place in a template's source: the bytes from `m` on, up to `n` and without it.
 #[derive(Clone, Copy, Debug, PartialEq, Eq)]

@@ -1,10 +1,15 @@
 // The syntax tree of a template: its statements. Each place tells where in the source a part of the template stands.
+ghost use Rattle.std.specs.Prelude.{◌≡◌};
+ghost use Rattle.upon_types.specs.Ast.{scope_of};
+ghost use Rattle.upon_types.specs.Tree.{no_statements};
+
 pub mod expression;
 pub mod path;
 
 use super::Span;
 pub use expression::{Args, BaseExpr, Call, Expr, Filter, List, Literal, Map, Paren, String};
 pub use path::{Access, AccessOp, Ident, Index, Member, Var};
+use std::alloc::Global;
 
 /// A template's tree.
 #[derive(Drop)]
@@ -94,4 +99,15 @@ pub struct KeyValue {
     pub key: Ident,
     pub value: Ident,
     pub span: Span,
+}
+
+impl Scope {
+    /// No statement.
+    pub fn new(alloc: Global) -> Scope
+        ensures { scope_of result ≡ no_statements }
+    {
+        Scope {
+            stmts: Vec::new(alloc),
+        }
+    }
 }

@@ -1,4 +1,9 @@
 // The expressions of a template.
+ghost use Rattle.std.specs.Prelude.{◌≡◌};
+ghost use Rattle.upon_types.specs.AstExpression.{base_of, expression_of};
+ghost use Rattle.upon_types.specs.AstPath.{word_of_string};
+ghost use Rattle.upon_types.specs.Expression.{base_span, expression_span};
+
 use super::path::{Ident, Var};
 use crate::types::Span;
 use crate::value::Value;
@@ -94,4 +99,41 @@ pub struct Args {
 pub struct String {
     pub value: std::string::String,
     pub span: Span,
+}
+
+impl Expr {
+    /// Where the expression stands.
+    pub fn span(&self) -> Span
+        ensures { result ≡ expression_span (expression_of self.now) }
+    {
+        match self {
+            Expr::Base(base) => base.span(),
+            Expr::Filter(filter) => filter.span,
+        }
+    }
+}
+
+impl BaseExpr {
+    /// Where the expression stands.
+    pub fn span(&self) -> Span
+        ensures { result ≡ base_span (base_of self.now) }
+    {
+        match self {
+            BaseExpr::Var(var) => var.span(),
+            BaseExpr::Literal(literal) => literal.span,
+            BaseExpr::List(list) => list.span,
+            BaseExpr::Map(map) => map.span,
+            BaseExpr::Paren(paren) => paren.span,
+            BaseExpr::Call(call) => call.span,
+        }
+    }
+}
+
+impl String {
+    /// What the text says.
+    pub fn as_str(&self) -> &str
+        ensures { result.now ≡ (word_of_string self.now).text }
+    {
+        self.value.as_str()
+    }
 }

@@ -49,3 +49,53 @@ pub struct Var {
     pub path: Vec<Member>,
     ghost not_empty: { 0 < length path.items },
 }
+
+impl Access {
+    ghost use Rattle.std.specs.Prelude.{◌≡◌};
+    ghost use Rattle.upon_types.specs.AstPath.{selector_of};
+    ghost use Rattle.upon_types.specs.Path.{selector_span};
+
+    /// Where the index or the name stands.
+    pub fn span(&self) -> Span
+        ensures { result ≡ selector_span (selector_of self.now) }
+    {
+        match self {
+            Access::Index(index) => index.span,
+            Access::Key(ident) => ident.span,
+        }
+    }
+}
+
+impl Var {
+    ghost use Rattle.std.specs.Prelude.{◌≡◌, map};
+    ghost use Rattle.upon_types.specs.AstPath.{step_of, first_step, rest_steps};
+    ghost use Rattle.upon_types.specs.Path.{last_step, path_span};
+
+    /// The variable, which is the first member of the path.
+    pub fn first(&self) -> &Member
+        ensures { step_of result.now ≡ first_step self.now }
+    {
+        &self.path[0]
+    }
+
+    /// The last member of the path.
+    pub fn last(&self) -> &Member
+        ensures { step_of result.now ≡ last_step (first_step self.now) (rest_steps self.now) }
+    {
+        &self.path[self.path.len() - 1]
+    }
+
+    /// The members after the first.
+    pub fn rest(&self) -> &[Member]
+        ensures { map step_of result.now ≡ rest_steps self.now }
+    {
+        &self.path[1..]
+    }
+
+    /// Where the path stands: from its first member to its last.
+    pub fn span(&self) -> Span
+        ensures { result ≡ path_span (first_step self.now) (rest_steps self.now) }
+    {
+        self.first().span.combine(self.last().span)
+    }
+}
