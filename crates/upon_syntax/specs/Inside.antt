@@ -1,5 +1,5 @@
 -- The tokens inside a tag: what begins each, and how far it goes.
-use Rattle.std.specs.Prelude.{◌≡◌, ◌×◌, ℕ, ◌+◌, ◌-◌, ◌==◌, ◌&&◌, ◌||◌, not, List, [], ◌∷◌, ◌++◌, length, Bool, true, false, Option, Some, None, codes, encode_utf8, if◌then◌else◌}
+use Rattle.std.specs.Prelude.{◌≡◌, ℕ, ◌+◌, ◌-◌, ◌==◌, ◌&&◌, ◌||◌, not, List, [], ◌∷◌, ◌++◌, length, Bool, true, false, Option, Some, None, codes, encode_utf8, if◌then◌else◌}
 use Rattle.std.specs.Char.{is_ascii_digit, is_ascii_alphanumeric}
 use Rattle.unicode_ident.specs.Ident.{is_xid_continue}
 use Rattle.upon_types.specs.declared.types.token.Token.{Token}

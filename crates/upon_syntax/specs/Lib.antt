@@ -15,3 +15,11 @@ pub mod OneTree
 pub mod EachLiesIn
 pub mod PlacesLieIn
 pub mod DefaultTexts
+pub mod Delimiters
+pub mod Inside
+pub mod Cut
+pub mod Shown
+pub mod Literal
+pub mod Tokens
+pub mod Expressions
+pub mod Grammar

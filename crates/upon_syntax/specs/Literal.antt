@@ -1,5 +1,6 @@
 -- What the text of a number, an index or a string stands for.
-use Rattle.std.specs.Prelude.{◌≡◌, ℕ, zero, suc, ◌+◌, ◌*◌, ◌^◌, ◌<◌, ◌==◌, nat_lt, ℤ, pos, negsuc, List, [], ◌∷◌, ◌++◌, length, Bool, true, false, Option, Some, None, encode_utf8, if◌then◌else◌, FitsSigned, w64}
+use Rattle.std.specs.Prelude.{◌≡◌, ℕ, zero, suc, ◌+◌, ◌*◌, ◌^◌, ◌<◌, ◌==◌, nat_lt, ℤ, pos, negsuc, List, [], ◌∷◌, ◌++◌, length, Bool, true, false, Option, Some, None, encode_utf8, if◌then◌else◌, FitsSigned}
+use Rattle.std.specs.Int.{w64}
 use Rattle.std.specs.Char.{digit_value}
 use Rattle.std.specs.Option.{option_map}
 use Rattle.upon_syntax.specs.Inside.{Piece, plain, escaped, IsQuoted}
