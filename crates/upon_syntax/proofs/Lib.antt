@@ -6,3 +6,10 @@ pub mod Names
 pub mod NoTag
 pub mod NoStatement
 pub mod Reading
+pub mod Tests
+pub mod TokenTests
+pub mod CutTests
+pub mod InnerTests
+pub mod WholeCut
+pub mod Examples
+pub mod Computing

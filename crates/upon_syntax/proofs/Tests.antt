@@ -1,0 +1,86 @@
+-- Tests that compute, and what each shows of the places of a text.
+use Rattle.std.proofs.Common.{◌≡◌, ℕ, zero, suc, ◌+◌, ◌-◌, ◌<◌, ◌≤◌, ◌==◌, ◌&&◌, ◌||◌, not, nat_lt, nat_le, List, [], ◌∷◌, ◌++◌, length, take, drop, map, Bool, true, false, Option, Some, None, IsTrue, refl, sym, ap, subst, ◌∙◌, arith, get_or}
+use Rattle.std.specs.Str.{bytes_eq}
+use Rattle.std.specs.Bool.{Decides}
+use Rattle.std.proofs.lemmas.Slice.Eq.{bytes_eq-Decides}
+use Rattle.upon_syntax.specs.Search.{Pair, text_at, kind_at, Occurs, NoneBelow, NoneAt, NoneFrom, IsBestBelow, IsBest, Stands}
+
+pub left_true : (a b : Bool) → (a && b) ≡ true → a ≡ true
+left_true true b h = refl
+left_true false b h = absurd cc
+
+pub right_true : (a b : Bool) → (a && b) ≡ true → b ≡ true
+right_true true b h = h
+right_true false b h = absurd cc
+
+not_true : (a : Bool) → not a ≡ true → a ≡ true → ⊥
+not_true true h k = cc
+not_true false h k = cc
+
+-- every number below n passes
+abbrev pub each_below : ℕ → (ℕ → Bool) → Bool
+each_below zero test = true
+each_below (suc n) test = test n && each_below n test
+
+pub each_below_passes : (n : ℕ) (test : ℕ → Bool) → each_below n test ≡ true → (i : ℕ) → i < n → test i ≡ true
+each_below_passes zero test h i l = absurd (omega arith)
+each_below_passes (suc n) test h i l = elim (nat_lt i n) as (λ b. nat_lt i n ≡ b → test i ≡ true) [
+    | true ↦ λ e. each_below_passes n test (right_true _ _ h) i (grind (arith, e))
+    | false ↦ λ e. let same : n ≡ i = grind (arith, e) in subst (λ k. test k ≡ true) same (left_true _ _ h)
+  ] refl
+
+-- whether the text d stands in s at p
+abbrev pub occurs_test : List ℕ → ℕ → List ℕ → Bool
+occurs_test s p d = bytes_eq d (take (length d) (drop p s))
+
+pub occurs_tested : (s : List ℕ) (p : ℕ) (d : List ℕ) → occurs_test s p d ≡ true → Occurs s p d
+occurs_tested s p d h = (bytes_eq-Decides d (take (length d) (drop p s))).0 h
+
+pub occurs_tests : (s : List ℕ) (p : ℕ) (d : List ℕ) → Occurs s p d → occurs_test s p d ≡ true
+occurs_tests s p d h = (bytes_eq-Decides d (take (length d) (drop p s))).1 h
+
+-- whether no delimiter stands at p
+abbrev pub none_test : List Pair → List ℕ → ℕ → Bool
+none_test pairs s p = each_below (length pairs) (λ i. not (occurs_test s p (text_at pairs i)))
+
+pub none_tested : (pairs : List Pair) (s : List ℕ) (p : ℕ) → none_test pairs s p ≡ true → NoneAt pairs s p
+none_tested pairs s p h = λ i l o. not_true _ (each_below_passes (length pairs) _ h i l) (occurs_tests s p (text_at pairs i) o)
+
+-- whether the i-th delimiter is the best at p
+abbrev pub fits_under : List Pair → List ℕ → ℕ → ℕ → ℕ → Bool
+fits_under pairs s p most j = not (occurs_test s p (text_at pairs j)) || nat_le (length (text_at pairs j)) most
+
+abbrev pub is_shorter : List Pair → List ℕ → ℕ → ℕ → ℕ → Bool
+is_shorter pairs s p most j = not (occurs_test s p (text_at pairs j)) || nat_lt (length (text_at pairs j)) most
+
+abbrev pub best_test : List Pair → List ℕ → ℕ → ℕ → Bool
+best_test pairs s p i = nat_lt i (length pairs) && (occurs_test s p (text_at pairs i)
+  && (each_below (length pairs) (fits_under pairs s p (length (text_at pairs i)))
+  && each_below i (is_shorter pairs s p (length (text_at pairs i)))))
+
+or_second : (a b : Bool) → (not a || b) ≡ true → a ≡ true → b ≡ true
+or_second true b h k = h
+or_second false b h k = absurd cc
+
+module _ (pairs : List Pair) (s : List ℕ) (p i : ℕ) where
+  no_longer : each_below (length pairs) (fits_under pairs s p (length (text_at pairs i))) ≡ true → (j : ℕ) → j < length pairs → Occurs s p (text_at pairs j) → length (text_at pairs j) ≤ length (text_at pairs i)
+  no_longer h j l o =
+      let b : nat_le (length (text_at pairs j)) (length (text_at pairs i)) ≡ true = or_second (occurs_test s p (text_at pairs j)) _ (each_below_passes (length pairs) (fits_under pairs s p (length (text_at pairs i))) h j l) (occurs_tests s p (text_at pairs j) o) in
+      grind (arith, b)
+
+  shorter_before : each_below i (is_shorter pairs s p (length (text_at pairs i))) ≡ true → (j : ℕ) → j < i → Occurs s p (text_at pairs j) → length (text_at pairs j) < length (text_at pairs i)
+  shorter_before h j l o =
+      let b : nat_lt (length (text_at pairs j)) (length (text_at pairs i)) ≡ true = or_second (occurs_test s p (text_at pairs j)) _ (each_below_passes i (is_shorter pairs s p (length (text_at pairs i))) h j l) (occurs_tests s p (text_at pairs j) o) in
+      grind (arith, b)
+
+  pub best_tested : best_test pairs s p i ≡ true → IsBest pairs s p i
+  best_tested h =
+      let inside : nat_lt i (length pairs) ≡ true = left_true _ _ h in
+      let others = right_true _ _ h in
+      let both = right_true _ _ others in
+      record {
+        in_range = grind (arith, inside);
+        occurs = occurs_tested s p (text_at pairs i) (left_true _ _ others);
+        longest = no_longer (left_true _ _ both);
+        earliest = shorter_before (right_true _ _ both);
+      }
