@@ -28,3 +28,5 @@ pub mod OneQuoted
 pub mod OneInner
 pub mod OneStep
 pub mod OneCut
+pub mod StepLiesIn
+pub mod CutLiesIn
