@@ -16,9 +16,9 @@ abbrev pub LexemesLieIn : List ℕ → List Lexeme → Type 0
 LexemesLieIn s [] = Unit {0}
 LexemesLieIn s (l ∷ ls) = LiesIn s l.span × LexemesLieIn s ls
 
--- the texts of the tokens, one behind the other
-abbrev pub joined_parts : List ℕ → List Lexeme → List ℕ
-joined_parts s ls = concat (map (λ (l : Lexeme). part s l.span) ls)
+-- the text of each token
+abbrev pub parts : List ℕ → List Lexeme → List (List ℕ)
+parts s ls = map (λ (l : Lexeme). part s l.span) ls
 
 module _ (pairs : List Pair) (s : List ℕ) (texts : HasTexts pairs) where
   pub cut_lies_from : (mode mode' : Mode) (m n : ℕ) (ls : List Lexeme) → HasUtf8 pairs → IsUtf8 s → IsCharBoundary s m → Cut pairs s mode m ls mode' n → LexemesLieIn s ls × IsCharBoundary s n
@@ -29,7 +29,7 @@ module _ (pairs : List Pair) (s : List ℕ) (texts : HasTexts pairs) where
       let F : ℕ → Type 0 = λ x. LiesIn s (record { m = x; n = l.span.n }) in
       ((subst F (sym h.0) lies, others.0), others.1)
 
-  parts_from : (mode mode' : Mode) (m n : ℕ) (ls : List Lexeme) → Cut pairs s mode m ls mode' n → drop m s ≡ joined_parts s ls ++ drop n s
+  parts_from : (mode mode' : Mode) (m n : ℕ) (ls : List Lexeme) → Cut pairs s mode m ls mode' n → drop m s ≡ concat (parts s ls) ++ drop n s
   parts_from mode mode' m n [] h = ap (λ k. drop k s) h.1
   parts_from mode mode' m n (l ∷ ls) h =
       let step = step_ends pairs s mode l.token l.hyphen m l.span.n texts h.1 in
@@ -38,13 +38,13 @@ module _ (pairs : List Pair) (s : List ℕ) (texts : HasTexts pairs) where
       let same : first ≡ part s l.span = ap (λ k. part s (record { m = k; n = l.span.n })) (sym h.0) in
       sym (take-append-drop (l.span.n - m) (drop m s))
       ∙ ap (λ x. first ++ x) (drop-drop (l.span.n - m) m s ∙ ap (λ k. drop k s) behind ∙ parts_from (mode_after mode l.token) mode' l.span.n n ls h.2)
-      ∙ ap (λ x. x ++ (joined_parts s ls ++ drop n s)) same
-      ∙ sym (append_assoc (part s l.span) (joined_parts s ls) (drop n s))
+      ∙ ap (λ x. x ++ (concat (parts s ls) ++ drop n s)) same
+      ∙ sym (append_assoc (part s l.span) (concat (parts s ls)) (drop n s))
 
 pub cut_lies_in : (pairs : List Pair) (s : List ℕ) (ls : List Lexeme) → HasTexts pairs → HasUtf8 pairs → IsUtf8 s → Cut pairs s outside 0 ls outside (length s) → LexemesLieIn s ls
 cut_lies_in pairs s ls texts utf8 text h = (cut_lies_from pairs s texts outside outside 0 (length s) ls utf8 text (IsCharBoundary-start s text) h).0
 
 -- nothing of the text is lost
-pub parts_give_text : (pairs : List Pair) (s : List ℕ) (ls : List Lexeme) → HasTexts pairs → Cut pairs s outside 0 ls outside (length s) → joined_parts s ls ≡ s
-parts_give_text pairs s ls texts h =
-    sym (parts_from pairs s texts outside outside 0 (length s) ls h ∙ ap (λ x. joined_parts s ls ++ x) (drop_all (length s) s (omega arith)) ∙ append-nil (joined_parts s ls))
+pub joined_parts : (pairs : List Pair) (s : List ℕ) (ls : List Lexeme) → HasTexts pairs → Cut pairs s outside 0 ls outside (length s) → concat (parts s ls) ≡ s
+joined_parts pairs s ls texts h =
+    sym (parts_from pairs s texts outside outside 0 (length s) ls h ∙ ap (λ x. concat (parts s ls) ++ x) (drop_all (length s) s (omega arith)) ∙ append-nil (concat (parts s ls)))
