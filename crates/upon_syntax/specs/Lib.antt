@@ -23,3 +23,10 @@ pub mod Literal
 pub mod Tokens
 pub mod Expressions
 pub mod Grammar
+pub mod OneRaw
+pub mod OneQuoted
+pub mod OneInner
+pub mod OneStep
+pub mod OneCut
+pub mod StepLiesIn
+pub mod CutLiesIn
