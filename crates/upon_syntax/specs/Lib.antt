@@ -30,3 +30,11 @@ pub mod OneStep
 pub mod OneCut
 pub mod StepLiesIn
 pub mod CutLiesIn
+pub mod Tags
+pub mod Wanted
+pub mod Reading
+pub mod Blocks
+pub mod LiteralFaults
+pub mod Faults
+pub mod LaterFaults
+pub mod FirstFault
