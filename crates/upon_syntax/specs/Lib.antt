@@ -38,3 +38,7 @@ pub mod LiteralFaults
 pub mod Faults
 pub mod LaterFaults
 pub mod FirstFault
+pub mod OneFault
+pub mod OneLaterFault
+pub mod OneFirstFault
+pub mod NoTreeCut

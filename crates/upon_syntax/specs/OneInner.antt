@@ -31,7 +31,7 @@ one_extent s EndComment m n k a b = absurd a
 one_extent s t m n k a b = a ∙ sym b
 
 -- a token begins as itself, or is a keyword
-cases_begin : (t : Token) → (t ≡ begins_as t) ⊎ (t ≡ Keyword)
+pub cases_begin : (t : Token) → (t ≡ begins_as t) ⊎ (t ≡ Keyword)
 cases_begin Keyword = inr refl
 cases_begin t = inl refl
 
