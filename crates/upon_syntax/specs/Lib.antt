@@ -42,3 +42,5 @@ pub mod OneFault
 pub mod OneLaterFault
 pub mod OneFirstFault
 pub mod NoTreeCut
+pub mod Fine
+pub mod FineTokens
