@@ -23,3 +23,5 @@ pub mod Literal
 pub mod Tokens
 pub mod Expressions
 pub mod Grammar
+pub mod OneLiteral
+pub mod OneToken
