@@ -25,3 +25,14 @@ pub mod Expressions
 pub mod Grammar
 pub mod OneLiteral
 pub mod OneToken
+pub mod OnePath
+pub mod OneValue
+pub mod OneBegin
+pub mod OneClaims
+pub mod OneClosing
+pub mod OneList
+pub mod OneMapping
+pub mod OneArguments
+pub mod OneFilter
+pub mod OneBase
+pub mod OneExpression
