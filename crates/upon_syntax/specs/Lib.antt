@@ -36,3 +36,7 @@ pub mod OneArguments
 pub mod OneFilter
 pub mod OneBase
 pub mod OneExpression
+pub mod OneMark
+pub mod OneBlock
+pub mod OneStatement
+pub mod OneTemplate
