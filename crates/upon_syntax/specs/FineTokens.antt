@@ -23,7 +23,7 @@ is_plain Ident = true
 is_plain Plus = true
 is_plain t = false
 
-abbrev is_minus : Token → Bool
+abbrev pub is_minus : Token → Bool
 is_minus Minus = true
 is_minus t = false
 

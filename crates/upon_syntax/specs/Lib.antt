@@ -61,3 +61,5 @@ pub mod OneMark
 pub mod OneBlock
 pub mod OneStatement
 pub mod OneTemplate
+pub mod FineExpression
+pub mod OneWholeTree
