@@ -115,7 +115,7 @@ pub record UnexpectedBlock (pairs : List Pair) (s : List ℕ) (p : ℕ) (place :
   pub hyphen : Bool
   pub to : ℕ
   pub ends : Ends pairs s block hyphen p to
-  pub whole : IsTag s (tag_tokens lexemes ++ lexeme_at EndBlock hyphen p to ∷ [])
+  pub whole : IsTag s (tag_tokens lexemes ++ lexeme_at EndBlock hyphen p to ∷ []) []
   pub closer : Closer
   pub closing : closer_of s (tag_tokens lexemes ++ lexeme_at EndBlock hyphen p to ∷ []) ≡ Some closer
   pub refused : takes (open_blocks s (significant (before_tag lexemes))) closer ≡ false

@@ -63,3 +63,4 @@ pub mod OneStatement
 pub mod OneTemplate
 pub mod FineExpression
 pub mod OneWholeTree
+pub mod TagShapes
