@@ -64,3 +64,7 @@ pub mod OneTemplate
 pub mod FineExpression
 pub mod OneWholeTree
 pub mod TagShapes
+pub mod Tails
+pub mod FineAt
+pub mod TagsWithin
+pub mod TagsInStatements
