@@ -68,3 +68,4 @@ pub mod Tails
 pub mod FineAt
 pub mod TagsWithin
 pub mod TagsInStatements
+pub mod OpenTagFine
