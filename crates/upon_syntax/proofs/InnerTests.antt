@@ -69,7 +69,7 @@ abbrev pub each_is_piece : List Piece → Bool
 each_is_piece [] = true
 each_is_piece (p ∷ ps) = is_piece p && each_is_piece ps
 
-each_piece : (ps : List Piece) → each_is_piece ps ≡ true → EachIsPiece ps
+pub each_piece : (ps : List Piece) → each_is_piece ps ≡ true → EachIsPiece ps
 each_piece [] h = tt
 each_piece (p ∷ ps) h = (left_true _ _ h, each_piece ps (right_true _ _ h))
 

@@ -11,5 +11,11 @@ pub mod TokenTests
 pub mod CutTests
 pub mod InnerTests
 pub mod WholeCut
+pub mod LiteralTests
+pub mod ReadTokens
+pub mod ReadParts
+pub mod ReadExpressions
+pub mod ReadStatements
+pub mod HasTreeTests
 pub mod Examples
 pub mod Computing
