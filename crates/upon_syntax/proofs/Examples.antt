@@ -1,1 +1,4 @@
+pub mod Short
 pub mod Cuts
+pub mod Expressions
+pub mod Literals
