@@ -17,5 +17,6 @@ pub mod ReadParts
 pub mod ReadExpressions
 pub mod ReadStatements
 pub mod HasTreeTests
+pub mod NoTree
 pub mod Examples
 pub mod Computing
