@@ -6,3 +6,4 @@ pub mod Statements
 pub mod Trimming
 pub mod Comments
 pub mod Delimiters
+pub mod NoTree

@@ -18,5 +18,7 @@ pub mod ReadExpressions
 pub mod ReadStatements
 pub mod HasTreeTests
 pub mod NoTree
+pub mod NoNumber
+pub mod OpenTag
 pub mod Examples
 pub mod Computing

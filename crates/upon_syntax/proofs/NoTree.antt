@@ -31,13 +31,13 @@ no_tree pairs s lexemes texts h nothing tree has =
     nothing tree (subst F same has.reads)
 
 -- the first token is the one that goes
-first_goes : (t : Token) (span : Span) (l : Lexeme) (ls rest : List Lexeme) → Goes t span (l ∷ ls) rest → (l.token ≡ t) × (l.span ≡ span) × (ls ≡ rest)
+pub first_goes : (t : Token) (span : Span) (l : Lexeme) (ls rest : List Lexeme) → Goes t span (l ∷ ls) rest → (l.token ≡ t) × (l.span ≡ span) × (ls ≡ rest)
 first_goes t span l ls rest g =
     let is : l ∷ ls ≡ g.lexeme ∷ rest = g.is in
     let same : l ≡ g.lexeme = cc is in
     (ap (λ (x : Lexeme). x.token) same ∙ g.of_token, ap (λ (x : Lexeme). x.span) same ∙ g.at, cc is)
 
-first_is : (t : Token) (span : Span) (l : Lexeme) (ls rest : List Lexeme) → Goes t span (l ∷ ls) rest → l.token ≡ t
+pub first_is : (t : Token) (span : Span) (l : Lexeme) (ls rest : List Lexeme) → Goes t span (l ∷ ls) rest → l.token ≡ t
 first_is t span l ls rest g = (first_goes t span l ls rest g).0
 
 -- a statement begins with a raw part, a begin of expression or a begin of block
@@ -50,7 +50,7 @@ begins_statement t = false
 by_first : (t : Token) (span : Span) (l : Lexeme) (ls rest : List Lexeme) → begins_statement t ≡ true → Goes t span (l ∷ ls) rest → begins_statement l.token ≡ true
 by_first t span l ls rest h g = ap begins_statement (first_is t span l ls rest g) ∙ h
 
-by_block : (s word : List ℕ) (l : Lexeme) (ls rest : List Lexeme) → BeginsBlock s word (l ∷ ls) rest → l.token ≡ BeginBlock
+pub by_block : (s word : List ℕ) (l : Lexeme) (ls rest : List Lexeme) → BeginsBlock s word (l ∷ ls) rest → l.token ≡ BeginBlock
 by_block s word l ls rest b = first_is BeginBlock b.1.0 l ls b.0 b.1.1
 
 statement_begins : (s : List ℕ) (t : Statement) (l : Lexeme) (ls rest : List Lexeme) → IsStatement s t (l ∷ ls) rest → begins_statement l.token ≡ true

@@ -74,7 +74,7 @@ in_comment_tested pairs s Raw hyphen m n h = inl (raw_token_tested pairs s hyphe
 in_comment_tested pairs s EndComment hyphen m n h = inr (refl, ends_tested pairs s comment hyphen m n h)
 in_comment_tested pairs s _ hyphen m n h = absurd cc
 
-step_tested : (pairs : List Pair) (s : List ℕ) (mode : Mode) (t : Token) (hyphen : Bool) (m n : ℕ) → step_test pairs s mode t hyphen m n ≡ true → Step pairs s mode t hyphen m n
+pub step_tested : (pairs : List Pair) (s : List ℕ) (mode : Mode) (t : Token) (hyphen : Bool) (m n : ℕ) → step_test pairs s mode t hyphen m n ≡ true → Step pairs s mode t hyphen m n
 step_tested pairs s outside t hyphen m n h = outside_tested pairs s t hyphen m n h
 step_tested pairs s (in_tag sort in_path) t hyphen m n h = in_tag_tested pairs s sort in_path t hyphen m n h
 step_tested pairs s in_comment t hyphen m n h = in_comment_tested pairs s t hyphen m n h
