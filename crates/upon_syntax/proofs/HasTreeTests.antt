@@ -1,5 +1,5 @@
 -- Whether a text has a given tree, as a test that computes.
-use Rattle.std.proofs.Common.{◌≡◌, ℕ, ◌&&◌, List, [], ◌∷◌, Bool, true, false, Option, Some, None, refl}
+use Rattle.std.proofs.Common.{◌≡◌, ℕ, ◌&&◌, List, [], ◌∷◌, Bool, true, false, Some, None, refl}
 use Rattle.upon_types.specs.Tree.{Statements}
 use Rattle.upon_syntax.specs.Search.{Pair}
 use Rattle.upon_syntax.specs.Cut.{Lexeme, outside}

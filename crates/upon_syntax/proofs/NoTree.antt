@@ -1,20 +1,13 @@
 -- Tokens that no tree reads: those with which no statement begins, and a number that is no integer.
-use Rattle.std.proofs.Common.{◌≡◌, ◌⊎◌, inl, inr, ℕ, ℤ, List, [], ◌∷◌, length, Bool, true, false, Option, Some, None, refl, ap, sym, ◌∙◌, subst}
+use Rattle.std.proofs.Common.{◌≡◌, ℕ, List, [], ◌∷◌, Bool, true, false, refl, ap, ◌∙◌, subst}
 use Rattle.upon_types.specs.declared.types.Span.{Span}
 use Rattle.upon_types.specs.declared.types.token.Token.{Token}
-use Rattle.upon_types.specs.declared.types.token.Token.TheVariants.{Raw, BeginExpr, BeginBlock, OpenBracket, OpenBrace, OpenParen, Keyword, Ident, Number, String}
-use Rattle.upon_types.specs.declared.types.ast.path.AccessOp.{AccessOp}
-use Rattle.upon_types.specs.declared.types.ast.path.AccessOp.TheVariants.{Direct, Optional}
-use Rattle.upon_types.specs.Place.{part}
-use Rattle.upon_types.specs.Val.{Val, none_val, bool_val, int_val, text_val, list_val, map_val}
-use Rattle.upon_types.specs.Expression.{Expression, base, filtered, Base, var, literal, list, mapping, paren, call}
+use Rattle.upon_types.specs.declared.types.token.Token.TheVariants.{Raw, BeginExpr, BeginBlock}
 use Rattle.upon_types.specs.Tree.{Statement, raw, inline_expr, include, if_else, for_loop, with, Statements, no_statements, statement_then}
 use Rattle.upon_syntax.specs.Search.{Pair, HasTexts}
-use Rattle.upon_syntax.specs.Cut.{Lexeme, outside, Cut}
+use Rattle.upon_syntax.specs.Cut.{Lexeme, outside}
 use Rattle.upon_syntax.specs.Shown.{shown_lexemes}
-use Rattle.upon_syntax.specs.Literal.{IsInteger}
 use Rattle.upon_syntax.specs.Tokens.{significant, Goes}
-use Rattle.upon_syntax.specs.Expressions.{op_token, sign_token, IsLiteral, IsBase, IsExpression}
 use Rattle.upon_syntax.specs.Grammar.{BeginsBlock, IsStatement, AreStatements, HasTree}
 use Rattle.upon_syntax.specs.OneCut.{one_cut}
 use Rattle.upon_syntax.proofs.WholeCut.{cut_test, cut_tested}

@@ -1,5 +1,5 @@
 -- Reading an expression from tokens by its tree.
-use Rattle.std.proofs.Common.{◌≡◌, ◌⊎◌, inl, inr, ℕ, ◌==◌, List, Bool, true, Option, Some, None, refl}
+use Rattle.std.proofs.Common.{◌≡◌, ◌⊎◌, inl, inr, ℕ, ◌==◌, List, Some, None}
 use Rattle.upon_types.specs.declared.types.Span.{Span}
 use Rattle.upon_types.specs.declared.types.token.Token.TheVariants.{OpenBracket, CloseBracket, OpenBrace, CloseBrace, OpenParen, CloseParen, Pipe, Comma, Colon}
 use Rattle.upon_types.specs.Path.{Step}
@@ -16,9 +16,9 @@ read_first s step before = or_read (read_bare s step before) (read_step s step b
 
 first_read : (s : List ℕ) (step : Step) (before rest : List Lexeme) → read_first s step before ≡ Some rest → IsBareName s step before rest ⊎ IsStep s step before rest
 first_read s step before rest h = elim (one_read (read_bare s step before) (read_step s step before) rest h) as (λ o. IsBareName s step before rest ⊎ IsStep s step before rest) [
-    | inl a ↦ inl (bare_read s step before rest a)
-    | inr a ↦ inr (step_read s step before rest a)
-  ]
+  | inl a ↦ inl (bare_read s step before rest a)
+  | inr a ↦ inr (step_read s step before rest a)
+]
 
 abbrev mutual
   pub read_base : List ℕ → Base → List Lexeme → Left

@@ -1,13 +1,13 @@
 -- Reading the parts of an expression that hold no expression: paths, literals and brackets.
-use Rattle.std.proofs.Common.{◌≡◌, ◌⊎◌, inl, inr, ℕ, ◌==◌, ◌&&◌, ℤ, List, [], ◌∷◌, Bool, true, false, Option, Some, None, refl, ap, sym, codes}
+use Rattle.std.proofs.Common.{◌≡◌, ◌⊎◌, inl, inr, ℕ, ◌==◌, ◌&&◌, ℤ, List, [], ◌∷◌, Bool, true, false, Some, None, ap, codes}
 use Rattle.upon_types.specs.declared.types.Span.{Span}
 use Rattle.upon_types.specs.declared.types.token.Token.{Token}
-use Rattle.upon_types.specs.declared.types.token.Token.TheVariants.{OpenBracket, CloseBracket, OpenBrace, CloseBrace, OpenParen, CloseParen, Pipe, Comma, Colon, Index, Number}
+use Rattle.upon_types.specs.declared.types.token.Token.TheVariants.{Comma, Index, Number}
 use Rattle.upon_types.specs.declared.types.ast.path.AccessOp.{AccessOp}
 use Rattle.upon_types.specs.declared.types.ast.path.AccessOp.TheVariants.{Direct, Optional}
 use Rattle.upon_types.specs.Place.{part}
 use Rattle.upon_types.specs.Val.{Val, none_val, bool_val, int_val, text_val, list_val, map_val}
-use Rattle.upon_types.specs.Path.{Word, Selector, by_index, by_key, Step, selector_span}
+use Rattle.upon_types.specs.Path.{Selector, by_index, by_key, Step, selector_span}
 use Rattle.upon_syntax.specs.Cut.{Lexeme}
 use Rattle.upon_syntax.specs.Tokens.{from_to}
 use Rattle.upon_syntax.specs.Expressions.{op_token, sign_token, IsAccess, IsStep, IsBareName, IsSteps, IsUnsigned, IsSigned, IsLiteral, Opens, Closes, ClosesList}
@@ -86,9 +86,9 @@ signed_read_by s z span minus before rest h =
 
 signed_read : (s : List ℕ) (z : ℤ) (span : Span) (before rest : List Lexeme) → read_signed s z span before ≡ Some rest → IsSigned s z span before rest
 signed_read s z span before rest h = elim (one_read (read_signed_by s z span true before) (read_signed_by s z span false before) rest h) as (λ o. IsSigned s z span before rest) [
-    | inl a ↦ signed_read_by s z span true before rest a
-    | inr a ↦ signed_read_by s z span false before rest a
-  ]
+  | inl a ↦ signed_read_by s z span true before rest a
+  | inr a ↦ signed_read_by s z span false before rest a
+]
 
 abbrev pub read_literal : List ℕ → Val → Span → List Lexeme → Left
 read_literal s (bool_val true) span before = read_word s (codes "true") span before
@@ -103,9 +103,9 @@ pub literal_read : (s : List ℕ) (v : Val) (span : Span) (before rest : List Le
 literal_read s (bool_val true) span before rest h = word_read s (codes "true") span before rest h
 literal_read s (bool_val false) span before rest h = word_read s (codes "false") span before rest h
 literal_read s (int_val z) span before rest h = elim (one_read (read_unsigned s z span before) (read_signed s z span before) rest h) as (λ o. IsUnsigned s z span before rest ⊎ IsSigned s z span before rest) [
-    | inl a ↦ inl (unsigned_read s z span before rest a)
-    | inr a ↦ inr (signed_read s z span before rest a)
-  ]
+  | inl a ↦ inl (unsigned_read s z span before rest a)
+  | inr a ↦ inr (signed_read s z span before rest a)
+]
 literal_read s (text_val t) span before rest h = text_read s (record { text = t; span = span }) before rest h
 literal_read s none_val span before rest h = absurd cc
 literal_read s (list_val vs) span before rest h = absurd cc
@@ -129,6 +129,6 @@ closes_read t span before rest h = let a = read_when _ (read_by t before) rest h
 
 pub closes_list_read : (t : Token) (span : Span) (before rest : List Lexeme) → read_closes_list t span before ≡ Some rest → ClosesList t span before rest
 closes_list_read t span before rest h = elim (one_read (read_closes t span before) (then_read (read_by Comma before) (read_closes t span)) rest h) as (λ o. ClosesList t span before rest) [
-    | inl a ↦ inl (closes_read t span before rest a)
-    | inr a ↦ let b = both_read (read_by Comma before) (read_closes t span) rest a in inr (b.0, by_read Comma before b.0 b.1, closes_read t span b.0 rest b.2)
-  ]
+  | inl a ↦ inl (closes_read t span before rest a)
+  | inr a ↦ let b = both_read (read_by Comma before) (read_closes t span) rest a in inr (b.0, by_read Comma before b.0 b.1, closes_read t span b.0 rest b.2)
+]

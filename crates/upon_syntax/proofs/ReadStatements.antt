@@ -1,5 +1,5 @@
 -- Reading a template from tokens by its tree.
-use Rattle.std.proofs.Common.{◌≡◌, ◌⊎◌, inl, inr, ℕ, List, Bool, true, false, Option, Some, None, refl, codes}
+use Rattle.std.proofs.Common.{◌≡◌, inl, inr, ℕ, List, Bool, true, false, Option, Some, None, codes}
 use Rattle.upon_types.specs.declared.types.Span.{Span}
 use Rattle.upon_types.specs.declared.types.token.Token.TheVariants.{Raw, BeginExpr, EndExpr, BeginBlock, EndBlock, Comma}
 use Rattle.upon_types.specs.Path.{Word, LoopNames, item, key_value}
@@ -159,9 +159,9 @@ mutual
       let tagged : Left = then_read (then_read (read_word_tag s (codes "else") before) (read_statements s body)) (read_word_tag s (codes "endif")) in
       elim (one_read tagged (read_else_if s body before) rest h) as (λ o. IsElse s (otherwise body) before rest) [
         | inl k ↦
-          let b = both_read (then_read (read_word_tag s (codes "else") before) (read_statements s body)) (read_word_tag s (codes "endif")) rest k in
-          let a = both_read (read_word_tag s (codes "else") before) (read_statements s body) b.0 b.1 in
-          inl (a.0, b.0, word_tag_read s (codes "else") before a.0 a.1, statements_read s body a.0 b.0 a.2, word_tag_read s (codes "endif") b.0 rest b.2)
+            let b = both_read (then_read (read_word_tag s (codes "else") before) (read_statements s body)) (read_word_tag s (codes "endif")) rest k in
+            let a = both_read (read_word_tag s (codes "else") before) (read_statements s body) b.0 b.1 in
+            inl (a.0, b.0, word_tag_read s (codes "else") before a.0 a.1, statements_read s body a.0 b.0 a.2, word_tag_read s (codes "endif") b.0 rest b.2)
         | inr k ↦ inr (else_if_read s body before rest k)
       ]
 

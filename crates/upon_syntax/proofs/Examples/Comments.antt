@@ -1,5 +1,5 @@
 -- Texts with comments, and the trees that they have: a comment leaves nothing.
-use Rattle.std.proofs.Common.{◌≡◌, ℕ, List, [], ◌∷◌, true, false, refl, codes}
+use Rattle.std.proofs.Common.{[], ◌∷◌, refl, codes}
 use Rattle.upon_syntax.proofs.Computing.{computing}
 use Rattle.upon_types.specs.declared.types.token.Token.TheVariants.{Raw, BeginComment, EndComment}
 use Rattle.upon_types.specs.Tree.{raw, no_statements}

@@ -1,5 +1,5 @@
 -- Texts under other delimiters, and the trees that they have.
-use Rattle.std.proofs.Common.{◌≡◌, ℕ, pos, List, [], ◌∷◌, true, false, refl, codes}
+use Rattle.std.proofs.Common.{ℕ, pos, List, [], ◌∷◌, refl, codes}
 use Rattle.upon_syntax.proofs.Computing.{computing}
 use Rattle.upon_types.specs.declared.types.Delimiter.TheVariants as delimiter
 use Rattle.upon_types.specs.declared.types.token.Token.TheVariants.{Raw, BeginExpr, EndExpr, Whitespace, Ident, Number}

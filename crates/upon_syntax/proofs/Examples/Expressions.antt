@@ -1,15 +1,15 @@
 -- Texts with an expression, and the trees that they have.
-use Rattle.std.proofs.Common.{◌≡◌, ℕ, pos, List, [], ◌∷◌, true, false, refl, codes}
+use Rattle.std.proofs.Common.{pos, [], ◌∷◌, refl, codes}
 use Rattle.upon_syntax.proofs.Computing.{computing}
 use Rattle.upon_types.specs.declared.types.token.Token.TheVariants.{Raw, BeginExpr, EndExpr, OpenBracket, CloseBracket, OpenBrace, CloseBrace, OpenParen, CloseParen, Dot, QuestionDot, Pipe, Comma, Colon, Whitespace, Ident, Index, Number, String}
 use Rattle.upon_types.specs.declared.types.ast.path.AccessOp.TheVariants.{Direct, Optional}
 use Rattle.upon_types.specs.Path.{by_index, by_key}
 use Rattle.upon_types.specs.Expression.{base, filtered, var, list, mapping, paren, call, no_bases, no_items, item_then, no_arguments, arguments}
-use Rattle.upon_types.specs.Tree.{raw, inline_expr}
+use Rattle.upon_types.specs.Tree.{raw}
 use Rattle.upon_syntax.specs.Searcher.{default_pairs}
 use Rattle.upon_syntax.specs.Grammar.{HasTree}
 use Rattle.upon_syntax.proofs.HasTreeTests.{has_tree_tested}
-use Rattle.upon_syntax.proofs.Examples.Short.{at, lex, braced, word, bare, step, name, number, quote, one_base, two_bases, one, two, shows, only, only_expression}
+use Rattle.upon_syntax.proofs.Examples.Short.{at, lex, braced, word, bare, step, name, number, quote, two_bases, two, shows, only, only_expression}
 
 -- `{{ a }}}`: a tag, and a raw `}`
 name_and_brace : HasTree default_pairs (codes "{{ a }}}") (two (shows (name (codes "a") 3 4) 0 7) (raw (at 7 8)))

@@ -1,7 +1,7 @@
 -- Texts with a literal, and the trees that they have.
-use Rattle.std.proofs.Common.{◌≡◌, ℕ, pos, negsuc, List, [], ◌∷◌, true, false, refl, codes}
+use Rattle.std.proofs.Common.{pos, negsuc, [], ◌∷◌, true, false, refl, codes}
 use Rattle.upon_syntax.proofs.Computing.{computing}
-use Rattle.upon_types.specs.declared.types.token.Token.TheVariants.{BeginExpr, EndExpr, Plus, Minus, Whitespace, Keyword, Number, String}
+use Rattle.upon_types.specs.declared.types.token.Token.TheVariants.{Plus, Minus, Whitespace, Keyword, Number, String}
 use Rattle.upon_types.specs.Val.{bool_val}
 use Rattle.upon_types.specs.Expression.{literal}
 use Rattle.upon_syntax.specs.Searcher.{default_pairs}

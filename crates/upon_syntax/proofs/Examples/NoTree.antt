@@ -1,12 +1,11 @@
 -- Texts that have no tree.
-use Rattle.std.proofs.Common.{◌≡◌, ℕ, ◌^◌, ◌<◌, ℤ, pos, List, [], ◌∷◌, Option, Some, None, FitsSigned, true, false, refl, codes, sym, ap, subst, arith, ◌∙◌}
+use Rattle.std.proofs.Common.{◌≡◌, ◌^◌, ◌<◌, ℤ, pos, [], ◌∷◌, FitsSigned, false, refl, codes, ap, subst, arith, ◌∙◌}
 use Rattle.std.specs.Int.{w64}
 use Rattle.upon_syntax.proofs.Computing.{computing}
 use Rattle.upon_types.specs.declared.types.token.Token.TheVariants.{Raw, BeginExpr, EndExpr, BeginComment, EndComment, Whitespace, Ident, Number}
 use Rattle.upon_types.specs.Tree.{Statements}
 use Rattle.upon_syntax.specs.Searcher.{default_pairs}
 use Rattle.upon_syntax.specs.DefaultTexts.{default_texts}
-use Rattle.upon_syntax.specs.Cut.{Lexeme}
 use Rattle.upon_syntax.specs.Literal.{sum_of_digits, signed, IsInteger}
 use Rattle.upon_syntax.specs.Grammar.{HasTree}
 use Rattle.upon_syntax.proofs.NoTree.{no_tree, no_statement_begins}

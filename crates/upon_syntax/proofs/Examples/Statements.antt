@@ -1,5 +1,5 @@
 -- Texts with tags, and the trees that they have.
-use Rattle.std.proofs.Common.{◌≡◌, ℕ, pos, List, [], ◌∷◌, Option, Some, None, true, false, refl, codes}
+use Rattle.std.proofs.Common.{pos, [], ◌∷◌, Some, None, true, false, refl, codes}
 use Rattle.upon_syntax.proofs.Computing.{computing}
 use Rattle.upon_types.specs.declared.types.token.Token.TheVariants.{Raw, BeginExpr, EndExpr, BeginBlock, EndBlock, OpenBracket, CloseBracket, Dot, Comma, Whitespace, Keyword, Ident, Number, String}
 use Rattle.upon_types.specs.declared.types.ast.path.AccessOp.TheVariants.{Direct}

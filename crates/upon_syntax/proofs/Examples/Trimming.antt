@@ -1,5 +1,5 @@
 -- Texts with hyphens, and the trees that they have: a hyphen takes the whitespace of the raw part beside it.
-use Rattle.std.proofs.Common.{◌≡◌, ℕ, pos, List, [], ◌∷◌, true, false, refl, codes}
+use Rattle.std.proofs.Common.{pos, [], ◌∷◌, false, refl, codes}
 use Rattle.upon_syntax.proofs.Computing.{computing}
 use Rattle.upon_types.specs.declared.types.token.Token.TheVariants.{Raw, BeginExpr, EndExpr, BeginBlock, EndBlock, Whitespace, Keyword, Ident, Number}
 use Rattle.upon_types.specs.Expression.{base}
