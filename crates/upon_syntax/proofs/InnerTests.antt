@@ -34,7 +34,7 @@ each_passes : (test : ℕ → Bool) (cs : List ℕ) → list_all test cs ≡ tru
 each_passes test [] h = tt
 each_passes test (c ∷ cs) h = (left_true _ _ h, each_passes test cs (right_true _ _ h))
 
-not_false : (b : Bool) → not b ≡ true → b ≡ false
+pub not_false : (b : Bool) → not b ≡ true → b ≡ false
 not_false true h = absurd cc
 not_false false h = refl
 

@@ -19,6 +19,6 @@ pub mod ReadStatements
 pub mod HasTreeTests
 pub mod NoTree
 pub mod NoNumber
-pub mod OpenTag
+pub mod NoCut
 pub mod Examples
 pub mod Computing

@@ -1,5 +1,5 @@
 -- Texts with an expression, and the trees that they have.
-use Rattle.std.proofs.Common.{pos, [], ◌∷◌, refl, codes}
+use Rattle.std.proofs.Common.{pos, [], ◌∷◌, refl, codes, encode_utf8_all}
 use Rattle.upon_syntax.proofs.Computing.{computing}
 use Rattle.upon_types.specs.declared.types.token.Token.TheVariants.{Raw, BeginExpr, EndExpr, OpenBracket, CloseBracket, OpenBrace, CloseBrace, OpenParen, CloseParen, Dot, QuestionDot, Pipe, Comma, Colon, Whitespace, Ident, Index, Number, String}
 use Rattle.upon_types.specs.declared.types.ast.path.AccessOp.TheVariants.{Direct, Optional}
@@ -9,7 +9,7 @@ use Rattle.upon_types.specs.Tree.{raw}
 use Rattle.upon_syntax.specs.Searcher.{default_pairs}
 use Rattle.upon_syntax.specs.Grammar.{HasTree}
 use Rattle.upon_syntax.proofs.HasTreeTests.{has_tree_tested}
-use Rattle.upon_syntax.proofs.Examples.Short.{at, lex, braced, word, bare, step, name, number, quote, two_bases, two, shows, only, only_expression}
+use Rattle.upon_syntax.proofs.Examples.Short.{at, lex, braced, word, bare, step, name, number, quote, one_base, two_bases, two, shows, only, only_expression}
 
 -- `{{ a }}}`: a tag, and a raw `}`
 name_and_brace : HasTree default_pairs (codes "{{ a }}}") (two (shows (name (codes "a") 3 4) 0 7) (raw (at 7 8)))
@@ -80,3 +80,28 @@ empty_map = has_tree_tested _ _ (braced (lex OpenBrace 3 4 ∷ lex CloseBrace 4 
 map_of_a_list : HasTree default_pairs (codes "{{ {\"a\": [1, b.c?.0,]} }}") (only (mapping (item_then (word (codes "a") 4 7) (list (two_bases (number (pos 1) 10 11) (var (bare (codes "b") 13 14) (step Direct (by_key (word (codes "c") 15 16)) 14 16 ∷ step Optional (by_index 0 (at 18 19)) 16 19 ∷ []))) (at 9 21)) no_items) (at 3 22)) 25)
 unfolding computing
 map_of_a_list = has_tree_tested _ _ (braced (lex OpenBrace 3 4 ∷ lex String 4 7 ∷ lex Colon 7 8 ∷ lex Whitespace 8 9 ∷ lex OpenBracket 9 10 ∷ lex Number 10 11 ∷ lex Comma 11 12 ∷ lex Whitespace 12 13 ∷ lex Ident 13 14 ∷ lex Dot 14 15 ∷ lex Ident 15 16 ∷ lex QuestionDot 16 18 ∷ lex Index 18 19 ∷ lex Comma 19 20 ∷ lex CloseBracket 20 21 ∷ lex CloseBrace 21 22 ∷ []) 22) _ refl
+
+-- `{{a}}`
+no_blanks : HasTree default_pairs (codes "{{a}}") (only (name (codes "a") 2 3) 5)
+unfolding computing
+no_blanks = has_tree_tested _ _ (lex BeginExpr 0 2 ∷ lex Ident 2 3 ∷ lex EndExpr 3 5 ∷ []) _ refl
+
+-- `{{ iffy }}`: a name may begin with a keyword
+longer_than_keyword : HasTree default_pairs (codes "{{ iffy }}") (only (name (codes "iffy") 3 7) 10)
+unfolding computing
+longer_than_keyword = has_tree_tested _ _ (braced (lex Ident 3 7 ∷ []) 7) _ refl
+
+-- `{{ f (1) }}`: whitespace may stand before the parenthesis
+call_with_blank : HasTree default_pairs (codes "{{ f (1) }}") (only (call (word (codes "f") 3 4) (arguments (one_base (number (pos 1) 6 7)) (at 3 7)) (at 3 8)) 11)
+unfolding computing
+call_with_blank = has_tree_tested _ _ (braced (lex Ident 3 4 ∷ lex Whitespace 4 5 ∷ lex OpenParen 5 6 ∷ lex Number 6 7 ∷ lex CloseParen 7 8 ∷ []) 8) _ refl
+
+-- `{{ .5 }}`: a path of an index alone, and no number
+leading_index : HasTree default_pairs (codes "{{ .5 }}") (only (var (step Direct (by_index 5 (at 4 5)) 3 5) []) 8)
+unfolding computing
+leading_index = has_tree_tested _ _ (braced (lex Dot 3 4 ∷ lex Index 4 5 ∷ []) 5) _ refl
+
+-- `{{ é }}`: places count bytes
+beyond_ascii : HasTree default_pairs (encode_utf8_all (codes "{{ é }}")) (only (name (195 ∷ 169 ∷ []) 3 5) 8)
+unfolding computing
+beyond_ascii = has_tree_tested _ _ (braced (lex Ident 3 5 ∷ []) 5) _ refl

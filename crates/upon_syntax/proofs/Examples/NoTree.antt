@@ -10,7 +10,7 @@ use Rattle.upon_syntax.specs.Literal.{sum_of_digits, signed, IsInteger}
 use Rattle.upon_syntax.specs.Grammar.{HasTree}
 use Rattle.upon_syntax.proofs.NoTree.{no_tree, no_statement_begins}
 use Rattle.upon_syntax.proofs.NoNumber.{StandsForInteger, no_number_reads}
-use Rattle.upon_syntax.proofs.OpenTag.{no_tree_inside}
+use Rattle.upon_syntax.proofs.NoCut.{no_tree_inside, no_tree_past}
 use Rattle.upon_syntax.proofs.Examples.Short.{lex, trimming, braced}
 
 -- `{##}`: an empty comment
@@ -59,3 +59,18 @@ open_tag = no_tree_inside default_pairs (codes "{{ a") (lex BeginExpr 0 2 ∷ le
 open_comment : (tree : Statements) → HasTree default_pairs (codes "a {# b") tree → ⊥
 unfolding computing
 open_comment = no_tree_inside default_pairs (codes "a {# b") (lex Raw 0 2 ∷ lex BeginComment 2 4 ∷ lex Raw 4 6 ∷ []) default_texts refl refl
+
+-- `a }}`: an end stands outside a tag
+stray_end : (tree : Statements) → HasTree default_pairs (codes "a }}") tree → ⊥
+unfolding computing
+stray_end = no_tree_past default_pairs (codes "a }}") (lex Raw 0 2 ∷ []) 2 4 default_texts refl refl refl
+
+-- `{{ a %}`: the end is a block's
+other_end : (tree : Statements) → HasTree default_pairs (codes "{{ a %}") tree → ⊥
+unfolding computing
+other_end = no_tree_past default_pairs (codes "{{ a %}") (lex BeginExpr 0 2 ∷ lex Whitespace 2 3 ∷ lex Ident 3 4 ∷ lex Whitespace 4 5 ∷ []) 5 7 default_texts refl refl refl
+
+-- `{# {{ #}`: a comment holds no other delimiter
+delimiter_in_comment : (tree : Statements) → HasTree default_pairs (codes "{# {{ #}") tree → ⊥
+unfolding computing
+delimiter_in_comment = no_tree_past default_pairs (codes "{# {{ #}") (lex BeginComment 0 2 ∷ lex Raw 2 3 ∷ []) 3 5 default_texts refl refl refl
