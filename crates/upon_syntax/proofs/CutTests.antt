@@ -1,21 +1,9 @@
 -- Whether a text is cut into given tokens, as a test that computes.
-use Rattle.std.proofs.Common.{◌≡◌, ◌⊎◌, inl, inr, ℕ, zero, suc, ◌+◌, ◌-◌, ◌<◌, ◌≤◌, ◌==◌, ◌&&◌, ◌||◌, not, nat_lt, nat_le, List, [], ◌∷◌, ◌++◌, length, take, drop, Bool, true, false, Option, Some, None, refl, sym, ap, subst, ◌∙◌, arith, if◌then◌else◌, codes, encode_utf8, encode_utf8_all}
-use Rattle.std.specs.Str.{bytes_eq, chars}
-use Rattle.std.specs.Char.{is_ascii_digit}
-use Rattle.unicode_ident.specs.Ident.{is_xid_continue}
-use Rattle.upon_types.specs.declared.types.Span.{Span}
+use Rattle.std.proofs.Common.{◌≡◌, ◌⊎◌, inl, inr, ℕ, zero, suc, ◌+◌, ◌==◌, ◌&&◌, ◌||◌, nat_lt, nat_le, List, length, Bool, true, false, Option, Some, None, refl, subst, arith, if◌then◌else◌}
 use Rattle.upon_types.specs.declared.types.Delimiter.{Delimiter}
-use Rattle.upon_types.specs.declared.types.token.Token.{Token}
-use Rattle.upon_types.specs.declared.types.token.Token.TheVariants.{Raw, BeginExpr, EndExpr, BeginBlock, EndBlock, BeginComment, EndComment, OpenBracket, CloseBracket, OpenBrace, CloseBrace, OpenParen, CloseParen, Dot, QuestionDot, Pipe, Comma, Colon, Plus, Minus, Whitespace, Keyword, Ident, Index, Number, String}
-use Rattle.upon_types.specs.Place.{part}
-use Rattle.upon_syntax.specs.Search.{Pair, text_at, kind_at, Occurs, NoneAt, NoneFrom, IsBest, Stands}
-use Rattle.upon_syntax.specs.Words.{EachPasses, IsRun, is_tag_space, is_keyword}
+use Rattle.upon_syntax.specs.Search.{Pair, text_at, kind_at, NoneFrom, Stands}
 use Rattle.upon_syntax.specs.Raw.{IsRaw}
-use Rattle.upon_syntax.specs.Delimiters.{Sort, expression, block, comment, begun, ended, has_hyphen, begin_token, end_token}
-use Rattle.upon_syntax.specs.Inside.{kind_by, continues_number, Piece, plain, escaped, is_piece, EachIsPiece, quoted, IsQuoted, Extent, begins_as, IsInner}
-use Rattle.upon_syntax.specs.OneRun.{one_char, char_has_bytes}
-use Rattle.upon_syntax.proofs.Tests.{left_true, right_true, each_below, each_below_passes, occurs_test, occurs_tested, none_test, none_tested, best_test, best_tested}
-use Rattle.upon_syntax.proofs.TokenTests.{is_sort, is_sort_tested, same_bool, one_bool, is_token, is_token_tested}
+use Rattle.upon_syntax.proofs.Tests.{left_true, right_true, each_below, each_below_passes, none_test, none_tested, best_test, best_tested}
 
 pub same_number : (a b : ℕ) → (a == b) ≡ true → a ≡ b
 same_number a b h = grind (arith, h)
@@ -28,9 +16,9 @@ found_below (suc n) test = if test n then Some n else found_below n test
 passes_found : (n : ℕ) (test : ℕ → Bool) (i : ℕ) → found_below n test ≡ Some i → test i ≡ true
 passes_found zero test i h = absurd cc
 passes_found (suc n) test i h = elim (test n) as (λ b. test n ≡ b → (if b then Some n else found_below n test) ≡ Some i → test i ≡ true) [
-    | true ↦ λ e k. let same : n ≡ i = cc in subst (λ j. test j ≡ true) same e
-    | false ↦ λ e k. passes_found n test i k
-  ] refl h
+  | true ↦ λ e k. let same : n ≡ i = cc in subst (λ j. test j ≡ true) same e
+  | false ↦ λ e k. passes_found n test i k
+] refl h
 
 abbrev pub best_at : List Pair → List ℕ → ℕ → Option ℕ
 best_at pairs s p = found_below (length pairs) (best_test pairs s p)
@@ -45,9 +33,9 @@ stands_test test pairs s m n = stands_by test pairs m n (best_at pairs s m)
 
 pub stands_tested : (test : Delimiter → Bool) (pairs : List Pair) (s : List ℕ) (m n : ℕ) → stands_test test pairs s m n ≡ true → (kind : Delimiter) × Stands pairs s kind m n × (test kind ≡ true)
 stands_tested test pairs s m n h = elim (best_at pairs s m) as (λ o. best_at pairs s m ≡ o → stands_by test pairs m n o ≡ true → (kind : Delimiter) × Stands pairs s kind m n × (test kind ≡ true)) [
-    | None ↦ λ e k. absurd cc
-    | Some i ↦ λ e k. (kind_at pairs i, record { index = i; best = best_tested pairs s m i (passes_found (length pairs) (best_test pairs s m) i e); of_kind = refl; to = same_number _ _ (right_true _ _ k) }, left_true _ _ k)
-  ] refl h
+  | None ↦ λ e k. absurd cc
+  | Some i ↦ λ e k. (kind_at pairs i, record { index = i; best = best_tested pairs s m i (passes_found (length pairs) (best_test pairs s m) i e); of_kind = refl; to = same_number _ _ (right_true _ _ k) }, left_true _ _ k)
+] refl h
 
 -- raw parts
 abbrev pub none_from_test : List Pair → List ℕ → ℕ → ℕ → Bool
@@ -72,15 +60,15 @@ raw_test pairs s m n = nat_lt m n && (nat_le n (length s) && (none_from_test pai
 
 raw_ends : (pairs : List Pair) (s : List ℕ) (n : ℕ) → ((n == length s) || some_stands (best_at pairs s n)) ≡ true → (n ≡ length s) ⊎ ((kind : Delimiter) × (to : ℕ) × Stands pairs s kind n to)
 raw_ends pairs s n h = elim (n == length s) as (λ b. (n == length s) ≡ b → (b || some_stands (best_at pairs s n)) ≡ true → (n ≡ length s) ⊎ ((kind : Delimiter) × (to : ℕ) × Stands pairs s kind n to)) [
-    | true ↦ λ e k. inl (same_number _ _ e)
-    | false ↦ λ e k. inr (some_ends k)
-  ] refl h
+  | true ↦ λ e k. inl (same_number _ _ e)
+  | false ↦ λ e k. inr (some_ends k)
+] refl h
   where
     some_ends : some_stands (best_at pairs s n) ≡ true → (kind : Delimiter) × (to : ℕ) × Stands pairs s kind n to
     some_ends k = elim (best_at pairs s n) as (λ o. best_at pairs s n ≡ o → some_stands o ≡ true → (kind : Delimiter) × (to : ℕ) × Stands pairs s kind n to) [
-        | None ↦ λ e j. absurd cc
-        | Some i ↦ λ e j. (kind_at pairs i, n + length (text_at pairs i), record { index = i; best = best_tested pairs s n i (passes_found (length pairs) (best_test pairs s n) i e); of_kind = refl; to = refl })
-      ] refl k
+      | None ↦ λ e j. absurd cc
+      | Some i ↦ λ e j. (kind_at pairs i, n + length (text_at pairs i), record { index = i; best = best_tested pairs s n i (passes_found (length pairs) (best_test pairs s n) i e); of_kind = refl; to = refl })
+    ] refl k
 
 pub raw_tested : (pairs : List Pair) (s : List ℕ) (m n : ℕ) → raw_test pairs s m n ≡ true → IsRaw pairs s m n
 raw_tested pairs s m n h =

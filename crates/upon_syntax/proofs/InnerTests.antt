@@ -1,6 +1,6 @@
 -- Whether a token stands inside a tag, as a test that computes.
-use Rattle.std.proofs.Common.{◌≡◌, ℕ, zero, suc, ◌+◌, ◌-◌, ◌==◌, ◌&&◌, ◌||◌, not, nat_lt, nat_le, List, [], ◌∷◌, ◌++◌, length, take, drop, length-take, length-drop, ◌<◌, ◌≤◌, Bool, true, false, Option, Some, None, refl, sym, ap, subst, ◌∙◌, arith, codes, encode_utf8, encode_utf8_all, if◌then◌else◌}
-use Rattle.std.specs.Str.{bytes_eq, chars}
+use Rattle.std.proofs.Common.{◌≡◌, ℕ, ◌+◌, ◌-◌, ◌==◌, ◌&&◌, not, nat_le, List, [], ◌∷◌, length, take, drop, length-take, length-drop, ◌<◌, ◌≤◌, Bool, true, false, Some, refl, ap, subst, arith, codes, encode_utf8, encode_utf8_all, if◌then◌else◌}
+use Rattle.std.specs.Str.{chars}
 use Rattle.std.specs.Char.{is_ascii_digit}
 use Rattle.std.specs.List.{list_all}
 use Rattle.unicode_ident.specs.Ident.{is_xid_continue}
@@ -9,10 +9,10 @@ use Rattle.upon_types.specs.declared.types.token.Token.TheVariants.{Raw, BeginEx
 use Rattle.upon_types.specs.Place.{part}
 use Rattle.upon_syntax.specs.Search.{Pair, Occurs}
 use Rattle.upon_syntax.specs.Words.{EachPasses, IsRun, is_tag_space, is_keyword}
-use Rattle.upon_syntax.specs.Inside.{kind_by, continues_number, Piece, plain, escaped, is_piece, EachIsPiece, pieces_text, quoted, IsQuoted, Extent, begins_as, IsInner}
+use Rattle.upon_syntax.specs.Inside.{kind_by, continues_number, Piece, plain, escaped, is_piece, EachIsPiece, quoted, IsQuoted, Extent, begins_as, IsInner}
 use Rattle.upon_syntax.specs.OneRun.{one_char, char_has_bytes}
 use Rattle.upon_syntax.proofs.Tests.{left_true, right_true, occurs_test, occurs_tested, none_test, none_tested}
-use Rattle.upon_syntax.proofs.TokenTests.{same_bool, one_bool, is_token, is_token_tested}
+use Rattle.upon_syntax.proofs.TokenTests.{is_token, is_token_tested}
 use Rattle.upon_syntax.proofs.CutTests.{same_number}
 
 -- whether characters stand from m to n, each passes, and the next, if there is one, does not
@@ -34,7 +34,7 @@ each_passes : (test : ℕ → Bool) (cs : List ℕ) → list_all test cs ≡ tru
 each_passes test [] h = tt
 each_passes test (c ∷ cs) h = (left_true _ _ h, each_passes test cs (right_true _ _ h))
 
-not_false : (b : Bool) → not b ≡ true → b ≡ false
+pub not_false : (b : Bool) → not b ≡ true → b ≡ false
 not_false true h = absurd cc
 not_false false h = refl
 
@@ -69,7 +69,7 @@ abbrev pub each_is_piece : List Piece → Bool
 each_is_piece [] = true
 each_is_piece (p ∷ ps) = is_piece p && each_is_piece ps
 
-each_piece : (ps : List Piece) → each_is_piece ps ≡ true → EachIsPiece ps
+pub each_piece : (ps : List Piece) → each_is_piece ps ≡ true → EachIsPiece ps
 each_piece [] h = tt
 each_piece (p ∷ ps) h = (left_true _ _ h, each_piece ps (right_true _ _ h))
 

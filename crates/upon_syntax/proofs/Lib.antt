@@ -11,5 +11,14 @@ pub mod TokenTests
 pub mod CutTests
 pub mod InnerTests
 pub mod WholeCut
+pub mod LiteralTests
+pub mod ReadTokens
+pub mod ReadParts
+pub mod ReadExpressions
+pub mod ReadStatements
+pub mod HasTreeTests
+pub mod NoTree
+pub mod NoNumber
+pub mod NoCut
 pub mod Examples
 pub mod Computing

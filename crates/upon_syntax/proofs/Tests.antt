@@ -1,9 +1,8 @@
 -- Tests that compute, and what each shows of the places of a text.
-use Rattle.std.proofs.Common.{◌≡◌, ℕ, zero, suc, ◌+◌, ◌-◌, ◌<◌, ◌≤◌, ◌==◌, ◌&&◌, ◌||◌, not, nat_lt, nat_le, List, [], ◌∷◌, ◌++◌, length, take, drop, map, Bool, true, false, Option, Some, None, IsTrue, refl, sym, ap, subst, ◌∙◌, arith, get_or}
+use Rattle.std.proofs.Common.{◌≡◌, ℕ, zero, suc, ◌<◌, ◌≤◌, ◌&&◌, ◌||◌, not, nat_lt, nat_le, List, length, take, drop, Bool, true, false, refl, subst, arith}
 use Rattle.std.specs.Str.{bytes_eq}
-use Rattle.std.specs.Bool.{Decides}
 use Rattle.std.proofs.lemmas.Slice.Eq.{bytes_eq-Decides}
-use Rattle.upon_syntax.specs.Search.{Pair, text_at, kind_at, Occurs, NoneBelow, NoneAt, NoneFrom, IsBestBelow, IsBest, Stands}
+use Rattle.upon_syntax.specs.Search.{Pair, text_at, Occurs, NoneAt, IsBest}
 
 pub left_true : (a b : Bool) → (a && b) ≡ true → a ≡ true
 left_true true b h = refl
@@ -25,9 +24,9 @@ each_below (suc n) test = test n && each_below n test
 pub each_below_passes : (n : ℕ) (test : ℕ → Bool) → each_below n test ≡ true → (i : ℕ) → i < n → test i ≡ true
 each_below_passes zero test h i l = absurd (omega arith)
 each_below_passes (suc n) test h i l = elim (nat_lt i n) as (λ b. nat_lt i n ≡ b → test i ≡ true) [
-    | true ↦ λ e. each_below_passes n test (right_true _ _ h) i (grind (arith, e))
-    | false ↦ λ e. let same : n ≡ i = grind (arith, e) in subst (λ k. test k ≡ true) same (left_true _ _ h)
-  ] refl
+  | true ↦ λ e. each_below_passes n test (right_true _ _ h) i (grind (arith, e))
+  | false ↦ λ e. let same : n ≡ i = grind (arith, e) in subst (λ k. test k ≡ true) same (left_true _ _ h)
+] refl
 
 -- whether the text d stands in s at p
 abbrev pub occurs_test : List ℕ → ℕ → List ℕ → Bool
@@ -55,8 +54,8 @@ is_shorter pairs s p most j = not (occurs_test s p (text_at pairs j)) || nat_lt 
 
 abbrev pub best_test : List Pair → List ℕ → ℕ → ℕ → Bool
 best_test pairs s p i = nat_lt i (length pairs) && (occurs_test s p (text_at pairs i)
-  && (each_below (length pairs) (fits_under pairs s p (length (text_at pairs i)))
-  && each_below i (is_shorter pairs s p (length (text_at pairs i)))))
+    && (each_below (length pairs) (fits_under pairs s p (length (text_at pairs i)))
+    && each_below i (is_shorter pairs s p (length (text_at pairs i)))))
 
 or_second : (a b : Bool) → (not a || b) ≡ true → a ≡ true → b ≡ true
 or_second true b h k = h

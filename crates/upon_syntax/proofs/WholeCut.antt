@@ -1,11 +1,11 @@
 -- Whether a whole text is cut into given tokens, as a test that computes.
-use Rattle.std.proofs.Common.{◌≡◌, ◌⊎◌, inl, inr, ℕ, ◌==◌, ◌&&◌, not, List, [], ◌∷◌, length, Bool, true, false, Option, Some, None, refl, sym, ap, subst, ◌∙◌, if◌then◌else◌}
+use Rattle.std.proofs.Common.{◌≡◌, inl, inr, ℕ, ◌==◌, ◌&&◌, not, List, [], ◌∷◌, length, Bool, true, false, refl, if◌then◌else◌}
 use Rattle.upon_types.specs.declared.types.Delimiter.{Delimiter}
 use Rattle.upon_types.specs.declared.types.token.Token.{Token}
-use Rattle.upon_types.specs.declared.types.token.Token.TheVariants.{Raw, BeginExpr, EndExpr, BeginBlock, EndBlock, BeginComment, EndComment}
+use Rattle.upon_types.specs.declared.types.token.Token.TheVariants.{Raw, BeginExpr, BeginBlock, BeginComment, EndComment}
 use Rattle.upon_syntax.specs.Search.{Pair}
-use Rattle.upon_syntax.specs.Delimiters.{Sort, expression, block, comment, begun, ended, has_hyphen, begin_token, end_token}
-use Rattle.upon_syntax.specs.Cut.{Lexeme, Mode, outside, in_tag, in_comment, Begins, Ends, IsRawToken, IsBegin, IsEnd, Step, mode_after, Cut}
+use Rattle.upon_syntax.specs.Delimiters.{Sort, expression, block, comment, begun, ended, has_hyphen, end_token}
+use Rattle.upon_syntax.specs.Cut.{Lexeme, Mode, outside, in_tag, in_comment, Begins, Ends, IsRawToken, Step, mode_after, Cut}
 use Rattle.upon_syntax.proofs.Tests.{left_true, right_true}
 use Rattle.upon_syntax.proofs.TokenTests.{is_sort, is_sort_tested, same_bool, one_bool, same_token, one_token}
 use Rattle.upon_syntax.proofs.CutTests.{same_number, stands_test, stands_tested, raw_test, raw_tested}
@@ -65,16 +65,16 @@ no_hyphen false h = refl
 
 in_tag_tested : (pairs : List Pair) (s : List ℕ) (sort : Sort) (in_path : Bool) (t : Token) (hyphen : Bool) (m n : ℕ) → in_tag_test pairs s sort in_path t hyphen m n ≡ true → Step pairs s (in_tag sort in_path) t hyphen m n
 in_tag_tested pairs s sort in_path t hyphen m n h = elim (same_token t (end_token sort)) as (λ b. same_token t (end_token sort) ≡ b → (if b then stands_test (ends_by sort hyphen) pairs s m n else (not hyphen && inner_test pairs s in_path t m n)) ≡ true → Step pairs s (in_tag sort in_path) t hyphen m n) [
-    | true ↦ λ e k. inl (one_token _ _ e, ends_tested pairs s sort hyphen m n k)
-    | false ↦ λ e k. inr (no_hyphen _ (left_true _ _ k), inner_tested pairs s in_path t m n (right_true _ _ k))
-  ] refl h
+  | true ↦ λ e k. inl (one_token _ _ e, ends_tested pairs s sort hyphen m n k)
+  | false ↦ λ e k. inr (no_hyphen _ (left_true _ _ k), inner_tested pairs s in_path t m n (right_true _ _ k))
+] refl h
 
 in_comment_tested : (pairs : List Pair) (s : List ℕ) (t : Token) (hyphen : Bool) (m n : ℕ) → in_comment_test pairs s t hyphen m n ≡ true → Step pairs s in_comment t hyphen m n
 in_comment_tested pairs s Raw hyphen m n h = inl (raw_token_tested pairs s hyphen m n h)
 in_comment_tested pairs s EndComment hyphen m n h = inr (refl, ends_tested pairs s comment hyphen m n h)
 in_comment_tested pairs s _ hyphen m n h = absurd cc
 
-step_tested : (pairs : List Pair) (s : List ℕ) (mode : Mode) (t : Token) (hyphen : Bool) (m n : ℕ) → step_test pairs s mode t hyphen m n ≡ true → Step pairs s mode t hyphen m n
+pub step_tested : (pairs : List Pair) (s : List ℕ) (mode : Mode) (t : Token) (hyphen : Bool) (m n : ℕ) → step_test pairs s mode t hyphen m n ≡ true → Step pairs s mode t hyphen m n
 step_tested pairs s outside t hyphen m n h = outside_tested pairs s t hyphen m n h
 step_tested pairs s (in_tag sort in_path) t hyphen m n h = in_tag_tested pairs s sort in_path t hyphen m n h
 step_tested pairs s in_comment t hyphen m n h = in_comment_tested pairs s t hyphen m n h

@@ -1,11 +1,11 @@
 -- Texts and how they are cut.
-use Rattle.std.proofs.Common.{◌≡◌, ℕ, List, [], ◌∷◌, length, Bool, true, false, refl, codes}
+use Rattle.std.proofs.Common.{ℕ, [], ◌∷◌, false, refl, codes}
 use Rattle.upon_syntax.proofs.Computing.{computing}
 use Rattle.upon_types.specs.declared.types.token.Token.TheVariants.{Raw, BeginExpr, EndExpr, Whitespace, Ident}
 use Rattle.upon_types.specs.declared.types.token.Token.{Token}
 use Rattle.upon_syntax.specs.Searcher.{default_pairs}
 use Rattle.upon_syntax.specs.Cut.{Lexeme, outside, Cut}
-use Rattle.upon_syntax.proofs.WholeCut.{cut_test, cut_tested}
+use Rattle.upon_syntax.proofs.WholeCut.{cut_tested}
 
 abbrev lex : Token → ℕ → ℕ → Lexeme
 lex t m n = record { token = t; hyphen = false; span = record { m = m; n = n } }
