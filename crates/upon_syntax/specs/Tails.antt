@@ -49,3 +49,20 @@ among_or_behind (m ∷ mid) e rest (f ∷ fs) b more h l = elim (among_or_behind
   | inl found ↦ inl (found.0, (λ i. head_same m f (mid ++ (e ∷ rest)) (fs ++ (b ∷ more)) h i ∷ found.1 i))
   | inr same ↦ inr same
 ]
+
+-- how two splits of one row lie: the second token among the first of one, or among the first of the other, or both at one place
+pub data Meets (mid : List Lexeme) (e : Lexeme) (rest fs : List Lexeme) (b : Lexeme) (more : List Lexeme) : Type 0 where
+  sooner : (ms : List Lexeme) → mid ≡ fs ++ (b ∷ ms) → more ≡ ms ++ (e ∷ rest) → Meets mid e rest fs b more
+  later : (ms : List Lexeme) → fs ≡ mid ++ (e ∷ ms) → Meets mid e rest fs b more
+  together : mid ≡ fs → e ≡ b → rest ≡ more → Meets mid e rest fs b more
+
+deeper : (m f : Lexeme) (mid : List Lexeme) (e : Lexeme) (rest fs : List Lexeme) (b : Lexeme) (more : List Lexeme) → m ≡ f → Meets mid e rest fs b more → Meets (m ∷ mid) e rest (f ∷ fs) b more
+deeper m f mid e rest fs b more h (sooner ms i j) = sooner ms (λ k. h k ∷ i k) j
+deeper m f mid e rest fs b more h (later ms i) = later ms (λ k. sym h k ∷ i k)
+deeper m f mid e rest fs b more h (together i j l) = together (λ k. h k ∷ i k) j l
+
+pub meets : (mid : List Lexeme) (e : Lexeme) (rest fs : List Lexeme) (b : Lexeme) (more : List Lexeme) → (mid ++ (e ∷ rest)) ≡ (fs ++ (b ∷ more)) → Meets mid e rest fs b more
+meets [] e rest [] b more h = together refl (head_same e b rest more h) (rest_same e b rest more h)
+meets [] e rest (f ∷ fs) b more h = later fs (ap (λ x. x ∷ fs) (sym (head_same e f rest (fs ++ (b ∷ more)) h)))
+meets (m ∷ mid) e rest [] b more h = sooner mid (ap (λ x. x ∷ mid) (head_same m b (mid ++ (e ∷ rest)) more h)) (sym (rest_same m b (mid ++ (e ∷ rest)) more h))
+meets (m ∷ mid) e rest (f ∷ fs) b more h = deeper m f mid e rest fs b more (head_same m f (mid ++ (e ∷ rest)) (fs ++ (b ∷ more)) h) (meets mid e rest fs b more (rest_same m f (mid ++ (e ∷ rest)) (fs ++ (b ∷ more)) h))
