@@ -44,3 +44,5 @@ pub mod OneFirstFault
 pub mod NoTreeCut
 pub mod Fine
 pub mod FineTokens
+pub mod TagWalk
+pub mod SplitInTag
