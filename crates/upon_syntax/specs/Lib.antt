@@ -69,3 +69,5 @@ pub mod FineAt
 pub mod TagsWithin
 pub mod TagsInStatements
 pub mod OpenTagFine
+pub mod TagWalk
+pub mod SplitInTag
