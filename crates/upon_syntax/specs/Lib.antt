@@ -71,3 +71,4 @@ pub mod TagsInStatements
 pub mod OpenTagFine
 pub mod TagWalk
 pub mod SplitInTag
+pub mod NextToken
