@@ -72,3 +72,4 @@ pub mod OpenTagFine
 pub mod TagWalk
 pub mod SplitInTag
 pub mod NextToken
+pub mod NoTreeTag
