@@ -68,4 +68,5 @@ pub mod Tails
 pub mod FineAt
 pub mod TagsWithin
 pub mod TagsInStatements
+pub mod NoCommentToken
 pub mod OpenTagFine
