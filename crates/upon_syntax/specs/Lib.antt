@@ -70,3 +70,4 @@ pub mod TagsWithin
 pub mod TagsInStatements
 pub mod NoCommentToken
 pub mod OpenTagFine
+pub mod NoLiteralFault

@@ -1,5 +1,5 @@
 -- No begin of a comment is among the tokens of statements.
-use Rattle.std.proofs.Common.{◌≡◌, ◌⊎◌, inl, inr, ℕ, ◌+◌, ◌<◌, ◌≤◌, List, [], ◌∷◌, ◌++◌, length, Bool, true, false, Option, Some, None, refl, sym, ap, ◌∙◌, subst, arith, length-append}
+use Rattle.std.proofs.Common.{◌≡◌, inl, inr, ℕ, ◌<◌, List, [], ◌∷◌, ◌++◌, length, true, false, Option, None, refl, sym, ap, ◌∙◌, subst, arith, length-append}
 use Rattle.upon_types.specs.declared.types.token.Token.{Token}
 use Rattle.upon_types.specs.declared.types.token.Token.TheVariants.{Raw, BeginComment}
 use Rattle.upon_types.specs.Tree.{Statement, raw, inline_expr, include, if_else, for_loop, with, Statements, no_statements, statement_then, Else, no_else, otherwise}
@@ -10,7 +10,7 @@ use Rattle.upon_syntax.specs.Grammar.{IsStatement, AreStatements, IsElse, IsElse
 use Rattle.upon_syntax.specs.Tags.{IsTag, an_inline, an_include, an_if, an_else_if, an_else, an_endif, a_for, an_endfor, a_with, an_endwith}
 use Rattle.upon_syntax.specs.Fine.{TokenFine, Fine}
 use Rattle.upon_syntax.specs.FineAt.{last_or, fine_at}
-use Rattle.upon_syntax.specs.Tails.{Tail, tail_then, longer_or_tail, among_or_behind}
+use Rattle.upon_syntax.specs.Tails.{Tail, longer_or_tail, among_or_behind}
 use Rattle.upon_syntax.specs.TagShapes.{begins_a_tag, ends_a_tag, TagShape, tag_shape}
 use Rattle.upon_syntax.specs.TagsWithin.{shape_tail}
 use Rattle.upon_syntax.specs.TagsInStatements.{statement_tail, statements_tail}
