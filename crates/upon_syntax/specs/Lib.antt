@@ -68,8 +68,11 @@ pub mod Tails
 pub mod FineAt
 pub mod TagsWithin
 pub mod TagsInStatements
+pub mod NoCommentToken
 pub mod OpenTagFine
 pub mod TagWalk
 pub mod SplitInTag
 pub mod NextToken
 pub mod NoTreeTag
+pub mod NoLiteralFault
+pub mod NoTreeLiteral
