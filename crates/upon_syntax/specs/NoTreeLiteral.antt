@@ -114,8 +114,7 @@ module _ (pairs : List Pair) (s : List ℕ) (texts : HasTexts pairs) (p : ℕ) (
 
   pub no_tree_empty_comment : EmptyComment pairs s p place reason → ⊥
   no_tree_empty_comment f =
-      let step = inr (refl, f.ends) in
-      let ends = step_ends pairs s in_comment EndComment f.hyphen p f.to texts step in
+      let ends : (p < f.to) × (f.to ≤ length s) = step_ends pairs s in_comment EndComment f.hyphen p f.to texts (inr (refl, f.ends)) in
       let on = cut_on pairs s texts outside in_comment outside 0 p (length s) f.lexemes has.lexemes (omega (arith, ends.0, ends.1)) f.reads has.cut in
       behind on.0 on.1 on.2
     where

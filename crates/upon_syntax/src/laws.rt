@@ -1,30 +1,64 @@
-// What the grammar keeps, beside the functions that read by it.
-ghost use Rattle.std.specs.Prelude.{◌≡◌, ℕ, List, length};
+// What the written language keeps: one cut, one tree, one value a literal, and one first fault where there is no tree.
+ghost use Rattle.std.specs.Prelude.{◌≡◌, ℕ, ℤ, List, length, Bool};
+ghost use Rattle.std.specs.List.{concat};
 ghost use Rattle.std.specs.Str.{IsUtf8};
-ghost use Rattle.upon_types.specs.FirstTree.{Statements};
+ghost use Rattle.upon_types.specs.declared.types.Span.{Span};
+ghost use Rattle.upon_types.specs.Tree.{Statements};
 ghost use Rattle.upon_syntax.specs.Search.{Pair, HasTexts};
-ghost use Rattle.upon_syntax.specs.FirstGrammar.{HasTree};
-ghost use Rattle.upon_syntax.specs.Cut.{Lexeme, outside, Cut};
-ghost use Rattle.upon_syntax.specs.EachLiesIn.{EachLiesIn};
 ghost use Rattle.upon_syntax.specs.PlacesLieIn.{HasUtf8};
+ghost use Rattle.upon_syntax.specs.Cut.{Lexeme, outside, Cut};
+ghost use Rattle.upon_syntax.specs.CutLiesIn.{LexemesLieIn, parts};
+ghost use Rattle.upon_syntax.specs.Literal.{IsInteger, IsIndex, IsText};
+ghost use Rattle.upon_syntax.specs.Grammar.{HasTree};
+ghost use Rattle.upon_syntax.specs.FirstFault.{IsFirstFault};
 
-/// A text has one tree at most, whatever the delimiters, as long as none of them is empty.
+pub mod first;
+
+/// A text is cut into tokens in one way at most, whatever the delimiters, as long as none of them is empty.
+pub fn one_cut()
+    ensures { (pairs : List Pair) (s : List ℕ) (ls ks : List Lexeme)
+        → HasTexts pairs → Cut pairs s outside 0 ls outside (length s)
+        → Cut pairs s outside 0 ks outside (length s) → ls ≡ ks }
+{}
+
+/// The parts that a text is cut into join to the text: nothing of it is lost.
+pub fn cut_joins()
+    ensures { (pairs : List Pair) (s : List ℕ) (ls : List Lexeme)
+        → HasTexts pairs → Cut pairs s outside 0 ls outside (length s) → concat (parts s ls) ≡ s }
+{}
+
+/// Each token of a UTF-8 text lies in it, on character boundaries, as long as each delimiter is UTF-8 too.
+pub fn cut_lies_in()
+    ensures { (pairs : List Pair) (s : List ℕ) (ls : List Lexeme)
+        → HasTexts pairs → HasUtf8 pairs → IsUtf8 s
+        → Cut pairs s outside 0 ls outside (length s) → LexemesLieIn s ls }
+{}
+
+/// A text has one tree at most, places included, whatever the delimiters (overlapping and equal ones too), as long as
+/// none of them is empty.
 pub fn one_tree()
     ensures { (pairs : List Pair) (s : List ℕ) (a b : Statements)
         → HasTexts pairs → HasTree pairs s a → HasTree pairs s b → a ≡ b }
 {}
 
-/// Every place in the tree of a UTF-8 text lies in it, on character boundaries, and every name is what stands at its
-/// place: whatever the delimiters, as long as each is UTF-8 and none is empty.
-pub fn places_lie_in()
-    ensures { (pairs : List Pair) (s : List ℕ) (tree : Statements)
-        → HasTexts pairs → HasUtf8 pairs → IsUtf8 s → HasTree pairs s tree → EachLiesIn s tree }
+/// A number stands for one integer at most, with a minus before it or without.
+pub fn one_integer()
+    ensures { (minus : Bool) (text : List ℕ) (z w : ℤ) → IsInteger minus text z → IsInteger minus text w → z ≡ w }
 {}
 
-/// A text is cut into tokens in one way at most, whatever the delimiters, as long as none of them is empty, and
-/// whatever the text.
-pub fn one_cut()
-    ensures { (pairs : List Pair) (s : List ℕ) (ls ks : List Lexeme)
-        → HasTexts pairs → Cut pairs s outside 0 ls outside (length s)
-        → Cut pairs s outside 0 ks outside (length s) → ls ≡ ks }
+/// An index stands for one number at most.
+pub fn one_index()
+    ensures { (text : List ℕ) (i j : ℕ) → IsIndex text i → IsIndex text j → i ≡ j }
+{}
+
+/// A string that begins at a place stands for one text at most.
+pub fn one_text()
+    ensures { (s : List ℕ) (m n k : ℕ) (t u : List ℕ) → IsText s m n t → IsText s m k u → t ≡ u }
+{}
+
+/// A text has one first fault at most: one place and one reason.
+pub fn one_first_fault()
+    ensures { (pairs : List Pair) (s : List ℕ) (place other : Span) (reason words : List ℕ)
+        → HasTexts pairs → IsFirstFault pairs s place reason → IsFirstFault pairs s other words
+        → (place ≡ other) × (reason ≡ words) }
 {}
