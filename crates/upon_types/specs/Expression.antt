@@ -32,7 +32,7 @@ mutual
     item_then : Word → Base → Items → Items
     deriving IsSet as Items-set
 
-  -- arguments in parentheses, where there are parentheses
+  -- the arguments of a call or a filter, with their place, where there are some
   pub data Arguments : Type 0 where
     no_arguments : Arguments
     arguments : Bases → Span → Arguments
