@@ -46,3 +46,4 @@ pub mod Fine
 pub mod FineTokens
 pub mod TagWalk
 pub mod SplitInTag
+pub mod NoTreeBlocks
