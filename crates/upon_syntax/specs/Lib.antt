@@ -47,3 +47,4 @@ pub mod FineTokens
 pub mod TagWalk
 pub mod SplitInTag
 pub mod NoTreeBlocks
+pub mod NoTreeUnclosed

@@ -91,7 +91,7 @@ end_is_no_space block = refl
 end_is_no_space comment = refl
 
 -- the shown token is of the same kind, and the same but where it is raw
-shown_token : (s : List ℕ) (e b : Bool) (t : Token) (l : Lexeme) → (shown_lexeme s e b t l).token ≡ l.token
+pub shown_token : (s : List ℕ) (e b : Bool) (t : Token) (l : Lexeme) → (shown_lexeme s e b t l).token ≡ l.token
 shown_token s e b Raw l = refl
 shown_token s e b t l = refl
 
