@@ -48,3 +48,4 @@ pub mod TagWalk
 pub mod SplitInTag
 pub mod NoTreeBlocks
 pub mod NoTreeUnclosed
+pub mod BeforeTag
