@@ -49,3 +49,4 @@ pub mod SplitInTag
 pub mod NoTreeBlocks
 pub mod NoTreeUnclosed
 pub mod BeforeTag
+pub mod ReadBefore
