@@ -50,3 +50,4 @@ pub mod NoTreeBlocks
 pub mod NoTreeUnclosed
 pub mod BeforeTag
 pub mod ReadBefore
+pub mod NoTreeUnexpected
