@@ -1,17 +1,13 @@
 -- Where a cut lies in a tag: the tokens before the tag are a cut to its begin, and they are read for themselves.
-use Rattle.std.proofs.Common.{◌≡◌, ◌⊎◌, inl, inr, ℕ, List, [], ◌∷◌, ◌++◌, length, Bool, true, false, refl, sym, ap, ◌∙◌, subst, append_assoc, if◌then◌else◌}
+use Rattle.std.proofs.Common.{◌≡◌, ◌⊎◌, inl, inr, ℕ, List, [], ◌∷◌, ◌++◌, Bool, true, false, refl, sym, ap, ◌∙◌, subst, append_assoc, if◌then◌else◌}
 use Rattle.std.proofs.lemmas.List.{append-nil}
-use Rattle.upon_types.specs.declared.types.token.Token.{Token}
-use Rattle.upon_types.specs.declared.types.token.Token.TheVariants.{Raw, BeginExpr, BeginBlock, EndBlock, BeginComment, EndComment}
 use Rattle.upon_syntax.specs.Search.{Pair}
-use Rattle.upon_syntax.specs.Raw.{IsRaw}
-use Rattle.upon_syntax.specs.Delimiters.{Sort, expression, block, comment, begin_token, end_token}
+use Rattle.upon_syntax.specs.Delimiters.{Sort, expression, block, comment, begin_token}
 use Rattle.upon_syntax.specs.Inside.{path_after}
 use Rattle.upon_syntax.specs.Cut.{Lexeme, Mode, outside, in_tag, in_comment, Step, mode_after, Cut}
-use Rattle.upon_syntax.specs.Tokens.{is_space, begins_comment, is_raw, without_spaces, without_comments, comment_from, behind_end, significant}
+use Rattle.upon_syntax.specs.Tokens.{begins_comment}
 use Rattle.upon_syntax.specs.Reading.{opens_tag, from_begin, open_tag, closed_part, before_tag}
-use Rattle.upon_syntax.specs.TagWalk.{is_inside, EachInside, extent_is_inside, inside_is_no_begin, inside_is_no_comment, inside_stays, end_leaves, end_is_no_comment, end_is_no_space, begin_step, other_step, no_space_step, space_step, comment_step, raw_step, no_raw_step, kept, raw_then_raw}
-use Rattle.upon_syntax.specs.NoTreeBlocks.{begins_block}
+use Rattle.upon_syntax.specs.TagWalk.{is_inside, EachInside, extent_is_inside, inside_is_no_begin, inside_stays, end_leaves, begin_step, other_step}
 
 abbrev is_outside : Mode → Bool
 is_outside outside = true

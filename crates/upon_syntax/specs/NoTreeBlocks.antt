@@ -13,7 +13,7 @@ use Rattle.upon_syntax.specs.Expressions.{IsExpression}
 use Rattle.upon_syntax.specs.Grammar.{BeginsBlock, IsWordTag, IsCondition, IsIfTag, IsElseIfTag, AreLoopNames, IsForTag, IsWithTag, IsIncludeContext, IsStatement, AreStatements, IsElse, IsElseIf, IsIfAfterElse}
 use Rattle.upon_syntax.specs.Reading.{brackets_after}
 use Rattle.upon_syntax.specs.Fine.{TokenFine, Fine, Passes}
-use Rattle.upon_syntax.specs.Blocks.{Block, if_block, for_block, with_block, Open, Closer, else_if, plain_else, end_if, end_for, end_with, else_by, closer_by, takes, end_from, at_begin, by_word, by_closer, blocks_from}
+use Rattle.upon_syntax.specs.Blocks.{Block, if_block, for_block, with_block, Open, Closer, else_if, plain_else, else_by, closer_by, takes, end_from, at_begin, by_word, by_closer, blocks_from}
 
 abbrev pub begins_block : Token → Bool
 begins_block BeginBlock = true

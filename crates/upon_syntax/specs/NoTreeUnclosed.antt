@@ -1,5 +1,5 @@
 -- The open blocks do not depend on what is shown of raw parts: a text that ends with a block open has no tree.
-use Rattle.std.proofs.Common.{◌≡◌, ℕ, List, [], ◌∷◌, ◌++◌, length, Bool, true, false, Option, Some, None, refl, sym, ap, ◌∙◌, subst, codes, ◌&&◌, if◌then◌else◌}
+use Rattle.std.proofs.Common.{◌≡◌, ℕ, List, [], ◌∷◌, length, Bool, true, false, Option, Some, None, refl, sym, ap, ◌∙◌, subst, codes, ◌&&◌, if◌then◌else◌}
 use Rattle.std.specs.Str.{bytes_eq}
 use Rattle.upon_types.specs.declared.types.Span.{Span}
 use Rattle.upon_types.specs.declared.types.token.Token.{Token}

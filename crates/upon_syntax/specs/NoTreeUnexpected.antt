@@ -1,5 +1,5 @@
 -- A text with a closing tag that the innermost open block does not take has no tree.
-use Rattle.std.proofs.Common.{◌≡◌, inl, inr, ℕ, ◌≤◌, List, [], ◌∷◌, ◌++◌, length, Bool, true, false, Option, Some, None, refl, sym, ap, ◌∙◌, subst, append_assoc, arith, codes, if◌then◌else◌}
+use Rattle.std.proofs.Common.{◌≡◌, inl, ℕ, List, [], ◌∷◌, ◌++◌, length, Bool, true, false, Option, Some, None, refl, sym, ap, ◌∙◌, subst, append_assoc, arith, if◌then◌else◌}
 use Rattle.upon_types.specs.declared.types.Span.{Span}
 use Rattle.upon_types.specs.declared.types.token.Token.{Token}
 use Rattle.upon_types.specs.declared.types.token.Token.TheVariants.{BeginBlock, EndBlock, Keyword}
@@ -8,7 +8,7 @@ use Rattle.upon_types.specs.Expression.{Expression}
 use Rattle.upon_types.specs.Tree.{Statements}
 use Rattle.upon_syntax.specs.Search.{Pair, HasTexts}
 use Rattle.upon_syntax.specs.Delimiters.{block}
-use Rattle.upon_syntax.specs.Cut.{Lexeme, Mode, outside, in_tag, Ends, Cut}
+use Rattle.upon_syntax.specs.Cut.{Lexeme, outside, in_tag, Ends, Cut}
 use Rattle.upon_syntax.specs.Tokens.{is_space, begins_comment, without_spaces, significant}
 use Rattle.upon_syntax.specs.Reading.{open_tag, before_tag}
 use Rattle.upon_syntax.specs.Expressions.{IsExpression}
@@ -19,7 +19,7 @@ use Rattle.upon_syntax.specs.OneCut.{cut_on, cut_ends}
 use Rattle.upon_syntax.specs.Faults.{tag_tokens, lexeme_at}
 use Rattle.upon_syntax.specs.LaterFaults.{UnexpectedBlock}
 use Rattle.upon_syntax.specs.TagWalk.{EachInside, inside_is_no_comment, one_read, kept, spaces_append}
-use Rattle.upon_syntax.specs.Blocks.{Open, Closer, else_if, plain_else, else_by, closer_by, closer_of, takes, end_from, by_word, blocks_from}
+use Rattle.upon_syntax.specs.Blocks.{Open, Closer, else_if, plain_else, else_by, closer_by, closer_of, takes, end_from, blocks_from}
 use Rattle.upon_syntax.specs.NoTreeBlocks.{begins_block, is_word, stepped, word_next, closer_in, Closing, TokenTaken, AllTaken}
 use Rattle.upon_syntax.specs.NoTreeUnclosed.{same_by_word, same_closer_by, tree_taken}
 use Rattle.upon_syntax.specs.BeforeTag.{split_before, open_tag_is, before_tag_is}

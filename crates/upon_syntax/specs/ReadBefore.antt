@@ -1,7 +1,7 @@
 -- What is read of a cut to outside is read for itself, and each tag of a block ends there.
 use Rattle.std.proofs.Common.{◌≡◌, inl, inr, ℕ, List, [], ◌∷◌, ◌++◌, Bool, true, false, refl, sym, ap, ◌∙◌, subst, if◌then◌else◌}
 use Rattle.upon_types.specs.declared.types.token.Token.{Token}
-use Rattle.upon_types.specs.declared.types.token.Token.TheVariants.{Raw, BeginExpr, EndExpr, BeginBlock, EndBlock, BeginComment, EndComment}
+use Rattle.upon_types.specs.declared.types.token.Token.TheVariants.{BeginBlock, EndBlock, BeginComment}
 use Rattle.upon_syntax.specs.Search.{Pair}
 use Rattle.upon_syntax.specs.Raw.{IsRaw}
 use Rattle.upon_syntax.specs.Delimiters.{Sort, expression, block, comment, begin_token, end_token}

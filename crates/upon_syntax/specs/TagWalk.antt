@@ -1,12 +1,12 @@
 -- A walk along the tokens of a cut, from the start on: what is read of them, and where the walk ends.
-use Rattle.std.proofs.Common.{◌≡◌, ◌⊎◌, inl, inr, ℕ, ◌<◌, ◌≤◌, List, [], ◌∷◌, ◌++◌, length, Bool, true, false, ◌&&◌, Option, Some, None, refl, sym, ap, ◌∙◌, subst, arith, append_assoc, if◌then◌else◌}
+use Rattle.std.proofs.Common.{◌≡◌, inl, inr, ℕ, List, [], ◌∷◌, ◌++◌, Bool, true, false, ◌&&◌, Option, Some, None, refl, sym, ap, ◌∙◌, subst, arith, append_assoc, if◌then◌else◌}
 use Rattle.upon_types.specs.declared.types.token.Token.{Token}
 use Rattle.upon_types.specs.declared.types.token.Token.TheVariants.{Raw, BeginExpr, EndExpr, BeginBlock, EndBlock, BeginComment, EndComment}
 use Rattle.upon_syntax.specs.Search.{Pair}
 use Rattle.upon_syntax.specs.Raw.{IsRaw}
 use Rattle.upon_syntax.specs.OneRaw.{raw_is_no_delimiter}
 use Rattle.upon_syntax.specs.Delimiters.{Sort, expression, block, comment, begin_token, end_token}
-use Rattle.upon_syntax.specs.Inside.{Extent, IsInner, path_after}
+use Rattle.upon_syntax.specs.Inside.{Extent, path_after}
 use Rattle.upon_syntax.specs.Cut.{Lexeme, Mode, outside, in_tag, in_comment, mode_after, Cut}
 use Rattle.upon_syntax.specs.Shown.{shown_lexeme, shown_lexemes, begin_trims, is_end}
 use Rattle.upon_syntax.specs.Tokens.{is_space, begins_comment, is_raw, without_spaces, without_comments, comment_from, behind_end, significant}
