@@ -76,3 +76,9 @@ pub mod NextToken
 pub mod NoTreeTag
 pub mod NoLiteralFault
 pub mod NoTreeLiteral
+pub mod NoTreeBlocks
+pub mod NoTreeUnclosed
+pub mod BeforeTag
+pub mod ReadBefore
+pub mod NoTreeUnexpected
+pub mod NoTreeFault

@@ -1,15 +1,15 @@
 -- The tokens that a tree is read from, split where the cut of the text lies in a tag, in an empty comment, or outside.
-use Rattle.std.proofs.Common.{◌≡◌, ℕ, List, [], ◌∷◌, ◌++◌, length, Bool, true, false, Option, Some, None, refl, sym, ap, ◌∙◌, subst, append_assoc}
+use Rattle.std.proofs.Common.{◌≡◌, ℕ, List, [], ◌∷◌, ◌++◌, Bool, true, false, Option, Some, None, refl, sym, ap, ◌∙◌, append_assoc}
 use Rattle.upon_types.specs.declared.types.token.Token.{Token}
 use Rattle.upon_types.specs.declared.types.token.Token.TheVariants.{Raw, BeginComment, EndComment}
 use Rattle.upon_syntax.specs.Search.{Pair}
 use Rattle.upon_syntax.specs.Delimiters.{Sort, begin_token}
 use Rattle.upon_syntax.specs.Cut.{Lexeme, Mode, outside, in_tag, in_comment, Cut}
-use Rattle.upon_syntax.specs.Shown.{shown_lexeme, shown_lexemes, begin_trims, is_end}
-use Rattle.upon_syntax.specs.Tokens.{is_space, begins_comment, is_raw, without_spaces, comment_from, behind_end, significant}
-use Rattle.upon_syntax.specs.Reading.{open_tag, from_begin, last_of}
+use Rattle.upon_syntax.specs.Shown.{shown_lexemes}
+use Rattle.upon_syntax.specs.Tokens.{begins_comment, without_spaces, comment_from, behind_end, significant}
+use Rattle.upon_syntax.specs.Reading.{open_tag, last_of}
 use Rattle.upon_syntax.specs.LaterFaults.{just_begun}
-use Rattle.upon_syntax.specs.TagWalk.{is_inside, EachInside, last_from, Arrives, walk, significant_behind, at_empty_comment}
+use Rattle.upon_syntax.specs.TagWalk.{EachInside, last_from, Arrives, walk, significant_behind, at_empty_comment}
 
 -- the open tag is a begin and what may stand inside a tag, and its tokens are read as they are, between some others and the rest
 pub record InTag (s : List ℕ) (sort : Sort) (rest tag read : List Lexeme) : Type 0 where

@@ -62,3 +62,9 @@ pub fn one_first_fault()
         → HasTexts pairs → IsFirstFault pairs s place reason → IsFirstFault pairs s other words
         → (place ≡ other) × (reason ≡ words) }
 {}
+
+/// A text that has a first fault has no tree.
+pub fn no_tree_with_fault()
+    ensures { (pairs : List Pair) (s : List ℕ) (place : Span) (reason : List ℕ) (tree : Statements)
+        → HasTexts pairs → IsFirstFault pairs s place reason → HasTree pairs s tree → ⊥ }
+{}
