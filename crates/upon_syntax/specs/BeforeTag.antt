@@ -42,18 +42,25 @@ module _ (pairs : List Pair) (s : List ℕ) (sort : Sort) (path : Bool) (p : ℕ
   prefixed mode mode' m l ls e at step h =
       let F : Mode → Type 0 = λ x. Cut pairs s x l.span.n h.front outside h.place in
       record {
-        front = l ∷ h.front; place = h.place; begin = h.begin; inner = h.inner; is = ap (λ (x : List Lexeme). l ∷ x) h.is;
-        cut = (at, step, subst F (sym e) h.cut); opens = h.opens; no_comment = h.no_comment; inside = h.inside
+        front = l ∷ h.front;
+        place = h.place;
+        begin = h.begin;
+        inner = h.inner;
+        is = ap (λ (x : List Lexeme). l ∷ x) h.is;
+        cut = (at, step, subst F (sym e) h.cut);
+        opens = h.opens;
+        no_comment = h.no_comment;
+        inside = h.inside;
       }
 
   -- the begin of the open tag, or of a tag that is closed
   at_tag : (so : Sort) (m : ℕ) (l : Lexeme) (ls : List Lexeme) → mode_after outside l.token ≡ in_tag so false → opens_tag l.token ≡ true → begins_comment l.token ≡ false → l.span.m ≡ m → Step pairs s outside l.token l.hyphen m l.span.n
-    → EachInside ls ⊎ Splits pairs s (in_tag so false) l.span.n ls → Splits pairs s outside m (l ∷ ls)
+      → EachInside ls ⊎ Splits pairs s (in_tag so false) l.span.n ls → Splits pairs s outside m (l ∷ ls)
   at_tag so m l ls e t c at step (inl each) = record { front = []; place = m; begin = l; inner = ls; is = refl; cut = (refl, refl); opens = t; no_comment = c; inside = each }
   at_tag so m l ls e t c at step (inr h) = prefixed outside (in_tag so false) m l ls e at step h
 
   at_begin : (so : Sort) (m : ℕ) (l : Lexeme) (ls : List Lexeme) → l.token ≡ begin_token so → l.span.m ≡ m → Step pairs s outside l.token l.hyphen m l.span.n → Left (mode_after outside l.token) l.span.n ls
-    → ((kind : Sort) → Left (in_tag kind false) l.span.n ls → EachInside ls ⊎ Splits pairs s (in_tag kind false) l.span.n ls) → (Left in_comment l.span.n ls → Splits pairs s in_comment l.span.n ls) → Splits pairs s outside m (l ∷ ls)
+      → ((kind : Sort) → Left (in_tag kind false) l.span.n ls → EachInside ls ⊎ Splits pairs s (in_tag kind false) l.span.n ls) → (Left in_comment l.span.n ls → Splits pairs s in_comment l.span.n ls) → Splits pairs s outside m (l ∷ ls)
   at_begin expression m l ls t at step h k c = let e : mode_after outside l.token ≡ in_tag expression false = ap (mode_after outside) t in
       at_tag expression m l ls e (ap opens_tag t) (ap begins_comment t) at step (k expression (in_mode (mode_after outside l.token) (in_tag expression false) l.span.n ls e h))
   at_begin block m l ls t at step h k c = let e : mode_after outside l.token ≡ in_tag block false = ap (mode_after outside) t in
@@ -62,7 +69,7 @@ module _ (pairs : List Pair) (s : List ℕ) (sort : Sort) (path : Bool) (p : ℕ
       prefixed outside in_comment m l ls e at step (c (in_mode (mode_after outside l.token) in_comment l.span.n ls e h))
 
   one_inside : (so : Sort) (pa : Bool) (m : ℕ) (l : Lexeme) (ls : List Lexeme) → is_inside l.token ≡ true → mode_after (in_tag so pa) l.token ≡ in_tag so (path_after pa l.token) → l.span.m ≡ m → Step pairs s (in_tag so pa) l.token l.hyphen m l.span.n
-    → EachInside ls ⊎ Splits pairs s (in_tag so (path_after pa l.token)) l.span.n ls → EachInside (l ∷ ls) ⊎ Splits pairs s (in_tag so pa) m (l ∷ ls)
+      → EachInside ls ⊎ Splits pairs s (in_tag so (path_after pa l.token)) l.span.n ls → EachInside (l ∷ ls) ⊎ Splits pairs s (in_tag so pa) m (l ∷ ls)
   one_inside so pa m l ls i e at step (inl each) = inl (i, each)
   one_inside so pa m l ls i e at step (inr h) = inr (prefixed (in_tag so pa) (in_tag so (path_after pa l.token)) m l ls e at step h)
 
@@ -120,8 +127,8 @@ split_closed done tag [] begin inner t each =
     ap (λ (b : Bool). if b then closed_part (done ++ tag) (begin ∷ []) inner else closed_part done (tag ++ begin ∷ []) inner) t ∙ closed_inner (done ++ tag) (begin ∷ []) inner each ∙ sym (append-nil (done ++ tag))
 split_closed done tag (l ∷ ls) begin inner t each =
     both_ways (opens_tag l.token) (closed_part (done ++ tag) (l ∷ []) (ls ++ (begin ∷ inner))) (closed_part done (tag ++ l ∷ []) (ls ++ (begin ∷ inner))) ((done ++ tag) ++ (l ∷ ls))
-      (split_closed (done ++ tag) (l ∷ []) ls begin inner t each ∙ append_assoc (done ++ tag) (l ∷ []) ls)
-      (split_closed done (tag ++ l ∷ []) ls begin inner t each ∙ ap (λ (x : List Lexeme). x ++ ls) (sym (append_assoc done tag (l ∷ []))) ∙ append_assoc (done ++ tag) (l ∷ []) ls)
+    (split_closed (done ++ tag) (l ∷ []) ls begin inner t each ∙ append_assoc (done ++ tag) (l ∷ []) ls)
+    (split_closed done (tag ++ l ∷ []) ls begin inner t each ∙ ap (λ (x : List Lexeme). x ++ ls) (sym (append_assoc done tag (l ∷ []))) ∙ append_assoc (done ++ tag) (l ∷ []) ls)
 
 pub open_tag_is : (front : List Lexeme) (begin : Lexeme) (inner : List Lexeme) → opens_tag begin.token ≡ true → EachInside inner → open_tag (front ++ (begin ∷ inner)) ≡ begin ∷ inner
 open_tag_is front begin inner t each = split_from [] front begin inner t each

@@ -1,8 +1,7 @@
 -- Which blocks are open behind some tokens, and which closing tags the innermost of them takes.
-use Rattle.std.specs.Prelude.{◌≡◌, ℕ, List, [], ◌∷◌, Bool, true, false, Option, Some, None, if◌then◌else◌, codes}
+use Rattle.std.specs.Prelude.{ℕ, List, [], ◌∷◌, Bool, true, false, Option, Some, None, if◌then◌else◌, codes}
 use Rattle.std.specs.Str.{bytes_eq}
 use Rattle.upon_types.specs.declared.types.Span.{Span}
-use Rattle.upon_types.specs.declared.types.token.Token.{Token}
 use Rattle.upon_types.specs.declared.types.token.Token.TheVariants.{BeginBlock, EndBlock, Keyword}
 use Rattle.upon_types.specs.Place.{part}
 use Rattle.upon_syntax.specs.Cut.{Lexeme}
@@ -33,7 +32,7 @@ else_by s (l ∷ ls) = elim l.token [ Keyword ↦ else_if | _ ↦ plain_else ]
 
 abbrev pub closer_by : List ℕ → List ℕ → List Lexeme → Option Closer
 closer_by s word ls = if bytes_eq word (codes "else") then Some (else_by s ls) else (if bytes_eq word (codes "endif") then Some end_if
-  else (if bytes_eq word (codes "endfor") then Some end_for else (if bytes_eq word (codes "endwith") then Some end_with else None)))
+    else (if bytes_eq word (codes "endfor") then Some end_for else (if bytes_eq word (codes "endwith") then Some end_with else None)))
 
 -- the closing tag that a tag's tokens are
 abbrev pub closer_of : List ℕ → List Lexeme → Option Closer
@@ -84,7 +83,7 @@ by_closer (Some closer) stack = after_closer closer stack
 
 abbrev pub by_word : List ℕ → Span → List ℕ → List Lexeme → List Open → List Open
 by_word s begin word ls stack = if bytes_eq word (codes "if") then opened if_block begin ls stack else (if bytes_eq word (codes "for") then opened for_block begin ls stack
-  else (if bytes_eq word (codes "with") then opened with_block begin ls stack else by_closer (closer_by s word ls) stack))
+    else (if bytes_eq word (codes "with") then opened with_block begin ls stack else by_closer (closer_by s word ls) stack))
 
 abbrev pub at_begin : List ℕ → Span → List Lexeme → List Open → List Open
 at_begin s begin [] stack = stack

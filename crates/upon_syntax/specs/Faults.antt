@@ -1,21 +1,17 @@
 -- What can be wrong with a text: each fault, where it stands, and what is told.
-use Rattle.std.specs.Prelude.{◌≡◌, ◌⊎◌, ℕ, ◌+◌, ◌-◌, ◌<◌, ◌≤◌, nat_lt, List, [], ◌∷◌, ◌++◌, length, Bool, true, false, Option, Some, None, slice_index, codes, encode_utf8, if◌then◌else◌, ◌^◌}
+use Rattle.std.specs.Prelude.{◌≡◌, ◌⊎◌, ℕ, ◌+◌, ◌<◌, ◌≤◌, List, [], ◌∷◌, ◌++◌, length, Bool, true, false, Option, Some, None, slice_index, codes, encode_utf8}
 use Rattle.upon_types.specs.declared.types.Span.{Span}
 use Rattle.upon_types.specs.declared.types.token.Token.{Token}
-use Rattle.upon_types.specs.declared.types.token.Token.TheVariants.{BeginComment, EndComment, OpenBracket, CloseBracket, OpenBrace, CloseBrace, OpenParen, CloseParen, Plus, Minus, Index, Number, String}
+use Rattle.upon_types.specs.declared.types.token.Token.TheVariants.{OpenBracket, CloseBracket, OpenBrace, CloseBrace, OpenParen, CloseParen}
 use Rattle.upon_types.specs.Token.{token_word}
-use Rattle.upon_types.specs.Place.{part}
 use Rattle.upon_syntax.specs.Search.{Pair, Occurs, NoneAt}
-use Rattle.upon_syntax.specs.Delimiters.{Sort, expression, block, comment, begin_token, end_token}
+use Rattle.upon_syntax.specs.Delimiters.{Sort, comment, begin_token, end_token}
 use Rattle.upon_syntax.specs.Inside.{kind_by, ends_line, IsQuoted, IsInner}
 use Rattle.upon_syntax.specs.Cut.{Lexeme, Mode, outside, in_tag, in_comment, Begins, Ends, Step}
-use Rattle.upon_syntax.specs.Literal.{digits_in}
-use Rattle.upon_syntax.specs.LiteralFaults.{NumberFault, bad_digit, too_large, number_fault, is_float, base_text, index_value, escape_fault}
-use Rattle.upon_syntax.specs.Tokens.{without_spaces, significant, is_space}
-use Rattle.upon_syntax.specs.Tags.{Symbol, symbol_of, symbols_of, word_of, BeginsTag, IsTag}
-use Rattle.upon_syntax.specs.Wanted.{Wanted, IsWanted, told_of, wanted_at_end, expected_found, in_quotes}
-use Rattle.upon_syntax.specs.Reading.{ReadsTo, open_tag, first_span, open_brackets, before_tag, last_of}
-use Rattle.upon_syntax.specs.Blocks.{Open, Closer, closer_of, takes, open_blocks, outermost, block_word, closer_words}
+use Rattle.upon_syntax.specs.Tokens.{without_spaces, is_space}
+use Rattle.upon_syntax.specs.Tags.{Symbol, symbol_of, symbols_of, word_of, BeginsTag}
+use Rattle.upon_syntax.specs.Wanted.{Wanted, IsWanted, told_of, wanted_at_end, expected_found}
+use Rattle.upon_syntax.specs.Reading.{ReadsTo, open_tag, first_span, open_brackets}
 
 abbrev pub span : ℕ → ℕ → Span
 span m n = record { m = m; n = n }

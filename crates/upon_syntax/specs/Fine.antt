@@ -1,8 +1,8 @@
 -- Tokens inside a tag that are fine as they stand: literals stand for something, brackets match, and no delimiter is among them.
-use Rattle.std.proofs.Common.{◌≡◌, ℕ, ℤ, List, [], ◌∷◌, ◌++◌, Bool, true, false, Option, Some, None, refl, sym, ap, ◌∙◌, subst, append_assoc}
+use Rattle.std.proofs.Common.{◌≡◌, ℕ, ℤ, List, [], ◌∷◌, ◌++◌, true, false, Option, Some, refl, sym, ap, ◌∙◌, subst, append_assoc}
 use Rattle.upon_types.specs.declared.types.Span.{Span}
 use Rattle.upon_types.specs.declared.types.token.Token.{Token}
-use Rattle.upon_types.specs.declared.types.token.Token.TheVariants.{Raw, BeginExpr, EndExpr, BeginBlock, EndBlock, BeginComment, EndComment, OpenBracket, CloseBracket, OpenBrace, CloseBrace, OpenParen, CloseParen, Dot, QuestionDot, Pipe, Comma, Colon, Plus, Minus, Whitespace, Keyword, Ident, Index, Number, String}
+use Rattle.upon_types.specs.declared.types.token.Token.TheVariants.{Raw, BeginExpr, EndExpr, BeginBlock, EndBlock, BeginComment, EndComment, CloseBracket, CloseBrace, CloseParen, Whitespace, Index, Number, String}
 use Rattle.upon_types.specs.Place.{part}
 use Rattle.upon_syntax.specs.Cut.{Lexeme}
 use Rattle.upon_syntax.specs.Literal.{IsInteger, IsIndex, IsText}
@@ -56,11 +56,14 @@ module _ (s : List ℕ) where
   pub passing_then : (ts us rest a b c : List Lexeme) → Passing s ts us a b → Passing s us rest b c → Passing s ts rest a c
   passing_then ts us rest a b c x y =
       let first = x.0 in
-      let second = y.0 in
-      (first ++ second, x.1 ∙ ap (λ v. first ++ v) y.1 ∙ sym (append_assoc first second rest), λ before h.
-        let p = x.2 before h in
-        let q = y.2 p.0 p.1 in
-        (q.0, q.1, fine_then s a b c before p.0 q.0 first second p.2 q.2))
+      let second = y.0 in (
+        first ++ second,
+        x.1 ∙ ap (λ v. first ++ v) y.1 ∙ sym (append_assoc first second rest),
+        λ before h.
+            let p = x.2 before h in
+            let q = y.2 p.0 p.1 in
+            (q.0, q.1, fine_then s a b c before p.0 q.0 first second p.2 q.2),
+      )
 
   pub passes_then : (ts us rest : List Lexeme) → Passes s ts us → Passes s us rest → Passes s ts rest
   passes_then ts us rest x y = λ stack. passing_then ts us rest stack stack stack (x stack) (y stack)

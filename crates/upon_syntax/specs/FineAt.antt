@@ -1,5 +1,5 @@
 -- A token among fine ones is fine, with the brackets that are open there and behind the token that stands before it.
-use Rattle.std.proofs.Common.{◌≡◌, ℕ, List, [], ◌∷◌, ◌++◌, Bool, true, false, Option, Some, None, refl, sym, ap, ◌∙◌, subst}
+use Rattle.std.proofs.Common.{◌≡◌, ℕ, List, [], ◌∷◌, ◌++◌, Option, Some}
 use Rattle.upon_syntax.specs.Cut.{Lexeme}
 use Rattle.upon_syntax.specs.Reading.{brackets_after, brackets_from}
 use Rattle.upon_syntax.specs.Fine.{TokenFine, Fine}

@@ -1,8 +1,8 @@
 -- The tokens of an expression are fine as they stand.
-use Rattle.std.proofs.Common.{◌≡◌, ◌⊎◌, inl, inr, ℕ, ℤ, List, [], ◌∷◌, Bool, true, false, Option, Some, None, refl, sym, ap, ◌∙◌, subst, codes}
+use Rattle.std.proofs.Common.{◌≡◌, ◌⊎◌, inl, inr, ℕ, ℤ, List, [], ◌∷◌, Bool, true, false, refl, codes}
 use Rattle.upon_types.specs.declared.types.Span.{Span}
 use Rattle.upon_types.specs.declared.types.token.Token.{Token}
-use Rattle.upon_types.specs.declared.types.token.Token.TheVariants.{OpenBracket, CloseBracket, OpenBrace, CloseBrace, OpenParen, CloseParen, Comma, Colon, Pipe, Dot, QuestionDot, Keyword, Ident, Number}
+use Rattle.upon_types.specs.declared.types.token.Token.TheVariants.{OpenBracket, CloseBracket, OpenBrace, CloseBrace, OpenParen, CloseParen, Comma, Colon, Pipe, Keyword, Ident, Number}
 use Rattle.upon_types.specs.declared.types.ast.path.AccessOp.{AccessOp}
 use Rattle.upon_types.specs.declared.types.ast.path.AccessOp.TheVariants.{Direct, Optional}
 use Rattle.upon_types.specs.Val.{Val, none_val, bool_val, int_val, text_val, list_val, map_val}
@@ -12,7 +12,7 @@ use Rattle.upon_types.specs.Place.{part}
 use Rattle.upon_syntax.specs.Cut.{Lexeme}
 use Rattle.upon_syntax.specs.Literal.{IsInteger}
 use Rattle.upon_syntax.specs.Tokens.{Goes, GoesBy, GoesWord, GoesKeyword, GoesName, GoesText}
-use Rattle.upon_syntax.specs.Expressions.{op_token, sign_token, IsAccess, IsStep, IsBareName, IsSteps, IsSigned, IsLiteral, Opens, Closes, ClosesList, IsBase, IsListBody, IsListTail, IsMapBody, IsMapTail, IsCallBody, IsArgs, IsMoreArgs, IsExpression, IsFilterArgs}
+use Rattle.upon_syntax.specs.Expressions.{op_token, sign_token, IsAccess, IsStep, IsBareName, IsSteps, IsLiteral, Closes, ClosesList, IsBase, IsListBody, IsListTail, IsMapBody, IsMapTail, IsCallBody, IsArgs, IsMoreArgs, IsExpression, IsFilterArgs}
 use Rattle.upon_syntax.specs.Faults.{closes}
 use Rattle.upon_syntax.specs.Fine.{Passing, Passes, passing_then, passes_then, passes_nothing}
 use Rattle.upon_syntax.specs.FineTokens.{is_plain, is_minus, passes_plain, passes_index, passes_string, passes_number, passes_minus, passes_plus, is_open, passing_open, passing_close}

@@ -1,5 +1,5 @@
 -- Single tokens that are fine: plain ones, literals, signs and brackets.
-use Rattle.std.proofs.Common.{◌≡◌, ℕ, ℤ, List, [], ◌∷◌, Bool, true, false, Option, Some, None, refl, sym, ap, ◌∙◌, subst}
+use Rattle.std.proofs.Common.{◌≡◌, ℕ, ℤ, List, [], ◌∷◌, Bool, true, false, Option, Some, refl, sym, ap, ◌∙◌, subst}
 use Rattle.upon_types.specs.declared.types.Span.{Span}
 use Rattle.upon_types.specs.declared.types.token.Token.{Token}
 use Rattle.upon_types.specs.declared.types.token.Token.TheVariants.{OpenBracket, CloseBracket, OpenBrace, CloseBrace, OpenParen, CloseParen, Dot, QuestionDot, Pipe, Comma, Colon, Plus, Minus, Keyword, Ident, Index, Number, String}
@@ -8,9 +8,9 @@ use Rattle.upon_syntax.specs.Cut.{Lexeme}
 use Rattle.upon_syntax.specs.Literal.{IsInteger, IsIndex, IsText}
 use Rattle.upon_syntax.specs.Tokens.{Goes}
 use Rattle.upon_syntax.specs.Reading.{brackets_after}
-use Rattle.upon_syntax.specs.Faults.{closes, closes_first}
+use Rattle.upon_syntax.specs.Faults.{closes}
 use Rattle.upon_syntax.specs.LaterFaults.{minus_before}
-use Rattle.upon_syntax.specs.Fine.{TokenFine, Fine, FineFrom, Passing, Passes, passing_one}
+use Rattle.upon_syntax.specs.Fine.{TokenFine, Passing, Passes, passing_one}
 
 abbrev pub is_plain : Token → Bool
 is_plain Dot = true
@@ -111,8 +111,8 @@ module _ (s : List ℕ) where
   passes_number span z ts rest g h = λ a.
       let F : Span → Type 0 = λ x. IsInteger false (part s x) z in
       passing_one s Number span ts rest a a g
-        (λ before k. fine_by g.lexeme Number a before g.of_token (z, let G : Bool → Type 0 = λ x. IsInteger x (part s g.lexeme.span) z in subst G (sym k) (subst F (sym g.at) h)))
-        (stack_by g.lexeme Number a a g.of_token (number_stack a g.lexeme)) (no_minus g.lexeme Number g.of_token refl)
+      (λ before k. fine_by g.lexeme Number a before g.of_token (z, let G : Bool → Type 0 = λ x. IsInteger x (part s g.lexeme.span) z in subst G (sym k) (subst F (sym g.at) h)))
+      (stack_by g.lexeme Number a a g.of_token (number_stack a g.lexeme)) (no_minus g.lexeme Number g.of_token refl)
 
   -- a sign and its number
   pub passes_signed : (t : Token) (minus : Bool) (sign number : Span) (z : ℤ) (ts us rest : List Lexeme) → is_minus t ≡ minus → ((a : List Lexeme) (before : Option Lexeme) (l : Lexeme) → TokenFine s a before t l) → ((a : List Lexeme) (l : Lexeme) → brackets_after a t l ≡ a) → Goes t sign ts us → Goes Number number us rest → IsInteger minus (part s number) z → Passes s ts rest
@@ -124,7 +124,7 @@ module _ (s : List ℕ) where
       let G : Bool → Type 0 = λ x. IsInteger x (part s second.span) z in
       let number_fine : TokenFine s (brackets_after a first.token first) (Some first) second.token second = fine_by second Number (brackets_after a first.token first) (Some first) h.of_token (z, subst G (sym known) (subst F (sym h.at) value)) in
       let stack : brackets_after (brackets_after a first.token first) second.token second ≡ a =
-        ap (λ x. brackets_after x second.token second) (stack_by first t a a g.of_token (keeps a first)) ∙ stack_by second Number a a h.of_token (number_stack a second) in
+      ap (λ x. brackets_after x second.token second) (stack_by first t a a g.of_token (keeps a first)) ∙ stack_by second Number a a h.of_token (number_stack a second) in
       (first ∷ second ∷ [], g.is ∙ ap (λ x. first ∷ x) h.is, λ before _. (Some second, no_minus second Number h.of_token refl, (fine_by first t a before g.of_token (fine a before first), (number_fine, (stack, refl)))))
 
   pub passes_minus : (sign number : Span) (z : ℤ) (ts us rest : List Lexeme) → Goes Minus sign ts us → Goes Number number us rest → IsInteger true (part s number) z → Passes s ts rest

@@ -1,5 +1,5 @@
 -- The tokens inside a tag: what begins each, and how far it goes.
-use Rattle.std.specs.Prelude.{◌≡◌, ℕ, ◌+◌, ◌-◌, ◌==◌, ◌&&◌, ◌||◌, not, List, [], ◌∷◌, ◌++◌, length, Bool, true, false, Option, Some, None, codes, encode_utf8, if◌then◌else◌}
+use Rattle.std.specs.Prelude.{◌≡◌, ℕ, ◌+◌, ◌==◌, ◌||◌, not, List, [], ◌∷◌, ◌++◌, length, Bool, true, false, Option, Some, None, codes, encode_utf8, if◌then◌else◌}
 use Rattle.std.specs.Char.{is_ascii_digit, is_ascii_alphanumeric}
 use Rattle.unicode_ident.specs.Ident.{is_xid_continue}
 use Rattle.upon_types.specs.declared.types.token.Token.{Token}
@@ -12,13 +12,13 @@ use Rattle.upon_syntax.specs.Words.{is_tag_space, begins_name, IsRun, is_keyword
 -- `Ident` stands for keywords too.
 abbrev pub kind_by : Bool → ℕ → Option Token
 kind_by in_path c =
-  if is_tag_space c then Some Whitespace else (if c == 46 then Some Dot else (if c == 63 then Some QuestionDot
-  else (if c == 124 then Some Pipe else (if c == 44 then Some Comma else (if c == 58 then Some Colon
-  else (if c == 43 then Some Plus else (if c == 45 then Some Minus else (if c == 91 then Some OpenBracket
-  else (if c == 93 then Some CloseBracket else (if c == 123 then Some OpenBrace else (if c == 125 then Some CloseBrace
-  else (if c == 40 then Some OpenParen else (if c == 41 then Some CloseParen else (if c == 34 then Some String
-  else (if is_ascii_digit c then Some (if in_path then Index else Number)
-  else (if begins_name c then Some Ident else None))))))))))))))))
+    if is_tag_space c then Some Whitespace else (if c == 46 then Some Dot else (if c == 63 then Some QuestionDot
+    else (if c == 124 then Some Pipe else (if c == 44 then Some Comma else (if c == 58 then Some Colon
+    else (if c == 43 then Some Plus else (if c == 45 then Some Minus else (if c == 91 then Some OpenBracket
+    else (if c == 93 then Some CloseBracket else (if c == 123 then Some OpenBrace else (if c == 125 then Some CloseBrace
+    else (if c == 40 then Some OpenParen else (if c == 41 then Some CloseParen else (if c == 34 then Some String
+    else (if is_ascii_digit c then Some (if in_path then Index else Number)
+    else (if begins_name c then Some Ident else None))))))))))))))))
 
 -- the characters that a number goes on with
 abbrev pub continues_number : ℕ → Bool

@@ -1,7 +1,6 @@
 -- What can be wrong with comments, literals and blocks: each fault, where it stands, and what is told.
 use Rattle.std.specs.Prelude.{◌≡◌, ℕ, ◌+◌, ◌^◌, nat_lt, List, [], ◌∷◌, ◌++◌, length, Bool, true, false, Option, Some, None, codes, if◌then◌else◌}
 use Rattle.upon_types.specs.declared.types.Span.{Span}
-use Rattle.upon_types.specs.declared.types.token.Token.{Token}
 use Rattle.upon_types.specs.declared.types.token.Token.TheVariants.{BeginComment, EndBlock, Plus, Minus, Index, Number, String}
 use Rattle.upon_types.specs.Place.{part}
 use Rattle.upon_syntax.specs.Search.{Pair}

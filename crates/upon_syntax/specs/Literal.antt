@@ -52,7 +52,7 @@ pub record IsIndex (text : List ℕ) (i : ℕ) : Type 0 where
 -- the character that an escape stands for: `\n`, `\r`, `\t`, `\\` and `\"`
 abbrev pub unescaped : ℕ → Option (List ℕ)
 unescaped c = if c == 110 then Some (10 ∷ []) else (if c == 114 then Some (13 ∷ []) else (if c == 116 then Some (9 ∷ [])
-  else (if c == 92 then Some (92 ∷ []) else (if c == 34 then Some (34 ∷ []) else None))))
+    else (if c == 92 then Some (92 ∷ []) else (if c == 34 then Some (34 ∷ []) else None))))
 
 abbrev pub joined : Option (List ℕ) → Option (List ℕ) → Option (List ℕ)
 joined (Some a) (Some b) = Some (a ++ b)

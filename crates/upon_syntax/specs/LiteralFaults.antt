@@ -1,10 +1,10 @@
 -- What is wrong with a number, an index or a string that stands for nothing.
-use Rattle.std.specs.Prelude.{◌≡◌, ℕ, ◌+◌, ◌-◌, ◌*◌, ◌^◌, ◌==◌, ◌||◌, nat_lt, List, [], ◌∷◌, ◌++◌, length, Bool, true, false, Option, Some, None, if◌then◌else◌, codes, encode_utf8}
+use Rattle.std.specs.Prelude.{ℕ, ◌+◌, ◌-◌, ◌*◌, ◌^◌, ◌==◌, ◌||◌, nat_lt, List, [], ◌∷◌, length, Bool, true, false, Option, Some, None, if◌then◌else◌, encode_utf8}
 use Rattle.std.specs.Char.{digit_value}
 use Rattle.std.specs.Fmt.{decimal}
 use Rattle.std.specs.List.{list_any}
 use Rattle.upon_syntax.specs.Inside.{Piece, plain, escaped}
-use Rattle.upon_syntax.specs.Literal.{based, sum_of_digits, digits_in, unescaped}
+use Rattle.upon_syntax.specs.Literal.{based, sum_of_digits, unescaped}
 
 pub data NumberFault : Type 0 where
   bad_digit : ℕ → NumberFault
@@ -19,7 +19,7 @@ magnitude_limit false = 2 ^ 63 - 1
 abbrev pub digit_fault : ℕ → ℕ → ℕ → ℕ → List ℕ → Option NumberFault
 digit_fault base limit value offset [] = None
 digit_fault base limit value offset (b ∷ bs) = if b == 95 then digit_fault base limit value (offset + 1) bs
-  else (if nat_lt (digit_value b) base
+    else (if nat_lt (digit_value b) base
     then (if nat_lt limit (value * base + digit_value b) then Some too_large else digit_fault base limit (value * base + digit_value b) (offset + 1) bs)
     else Some (bad_digit offset))
 

@@ -1,25 +1,24 @@
 -- The token behind an open tag, where the text has a tree: the tag's row goes on with it, and it ends the tag or is fine.
-use Rattle.std.proofs.Common.{◌≡◌, ◌⊎◌, inl, inr, ℕ, ◌+◌, ◌<◌, ◌≤◌, List, [], ◌∷◌, ◌++◌, length, Bool, true, false, Option, Some, None, refl, sym, ap, ◌∙◌, subst, arith, if◌then◌else◌, ◌&&◌}
-use Rattle.upon_types.specs.declared.types.Span.{Span}
+use Rattle.std.proofs.Common.{◌≡◌, ◌⊎◌, ℕ, List, [], ◌∷◌, ◌++◌, length, Bool, true, false, Option, None, refl, sym, ap, ◌∙◌, subst, arith, if◌then◌else◌, ◌&&◌}
 use Rattle.upon_types.specs.declared.types.token.Token.{Token}
-use Rattle.upon_types.specs.declared.types.token.Token.TheVariants.{Raw, BeginExpr, EndExpr, BeginBlock, EndBlock, BeginComment, EndComment, Whitespace}
+use Rattle.upon_types.specs.declared.types.token.Token.TheVariants.{Raw, EndExpr, EndBlock, Whitespace}
 use Rattle.upon_types.specs.Tree.{Statements}
 use Rattle.upon_syntax.specs.Search.{Pair, HasTexts}
 use Rattle.upon_syntax.specs.Delimiters.{Sort, expression, block, comment, begin_token}
-use Rattle.upon_syntax.specs.Cut.{Lexeme, Mode, outside, in_tag, in_comment, Cut, Step}
+use Rattle.upon_syntax.specs.Cut.{Lexeme, outside, in_tag, Cut, Step}
 use Rattle.upon_syntax.specs.Shown.{shown_lexeme, shown_lexemes, begin_trims, is_end}
 use Rattle.upon_syntax.specs.Tokens.{is_space, begins_comment, is_raw, without_spaces, without_comments, comment_from, significant}
 use Rattle.upon_syntax.specs.Reading.{open_tag, open_brackets, brackets_after, brackets_from}
 use Rattle.upon_syntax.specs.Grammar.{AreStatements, HasTree}
 use Rattle.upon_syntax.specs.Tags.{symbol_of, symbols_of, BeginsTag}
-use Rattle.upon_syntax.specs.Faults.{span, tag_tokens, tag_row, lexeme_at}
+use Rattle.upon_syntax.specs.Faults.{tag_tokens, tag_row, lexeme_at}
 use Rattle.upon_syntax.specs.Fine.{TokenFine, Fine}
 use Rattle.upon_syntax.specs.FineAt.{last_or}
 use Rattle.upon_syntax.specs.TagShapes.{begins_a_tag, ends_a_tag}
 use Rattle.upon_syntax.specs.TagWalk.{is_inside, EachInside}
 use Rattle.upon_syntax.specs.SplitInTag.{InTag, split_in_tag}
 use Rattle.upon_syntax.specs.OneStep.{one_step, step_ends}
-use Rattle.upon_syntax.specs.OneCut.{GoesOn, cut_on}
+use Rattle.upon_syntax.specs.OneCut.{cut_on}
 use Rattle.upon_syntax.specs.OpenTagFine.{NoEnds, next_token, row_begins}
 
 -- ---- tokens that are kept
@@ -109,16 +108,19 @@ module _ (pairs : List Pair) (s : List ℕ) (texts : HasTexts pairs) (sort : Sor
       let begin_space : is_space g.begin.token ≡ false = ap is_space g.of_sort ∙ begin_is_no_space sort in
       let begin_kept : without_spaces (g.begin ∷ g.inner) ≡ g.begin ∷ inner = kept_by (is_space g.begin.token) g.begin inner begin_space in
       let tokens : significant (shown_lexemes s false (ls ++ (x ∷ r))) ≡ g.front ++ (g.begin ∷ (inner ++ (x ∷ back.0))) =
-        g.tokens ∙ ap (λ y. g.front ++ (y ++ significant (shown_lexemes s g.later (x ∷ r)))) begin_kept ∙ ap (λ y. g.front ++ ((g.begin ∷ inner) ++ y)) back.1 in
+      g.tokens ∙ ap (λ y. g.front ++ (y ++ significant (shown_lexemes s g.later (x ∷ r)))) begin_kept ∙ ap (λ y. g.front ++ ((g.begin ∷ inner) ++ y)) back.1 in
       let F : List Lexeme → Type 0 = λ y. AreStatements s tree y [] in
       let begins : begins_a_tag g.begin.token ≡ true = ap begins_a_tag g.of_sort ∙ begin_begins sort (sym (ap begins_comment g.of_sort) ∙ g.no_comment) in
       let no_ends = no_ends_inside g.inner g.inside in
       let tag : tag_tokens ls ≡ g.begin ∷ inner = ap without_spaces g.opens ∙ begin_kept in
       record {
-        begin = g.begin; inner = inner; tag = tag; plain_begin = begins;
+        begin = g.begin;
+        inner = inner;
+        tag = tag;
+        plain_begin = begins;
         brackets = ap (brackets_from []) g.opens ∙ ap (λ y. brackets_from (brackets_after [] y g.begin) g.inner) g.of_sort ∙ ap (λ y. brackets_from y g.inner) (begin_keeps sort g.begin) ∙ sym (brackets_spaced [] g.inner);
         begins = row_begins s tree g.front g.begin inner x back.0 (subst F tokens are) begins no_ends (tag_row s ls) (ap (symbols_of s) tag);
-        last = (next_token s tree g.front g.begin inner x back.0 (subst F tokens are) begins no_ends).1
+        last = (next_token s tree g.front g.begin inner x back.0 (subst F tokens are) begins no_ends).1;
       }
 
   pub the_next : (t : Token) (hyphen : Bool) (to : ℕ) → Step pairs s (in_tag sort path) t hyphen p to → is_raw t ≡ false → is_space t ≡ false → begins_comment t ≡ false → Next s ls (lexeme_at t hyphen p to)

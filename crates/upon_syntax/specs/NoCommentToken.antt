@@ -51,9 +51,9 @@ module _ (s : List ℕ) (b : Lexeme) (more : List Lexeme) (comment : b.token ≡
       let row : (p.0 ++ (g.end ∷ rest)) ≡ (fs ++ (b ∷ more)) = ap (λ x. p.0 ++ x) (sym g.stops) ∙ sym p.1 ∙ e in
       elim (among_or_behind p.0 g.end rest fs b more row l) [
         | inl found ↦
-          let fine = p.2 None refl in
-          let F : List Lexeme → Type 0 = λ x. Fine s [] None x [] fine.0 in
-          comment_not_fine s (brackets_from [] fs) (last_or None fs) b.token b comment (fine_at s [] [] None fine.0 fs b found.0 (subst F found.1 fine.2))
+            let fine = p.2 None refl in
+            let F : List Lexeme → Type 0 = λ x. Fine s [] None x [] fine.0 in
+            comment_not_fine s (brackets_from [] fs) (last_or None fs) b.token b comment (fine_at s [] [] None fine.0 fs b found.0 (subst F found.1 fine.2))
         | inr same ↦ ends_no_tag b.token comment (sym (ap (λ (x : Lexeme). ends_a_tag x.token) same) ∙ g.closes)
       ]
 

@@ -51,15 +51,15 @@ no_digit_fault base limit value offset [] ds big e l = refl
 no_digit_fault base limit value offset (b ∷ bs) ds big e l = elim (first_digit base b bs ds e) [
   | inl here ↦ if_true (b == 95) _ _ here.0 (no_digit_fault base limit value (offset + 1) bs ds big here.1 l)
   | inr digit ↦
-    let es = digit.0 in
-    let d = digit_value b in
-    let p = base ^ length es in
-    let F : List ℕ → Type 0 = λ x. value * base ^ length x + sum_of_digits base x ≤ limit in
-    let moved : value * base ^ suc (length es) + (d * p + sum_of_digits base es) ≤ limit = subst F digit.4 l in
-    let G : ℕ → Type 0 = λ x. value * x + (d * p + sum_of_digits base es) ≤ limit in
-    let grown : (value * base + d) * p + sum_of_digits base es ≤ limit = one_more value base d p (sum_of_digits base es) limit (subst G (pow-succ' base (length es)) moved) in
-    let within : value * base + d ≤ limit = value_within (value * base + d) p (sum_of_digits base es) limit (one-le-pow (length es) base big) grown in
-    if_false (b == 95) _ _ digit.1 (if_true (nat_lt d base) _ _ digit.2 (if_false (nat_lt limit (value * base + d)) _ _ (le-ltb limit (value * base + d) within) (no_digit_fault base limit (value * base + d) (offset + 1) bs es big digit.3 grown)))
+      let es = digit.0 in
+      let d = digit_value b in
+      let p = base ^ length es in
+      let F : List ℕ → Type 0 = λ x. value * base ^ length x + sum_of_digits base x ≤ limit in
+      let moved : value * base ^ suc (length es) + (d * p + sum_of_digits base es) ≤ limit = subst F digit.4 l in
+      let G : ℕ → Type 0 = λ x. value * x + (d * p + sum_of_digits base es) ≤ limit in
+      let grown : (value * base + d) * p + sum_of_digits base es ≤ limit = one_more value base d p (sum_of_digits base es) limit (subst G (pow-succ' base (length es)) moved) in
+      let within : value * base + d ≤ limit = value_within (value * base + d) p (sum_of_digits base es) limit (one-le-pow (length es) base big) grown in
+      if_false (b == 95) _ _ digit.1 (if_true (nat_lt d base) _ _ digit.2 (if_false (nat_lt limit (value * base + d)) _ _ (le-ltb limit (value * base + d) within) (no_digit_fault base limit (value * base + d) (offset + 1) bs es big digit.3 grown)))
 ]
 
 -- no sign and no dot is a digit
@@ -118,12 +118,12 @@ prefix_no_sign b c h e = ap is_sign (eqb-true b c h) ∙ e
 
 split_by : (b : ℕ) (bs : List ℕ) → SplitAs (48 ∷ b ∷ bs) (base_by b bs)
 split_by b bs = choose (b == 98) (48 ∷ b ∷ bs) (2, bs) (if b == 111 then (8, bs) else (if b == 120 then (16, bs) else (10, 48 ∷ b ∷ bs)))
-  (λ h. prefixed b 2 bs (prefix_no_sign b 98 h refl) (omega arith) (omega arith))
-  (λ h. choose (b == 111) (48 ∷ b ∷ bs) (8, bs) (if b == 120 then (16, bs) else (10, 48 ∷ b ∷ bs))
+    (λ h. prefixed b 2 bs (prefix_no_sign b 98 h refl) (omega arith) (omega arith))
+    (λ h. choose (b == 111) (48 ∷ b ∷ bs) (8, bs) (if b == 120 then (16, bs) else (10, 48 ∷ b ∷ bs))
     (λ h. prefixed b 8 bs (prefix_no_sign b 111 h refl) (omega arith) (omega arith))
     (λ h. choose (b == 120) (48 ∷ b ∷ bs) (16, bs) (10, 48 ∷ b ∷ bs)
-      (λ h. prefixed b 16 bs (prefix_no_sign b 120 h refl) (omega arith) (omega arith))
-      (λ h. whole (48 ∷ b ∷ bs))))
+    (λ h. prefixed b 16 bs (prefix_no_sign b 120 h refl) (omega arith) (omega arith))
+    (λ h. whole (48 ∷ b ∷ bs))))
 
 split_zero : (bs : List ℕ) → SplitAs (48 ∷ bs) (behind_zero bs)
 split_zero [] = whole (48 ∷ [])
@@ -132,8 +132,8 @@ split_zero (b ∷ bs) = split_by b bs
 split : (text : List ℕ) → SplitAs text (based text)
 split [] = whole []
 split (b ∷ bs) = choose (b == 48) (b ∷ bs) (behind_zero bs) (10, b ∷ bs)
-  (λ h. let F : ℕ → Type 0 = λ x. SplitAs (x ∷ bs) (behind_zero bs) in subst F (sym (eqb-true b 48 h)) (split_zero bs))
-  (λ h. whole (b ∷ bs))
+    (λ h. let F : ℕ → Type 0 = λ x. SplitAs (x ∷ bs) (behind_zero bs) in subst F (sym (eqb-true b 48 h)) (split_zero bs))
+    (λ h. whole (b ∷ bs))
 
 within_limit : (minus : Bool) (n : ℕ) → FitsSigned w64 (signed minus n) → n ≤ magnitude_limit minus
 within_limit false n h = let low : n < 2 ^ 63 = h.sfits in omega (arith, low)

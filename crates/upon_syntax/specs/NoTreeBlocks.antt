@@ -86,7 +86,7 @@ module _ (s : List ℕ) where
   walks_fine a stack stack' before before' [] rest h = walks_nothing a rest rest refl
   walks_fine a stack stack' before before' (l ∷ ls) rest h =
       walks_then a a a (l ∷ (ls ++ rest)) (ls ++ rest) rest (walks_plain a l (ls ++ rest) (fine_begins_no_block s stack before l.token l h.0))
-        (walks_fine a (brackets_after stack l.token l) stack' (Some l) before' ls rest h.1)
+      (walks_fine a (brackets_after stack l.token l) stack' (Some l) before' ls rest h.1)
 
   walks_passes : (a : List Open) (ts rest : List Lexeme) → Passes s ts rest → Walks s a ts a rest
   walks_passes a ts rest p =
@@ -176,48 +176,54 @@ module _ (s : List ℕ) (passes : (e : Expression) (ts rest : List Lexeme) → I
   walks_if : (negated : Bool) (e : Expression) (a : List Open) (ts rest : List Lexeme) → IsIfTag s negated e ts rest → Opens if_block a ts rest
   walks_if negated e a ts rest g =
       let begin = g.2.1.1.lexeme.span in
-      let o : Open = record { kind = if_block; has_else = false; span = from_to begin (end_from begin g.0) } in
-      (o.span, walks_then s a (o ∷ a) (o ∷ a) ts g.0 rest (walks_begin s a (o ∷ a) (codes "if") ts g.0 g.2 tt refl)
-        (walks_then s (o ∷ a) (o ∷ a) (o ∷ a) g.0 g.1 rest (walks_condition negated e (o ∷ a) g.0 g.1 g.3) (walks_by s EndBlock (o ∷ a) g.1 rest refl g.4)))
+      let o : Open = record { kind = if_block; has_else = false; span = from_to begin (end_from begin g.0) } in (
+        o.span,
+        walks_then s a (o ∷ a) (o ∷ a) ts g.0 rest (walks_begin s a (o ∷ a) (codes "if") ts g.0 g.2 tt refl)
+            (walks_then s (o ∷ a) (o ∷ a) (o ∷ a) g.0 g.1 rest (walks_condition negated e (o ∷ a) g.0 g.1 g.3) (walks_by s EndBlock (o ∷ a) g.1 rest refl g.4)),
+      )
 
   walks_for : (names : LoopNames) (e : Expression) (a : List Open) (ts rest : List Lexeme) → IsForTag s names e ts rest → Opens for_block a ts rest
   walks_for names e a ts rest g =
       let begin = g.4.1.1.lexeme.span in
       let o : Open = record { kind = for_block; has_else = false; span = from_to begin (end_from begin g.0) } in
-      let b = o ∷ a in
-      (o.span, walks_then s a b b ts g.0 rest (walks_begin s a b (codes "for") ts g.0 g.4 tt refl)
-        (walks_then s b b b g.0 g.1 rest (walks_names names b g.0 g.1 g.5)
-        (walks_then s b b b g.1 g.2 rest (walks_word s (codes "in") b g.1 g.2 g.6)
-        (walks_then s b b b g.2 g.3 rest (walks_expression e b g.2 g.3 g.7) (walks_by s EndBlock b g.3 rest refl g.8)))))
+      let b = o ∷ a in (
+        o.span,
+        walks_then s a b b ts g.0 rest (walks_begin s a b (codes "for") ts g.0 g.4 tt refl)
+            (walks_then s b b b g.0 g.1 rest (walks_names names b g.0 g.1 g.5)
+            (walks_then s b b b g.1 g.2 rest (walks_word s (codes "in") b g.1 g.2 g.6)
+            (walks_then s b b b g.2 g.3 rest (walks_expression e b g.2 g.3 g.7) (walks_by s EndBlock b g.3 rest refl g.8)))),
+      )
 
   walks_with : (e : Expression) (name : Word) (a : List Open) (ts rest : List Lexeme) → IsWithTag s e name ts rest → Opens with_block a ts rest
   walks_with e name a ts rest g =
       let begin = g.4.1.1.lexeme.span in
       let o : Open = record { kind = with_block; has_else = false; span = from_to begin (end_from begin g.0) } in
-      let b = o ∷ a in
-      (o.span, walks_then s a b b ts g.0 rest (walks_begin s a b (codes "with") ts g.0 g.4 tt refl)
-        (walks_then s b b b g.0 g.1 rest (walks_expression e b g.0 g.1 g.5)
-        (walks_then s b b b g.1 g.2 rest (walks_word s (codes "as") b g.1 g.2 g.6)
-        (walks_then s b b b g.2 g.3 rest (walks_one s Ident name.span b g.2 g.3 refl g.7.0) (walks_by s EndBlock b g.3 rest refl g.8)))))
+      let b = o ∷ a in (
+        o.span,
+        walks_then s a b b ts g.0 rest (walks_begin s a b (codes "with") ts g.0 g.4 tt refl)
+            (walks_then s b b b g.0 g.1 rest (walks_expression e b g.0 g.1 g.5)
+            (walks_then s b b b g.1 g.2 rest (walks_word s (codes "as") b g.1 g.2 g.6)
+            (walks_then s b b b g.2 g.3 rest (walks_one s Ident name.span b g.2 g.3 refl g.7.0) (walks_by s EndBlock b g.3 rest refl g.8)))),
+      )
 
   walks_else_if : (negated : Bool) (e : Expression) (span : Span) (a : List Open) (ts rest : List Lexeme) → IsElseIfTag s negated e ts rest → Walks s (opening s if_block false span ∷ a) ts (opening s if_block false span ∷ a) rest
   walks_else_if negated e span a ts rest g =
       let b = opening s if_block false span ∷ a in
       let is : else_by s g.0 ≡ else_if = else_at s Keyword g.4.0 g.0 g.1 g.4.1.0 in
       walks_then s b b b ts g.0 rest (walks_begin s b b (codes "else") ts g.0 g.3 (ap (takes b) is) (ap (λ (x : Closer). by_closer (Some x) b) is))
-        (walks_then s b b b g.0 g.1 rest (walks_word s (codes "if") b g.0 g.1 g.4)
-        (walks_then s b b b g.1 g.2 rest (walks_condition negated e b g.1 g.2 g.5) (walks_by s EndBlock b g.2 rest refl g.6)))
+      (walks_then s b b b g.0 g.1 rest (walks_word s (codes "if") b g.0 g.1 g.4)
+      (walks_then s b b b g.1 g.2 rest (walks_condition negated e b g.1 g.2 g.5) (walks_by s EndBlock b g.2 rest refl g.6)))
 
   walks_include : (name : Word) (context : Option Expression) (a : List Open) (ts rest : List Lexeme) → IsStatement s (include name context) ts rest → Walks s a ts a rest
   walks_include name context a ts rest g =
       walks_then s a a a ts g.0 rest (walks_begin s a a (codes "include") ts g.0 g.3 tt refl)
-        (walks_then s a a a g.0 g.1 rest (walks_one s String name.span a g.0 g.1 refl g.4.0)
-        (walks_then s a a a g.1 g.2 rest (walks_context context a g.1 g.2 g.5) (walks_by s EndBlock a g.2 rest refl g.6)))
+      (walks_then s a a a g.0 g.1 rest (walks_one s String name.span a g.0 g.1 refl g.4.0)
+      (walks_then s a a a g.1 g.2 rest (walks_context context a g.1 g.2 g.5) (walks_by s EndBlock a g.2 rest refl g.6)))
 
   walks_inline : (e : Expression) (span : Span) (a : List Open) (ts rest : List Lexeme) → IsStatement s (inline_expr e span) ts rest → Walks s a ts a rest
   walks_inline e span a ts rest g =
       walks_then s a a a ts g.2 rest (walks_one s BeginExpr g.0 a ts g.2 refl g.4)
-        (walks_then s a a a g.2 g.3 rest (walks_expression e a g.2 g.3 g.5) (walks_one s EndExpr g.1 a g.3 rest refl g.6))
+      (walks_then s a a a g.2 g.3 rest (walks_expression e a g.2 g.3 g.5) (walks_one s EndExpr g.1 a g.3 rest refl g.6))
 
   mutual
     walks_statement : (t : Statement) (a : List Open) (ts rest : List Lexeme) → IsStatement s t ts rest → Walks s a ts a rest

@@ -1,15 +1,14 @@
 -- A text with a fault of cutting, or that ends in a tag or a comment, is not cut whole: it has no tree.
-use Rattle.std.proofs.Common.{◌≡◌, ◌⊎◌, inl, inr, ℕ, ◌+◌, ◌<◌, ◌≤◌, List, [], ◌∷◌, length, Bool, true, false, Option, Some, None, refl, sym, ap, ◌∙◌, subst, arith, codes, encode_utf8, lit<}
+use Rattle.std.proofs.Common.{◌≡◌, inl, inr, ℕ, ◌+◌, ◌<◌, ◌≤◌, List, [], ◌∷◌, length, Bool, Some, None, refl, sym, ap, ◌∙◌, subst, arith, encode_utf8, lit<}
 use Rattle.upon_types.specs.declared.types.Span.{Span}
 use Rattle.upon_types.specs.declared.types.Delimiter.{Delimiter}
 use Rattle.upon_types.specs.declared.types.Delimiter.TheVariants.{BeginExpr, EndExpr, BeginExprTrim, EndExprTrim, BeginBlock, EndBlock, BeginBlockTrim, EndBlockTrim, BeginComment, EndComment, BeginCommentTrim, EndCommentTrim}
 use Rattle.upon_types.specs.declared.types.token.Token.{Token}
 use Rattle.upon_types.specs.declared.types.token.Token.TheVariants.{QuestionDot, Ident, String}
 use Rattle.upon_types.specs.Tree.{Statements}
-use Rattle.upon_syntax.specs.Search.{Pair, HasTexts, Occurs, NoneAt, Stands}
-use Rattle.upon_syntax.specs.Raw.{IsRaw}
+use Rattle.upon_syntax.specs.Search.{Pair, HasTexts, Occurs, NoneAt}
 use Rattle.upon_syntax.specs.Delimiters.{Sort, comment, begun, ended}
-use Rattle.upon_syntax.specs.Cut.{Lexeme, Mode, outside, in_tag, in_comment, Begins, Ends, Step, Cut}
+use Rattle.upon_syntax.specs.Cut.{Lexeme, Mode, outside, in_tag, in_comment, Begins, Ends, Cut}
 use Rattle.upon_syntax.specs.Inside.{kind_by, Extent, begins_as, IsInner, IsQuoted}
 use Rattle.upon_syntax.specs.OneDelimiter.{one_stands, not_bare, stands_ends}
 use Rattle.upon_syntax.specs.OneRaw.{raw_is_no_delimiter}

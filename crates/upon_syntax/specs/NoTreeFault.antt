@@ -1,5 +1,5 @@
 -- A text with a fault, whichever, has no tree.
-use Rattle.std.proofs.Common.{◌≡◌, ℕ, List}
+use Rattle.std.proofs.Common.{ℕ, List}
 use Rattle.upon_types.specs.declared.types.Span.{Span}
 use Rattle.upon_types.specs.Tree.{Statements}
 use Rattle.upon_syntax.specs.Search.{Pair, HasTexts}

@@ -1,17 +1,16 @@
 -- A text with a literal that stands for nothing, or with a comment that ends where it has just begun, has no tree.
-use Rattle.std.proofs.Common.{◌≡◌, ◌⊎◌, inl, inr, ℕ, suc, ℤ, ◌+◌, ◌^◌, ◌<◌, ◌≤◌, nat_lt, List, [], ◌∷◌, ◌++◌, length, Bool, true, false, Option, Some, None, refl, sym, ap, ◌∙◌, subst, arith, if◌then◌else◌}
+use Rattle.std.proofs.Common.{◌≡◌, ◌⊎◌, inl, inr, ℕ, suc, ◌+◌, ◌^◌, ◌<◌, ◌≤◌, nat_lt, List, [], ◌∷◌, ◌++◌, length, Bool, true, false, Option, Some, None, refl, ap, ◌∙◌, subst, arith, if◌then◌else◌}
 use Rattle.upon_types.specs.declared.types.Span.{Span}
 use Rattle.upon_types.specs.declared.types.token.Token.{Token}
 use Rattle.upon_types.specs.declared.types.token.Token.TheVariants.{BeginExpr, BeginBlock, BeginComment, EndComment, Minus, Index, Number, String}
 use Rattle.upon_types.specs.Place.{part}
 use Rattle.upon_types.specs.Tree.{Statements}
 use Rattle.upon_syntax.specs.Search.{Pair, HasTexts}
-use Rattle.upon_syntax.specs.Delimiters.{comment}
-use Rattle.upon_syntax.specs.Cut.{Lexeme, Mode, outside, in_comment, Cut}
+use Rattle.upon_syntax.specs.Cut.{Lexeme, outside, in_comment, Cut}
 use Rattle.upon_syntax.specs.Shown.{shown_lexemes}
 use Rattle.upon_syntax.specs.Tokens.{significant}
-use Rattle.upon_syntax.specs.Literal.{digits_in, IsInteger, IsIndex, IsText}
-use Rattle.upon_syntax.specs.LiteralFaults.{NumberFault, is_float, base_text, number_fault, index_value, escape_fault}
+use Rattle.upon_syntax.specs.Literal.{digits_in, IsText}
+use Rattle.upon_syntax.specs.LiteralFaults.{is_float, base_text, number_fault, index_value}
 use Rattle.upon_syntax.specs.Reading.{brackets_from, last_of}
 use Rattle.upon_syntax.specs.Grammar.{AreStatements, HasTree}
 use Rattle.upon_syntax.specs.Faults.{span, tag_tokens, lexeme_at}

@@ -1,5 +1,5 @@
 -- A text with a token that a tag does not want, or with brackets that do not match, has no tree.
-use Rattle.std.proofs.Common.{◌≡◌, ◌⊎◌, inl, inr, ℕ, ◌+◌, ◌<◌, ◌≤◌, List, [], ◌∷◌, ◌++◌, length, Bool, true, false, Option, Some, None, refl, sym, ap, ◌∙◌, subst}
+use Rattle.std.proofs.Common.{◌≡◌, ◌⊎◌, inl, inr, ℕ, List, [], ◌∷◌, Bool, true, false, Option, None, refl, ap, ◌∙◌, subst}
 use Rattle.upon_types.specs.declared.types.Span.{Span}
 use Rattle.upon_types.specs.declared.types.token.Token.{Token}
 use Rattle.upon_types.specs.declared.types.token.Token.TheVariants.{Raw, BeginComment, CloseBracket, CloseBrace, CloseParen}
@@ -7,7 +7,7 @@ use Rattle.upon_types.specs.Tree.{Statements}
 use Rattle.upon_syntax.specs.Search.{Pair, HasTexts}
 use Rattle.upon_syntax.specs.Delimiters.{Sort, expression, block, comment, end_token}
 use Rattle.upon_syntax.specs.Cut.{Lexeme, in_tag, Step}
-use Rattle.upon_syntax.specs.Inside.{Extent, IsInner}
+use Rattle.upon_syntax.specs.Inside.{Extent}
 use Rattle.upon_syntax.specs.Tokens.{is_space, begins_comment, is_raw}
 use Rattle.upon_syntax.specs.Reading.{open_brackets, brackets_from}
 use Rattle.upon_syntax.specs.Grammar.{HasTree}

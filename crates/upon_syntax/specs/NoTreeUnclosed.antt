@@ -93,10 +93,10 @@ alike s e ls = sym (significant_erased (shown_lexemes s e ls)) ∙ ap significan
 -- the blocks behind a word, by where the tag ends and which `else` it is
 abbrev pub by_end : List ℕ → Span → List ℕ → List Open → Span → Closer → List Open
 by_end s begin word stack end other =
-  if bytes_eq word (codes "if") then (record { kind = if_block; has_else = false; span = from_to begin end } ∷ stack)
-  else (if bytes_eq word (codes "for") then (record { kind = for_block; has_else = false; span = from_to begin end } ∷ stack)
-  else (if bytes_eq word (codes "with") then (record { kind = with_block; has_else = false; span = from_to begin end } ∷ stack)
-  else by_closer (if bytes_eq word (codes "else") then Some other else (if bytes_eq word (codes "endif") then Some end_if
+    if bytes_eq word (codes "if") then (record { kind = if_block; has_else = false; span = from_to begin end } ∷ stack)
+    else (if bytes_eq word (codes "for") then (record { kind = for_block; has_else = false; span = from_to begin end } ∷ stack)
+    else (if bytes_eq word (codes "with") then (record { kind = with_block; has_else = false; span = from_to begin end } ∷ stack)
+    else by_closer (if bytes_eq word (codes "else") then Some other else (if bytes_eq word (codes "endif") then Some end_if
     else (if bytes_eq word (codes "endfor") then Some end_for else (if bytes_eq word (codes "endwith") then Some end_with else None)))) stack))
 
 pub same_by_word : (s : List ℕ) (begin : Span) (word : List ℕ) (xs ys : List Lexeme) (stack : List Open) → end_from begin xs ≡ end_from begin ys → else_by s xs ≡ else_by s ys → by_word s begin word xs stack ≡ by_word s begin word ys stack

@@ -26,7 +26,7 @@ use Rattle.upon_syntax.specs.BeforeTag.{split_before, open_tag_is, before_tag_is
 use Rattle.upon_syntax.specs.ReadBefore.{ends_block, has_end, Ended, read_before}
 
 end_or_later : (begin : Span) (t : Token) (l : Lexeme) (ls ys : List Lexeme) → (if ends_block t then true else has_end ls) ≡ true → (has_end ls ≡ true → end_from begin (ls ++ ys) ≡ end_from begin ls)
-  → (elim t as (λ _. Span) [ EndBlock ↦ l.span | _ ↦ end_from begin (ls ++ ys) ]) ≡ (elim t as (λ _. Span) [ EndBlock ↦ l.span | _ ↦ end_from begin ls ])
+    → (elim t as (λ _. Span) [ EndBlock ↦ l.span | _ ↦ end_from begin (ls ++ ys) ]) ≡ (elim t as (λ _. Span) [ EndBlock ↦ l.span | _ ↦ end_from begin ls ])
 end_or_later begin EndBlock l ls ys h k = refl
 end_or_later begin t l ls ys h k = k h
 
@@ -105,7 +105,7 @@ module _ (pairs : List Pair) (s : List ℕ) (texts : HasTexts pairs) where
 
   module _ (passes : (e : Expression) (ts rest : List Lexeme) → IsExpression s e ts rest → Passes s ts rest) where
     refuted : (f_lexemes lexemes : List Lexeme) (path hyphen : Bool) (p to : ℕ) (closer : Closer) (rest : List Lexeme) → Cut pairs s outside 0 f_lexemes (in_tag block path) p → Cut pairs s (in_tag block path) p rest outside (length s) → Ends pairs s block hyphen p to
-      → closer_of s (tag_tokens f_lexemes ++ lexeme_at EndBlock hyphen p to ∷ []) ≡ Some closer → lexemes ≡ f_lexemes ++ rest → AllTaken s [] (significant lexemes) → takes (blocks_from s [] (significant (before_tag f_lexemes))) closer ≡ true
+        → closer_of s (tag_tokens f_lexemes ++ lexeme_at EndBlock hyphen p to ∷ []) ≡ Some closer → lexemes ≡ f_lexemes ++ rest → AllTaken s [] (significant lexemes) → takes (blocks_from s [] (significant (before_tag f_lexemes))) closer ≡ true
     refuted ls lexemes path hyphen p to closer [] reads left ends c is taken = absurd (no_tag_outside path left.0)
     refuted ls lexemes path hyphen p to closer (r ∷ more) reads left ends c is taken =
         let t = split_before pairs s block path p ls reads in
@@ -122,12 +122,12 @@ module _ (pairs : List Pair) (s : List ℕ) (texts : HasTexts pairs) where
         let G : List Lexeme → Type 0 = λ x. closer_of s (without_spaces x ++ lexeme_at EndBlock hyphen p to ∷ []) ≡ Some closer in
         let stack = blocks_from s [] (significant t.front) in
         ap (λ (x : List Lexeme). takes (blocks_from s [] (significant x)) closer) before
-          ∙ tag_taken s stack (without_spaces tag) (lexeme_at EndBlock hyphen p to) r (significant more) closer refl end
-              (taken_behind s [] (significant t.front) (without_spaces tag ++ (r ∷ significant more)) parts.1 (subst F all taken)) (subst G opened c)
+        ∙ tag_taken s stack (without_spaces tag) (lexeme_at EndBlock hyphen p to) r (significant more) closer refl end
+        (taken_behind s [] (significant t.front) (without_spaces tag ++ (r ∷ significant more)) parts.1 (subst F all taken)) (subst G opened c)
 
     pub no_tree_unexpected_block : (p : ℕ) (place : Span) (reason : List ℕ) → UnexpectedBlock pairs s p place reason → (tree : Statements) → HasTree pairs s tree → ⊥
     no_tree_unexpected_block p place reason f tree h =
         let within = cut_ends pairs s texts outside (in_tag block f.in_path) 0 p f.lexemes (omega arith) f.reads in
         let on = cut_on pairs s texts outside (in_tag block f.in_path) outside 0 p (length s) f.lexemes h.lexemes within.1 f.reads h.cut in
         not_both (takes (blocks_from s [] (significant (before_tag f.lexemes))) f.closer)
-          (refuted f.lexemes h.lexemes f.in_path f.hyphen p f.to f.closer on.0 f.reads on.2 f.ends f.closing on.1 (tree_taken pairs s texts passes tree h)) f.refused
+        (refuted f.lexemes h.lexemes f.in_path f.hyphen p f.to f.closer on.0 f.reads on.2 f.ends f.closing on.1 (tree_taken pairs s texts passes tree h)) f.refused

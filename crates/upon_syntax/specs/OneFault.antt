@@ -1,20 +1,18 @@
 -- A fault of one row at one point has one place and one reason.
-use Rattle.std.proofs.Common.{◌≡◌, ◌⊎◌, inl, inr, ℕ, ◌+◌, ◌<◌, ◌≤◌, List, [], ◌∷◌, ◌++◌, length, Bool, true, false, Option, Some, None, refl, sym, ap, ◌∙◌, subst, arith, codes, encode_utf8, slice_index, take, drop, length-take, length-drop}
+use Rattle.std.proofs.Common.{◌≡◌, inl, inr, ℕ, ◌+◌, ◌<◌, List, ◌∷◌, ◌++◌, length, Bool, Some, None, sym, ap, ◌∙◌, subst, arith, codes, encode_utf8, take, drop, length-take, length-drop}
 use Rattle.std.proofs.lemmas.Bool.{cases_order}
 use Rattle.upon_types.specs.declared.types.Span.{Span}
-use Rattle.upon_types.specs.declared.types.token.Token.{Token}
 use Rattle.upon_types.specs.Token.{token_word}
 use Rattle.upon_syntax.specs.Search.{Pair, HasTexts, Occurs}
 use Rattle.upon_syntax.specs.Delimiters.{Sort, ended, begin_token, end_token}
-use Rattle.upon_syntax.specs.Cut.{Lexeme, Mode, outside, in_tag, in_comment, Cut, Begins, Ends}
-use Rattle.upon_syntax.specs.Inside.{ends_line, kind_by, IsInner}
+use Rattle.upon_syntax.specs.Cut.{Lexeme, in_tag, Ends}
+use Rattle.upon_syntax.specs.Inside.{kind_by, IsInner}
 use Rattle.upon_syntax.specs.OneDelimiter.{one_stands}
 use Rattle.upon_syntax.specs.OneRun.{one_char, char_has_bytes}
 use Rattle.upon_syntax.specs.OneInner.{one_inner}
-use Rattle.upon_syntax.specs.OneStep.{one_step}
 use Rattle.upon_syntax.specs.OneCut.{one_cut_to}
 use Rattle.upon_syntax.specs.Reading.{ReadsTo, open_tag, first_span, open_brackets}
-use Rattle.upon_syntax.specs.Faults.{UnexpectedEnd, UnclosedTag, UnclosedBracket, UnexpectedClose, UnexpectedCharacter, UndelimitedString, UnexpectedToken, UnexpectedEof, awaited, span, LineEnds, EndsQuestion, BeginsNoToken}
+use Rattle.upon_syntax.specs.Faults.{UnexpectedEnd, UnclosedTag, UnclosedBracket, UnexpectedClose, UnexpectedCharacter, UndelimitedString, awaited, span, LineEnds, EndsQuestion, BeginsNoToken}
 
 -- the place and the reason are the same
 abbrev pub Same : Span → Span → List ℕ → List ℕ → Type 0

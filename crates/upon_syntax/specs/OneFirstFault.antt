@@ -1,5 +1,5 @@
 -- A text has one first fault: one place and one reason.
-use Rattle.std.proofs.Common.{◌≡◌, ◌⊎◌, inl, inr, ℕ, ◌<◌, ◌≤◌, ◌==◌, List, refl, sym, ap, ◌∙◌, subst, arith, if◌then◌else◌}
+use Rattle.std.proofs.Common.{◌≡◌, inl, inr, ℕ, ◌==◌, List, refl, sym, ap, ◌∙◌, subst, arith, if◌then◌else◌}
 use Rattle.upon_types.specs.declared.types.Span.{Span}
 use Rattle.upon_syntax.specs.Search.{Pair, HasTexts}
 use Rattle.upon_syntax.specs.FirstFault.{Row, unexpected_end, unclosed_tag, unclosed_bracket, unexpected_close, unexpected_character, undelimited_string, unexpected_token, unexpected_eof, empty_comment, comment_eof, wrong_number, wrong_index, wrong_escape, unexpected_block, unclosed_block, row_rank, Holds, NotAfter, IsFirstFault}
@@ -26,9 +26,9 @@ one_fault pairs s texts unclosed_block p place other reason words a b = one_uncl
 
 by_rank : ℕ → Row
 by_rank n = if n == 0 then unexpected_end else (if n == 1 then unclosed_tag else (if n == 2 then unclosed_bracket else (if n == 3 then unexpected_close
-  else (if n == 4 then unexpected_character else (if n == 5 then undelimited_string else (if n == 6 then unexpected_token else (if n == 7 then unexpected_eof
-  else (if n == 8 then empty_comment else (if n == 9 then comment_eof else (if n == 10 then wrong_number else (if n == 11 then wrong_index
-  else (if n == 12 then wrong_escape else (if n == 13 then unexpected_block else unclosed_block)))))))))))))
+    else (if n == 4 then unexpected_character else (if n == 5 then undelimited_string else (if n == 6 then unexpected_token else (if n == 7 then unexpected_eof
+    else (if n == 8 then empty_comment else (if n == 9 then comment_eof else (if n == 10 then wrong_number else (if n == 11 then wrong_index
+    else (if n == 12 then wrong_escape else (if n == 13 then unexpected_block else unclosed_block)))))))))))))
 
 by_rank-row_rank : (r : Row) → by_rank (row_rank r) ≡ r
 unfolding by_rank

@@ -1,22 +1,22 @@
 -- A fault of a later row at one point has one place and one reason: tokens, comments, literals and blocks.
-use Rattle.std.proofs.Common.{◌≡◌, ◌⊎◌, inl, inr, ℕ, ◌+◌, ◌<◌, ◌≤◌, List, [], ◌∷◌, ◌++◌, length, Bool, true, false, Option, Some, None, refl, sym, ap, ◌∙◌, subst, arith, codes, ◌==◌, if◌then◌else◌}
+use Rattle.std.proofs.Common.{◌≡◌, inl, inr, ℕ, ◌+◌, List, [], ◌∷◌, ◌++◌, Bool, Some, refl, sym, ap, ◌∙◌, subst, codes, ◌==◌, if◌then◌else◌}
 use Rattle.std.proofs.lemmas.Bool.{cases_order}
 use Rattle.upon_types.specs.declared.types.Span.{Span}
 use Rattle.upon_types.specs.declared.types.token.Token.{Token}
-use Rattle.upon_types.specs.declared.types.token.Token.TheVariants.{EndBlock, Index, Number, String}
+use Rattle.upon_types.specs.declared.types.token.Token.TheVariants.{EndBlock, Index, Number}
 use Rattle.upon_types.specs.Place.{part}
 use Rattle.upon_syntax.specs.Search.{Pair, HasTexts}
 use Rattle.upon_syntax.specs.Delimiters.{Sort, block, comment, has_hyphen}
-use Rattle.upon_syntax.specs.Cut.{Lexeme, Mode, outside, in_tag, in_comment, Ends, Step}
-use Rattle.upon_syntax.specs.Inside.{IsInner, IsQuoted}
+use Rattle.upon_syntax.specs.Cut.{Lexeme, Mode, outside, in_tag, in_comment, Step}
+use Rattle.upon_syntax.specs.Inside.{IsInner}
 use Rattle.upon_syntax.specs.LiteralFaults.{escape_fault}
 use Rattle.upon_syntax.specs.OneDelimiter.{one_stands}
 use Rattle.upon_syntax.specs.OneInner.{one_inner}
 use Rattle.upon_syntax.specs.OneQuoted.{one_quoted}
 use Rattle.upon_syntax.specs.OneStep.{one_step}
 use Rattle.upon_syntax.specs.OneCut.{one_cut_to}
-use Rattle.upon_syntax.specs.Reading.{ReadsTo, open_tag, first_span, before_tag, last_of}
-use Rattle.upon_syntax.specs.Blocks.{Open, Closer, closer_of, open_blocks, outermost, block_word, closer_words}
+use Rattle.upon_syntax.specs.Reading.{ReadsTo, open_tag, first_span, last_of}
+use Rattle.upon_syntax.specs.Blocks.{Open, closer_of, open_blocks, outermost, block_word, closer_words}
 use Rattle.upon_syntax.specs.Tokens.{significant}
 use Rattle.upon_syntax.specs.Tags.{Symbol, word_of}
 use Rattle.upon_syntax.specs.Wanted.{Wanted, an_expression, a_string, a_name_or_index, an_end_expression, an_end_block, a_close_paren, a_close_bracket, a_close_brace, an_in, an_as, a_block_word, a_name, a_number, a_colon, rank, IsWanted, told_of, wanted_at_end, expected_found, in_quotes}
@@ -29,8 +29,8 @@ one_some x y e = cc
 
 by_rank : ℕ → Wanted
 by_rank n = if n == 0 then an_expression else (if n == 1 then a_string else (if n == 2 then a_name_or_index else (if n == 3 then an_end_expression
-  else (if n == 4 then an_end_block else (if n == 5 then a_close_paren else (if n == 6 then a_close_bracket else (if n == 7 then a_close_brace
-  else (if n == 8 then an_in else (if n == 9 then an_as else (if n == 10 then a_block_word else (if n == 11 then a_name else (if n == 12 then a_number else a_colon))))))))))))
+    else (if n == 4 then an_end_block else (if n == 5 then a_close_paren else (if n == 6 then a_close_bracket else (if n == 7 then a_close_brace
+    else (if n == 8 then an_in else (if n == 9 then an_as else (if n == 10 then a_block_word else (if n == 11 then a_name else (if n == 12 then a_number else a_colon))))))))))))
 
 by_rank-rank : (w : Wanted) → by_rank (rank w) ≡ w
 unfolding by_rank
@@ -101,7 +101,7 @@ module _ (pairs : List Pair) (s : List ℕ) (texts : HasTexts pairs) (p : ℕ) (
       let lexemes : a.lexemes ≡ b.lexemes = e.0 in
       let ends : a.to ≡ b.to = e.1 in
       let tolds : Some (record { place = place; reason = reason }) ≡ Some (record { place = other; reason = words }) =
-        sym a.told ∙ (λ i. number_told (part s (span p (ends i))) (last_of (tag_tokens (lexemes i))) p (ends i)) ∙ b.told in
+      sym a.told ∙ (λ i. number_told (part s (span p (ends i))) (last_of (tag_tokens (lexemes i))) p (ends i)) ∙ b.told in
       let same : record { place = place; reason = reason } ≡ record { place = other; reason = words } = one_some _ _ tolds in
       (ap (λ (x : Told). x.place) same, ap (λ (x : Told). x.reason) same)
 

@@ -1,9 +1,6 @@
 -- The open tag of a text that has a tree: its tokens are fine, and so is the token that comes next.
-use Rattle.std.proofs.Common.{◌≡◌, ◌⊎◌, inl, inr, ℕ, suc, ◌+◌, ◌<◌, ◌≤◌, List, [], ◌∷◌, ◌++◌, length, map, Bool, true, false, Option, Some, None, refl, sym, ap, ◌∙◌, subst, arith, append_assoc, length-append, codes}
-use Rattle.std.proofs.lemmas.Bool.{cases_order}
+use Rattle.std.proofs.Common.{◌≡◌, ◌⊎◌, inl, inr, ℕ, ◌≤◌, List, [], ◌∷◌, ◌++◌, length, true, false, Option, None, refl, sym, ap, ◌∙◌, subst, arith, append_assoc, length-append}
 use Rattle.std.proofs.lemmas.List.{map-append, length-map}
-use Rattle.upon_types.specs.declared.types.token.Token.{Token}
-use Rattle.upon_types.specs.declared.types.token.Token.TheVariants.{BeginExpr, EndExpr, BeginBlock, EndBlock}
 use Rattle.upon_types.specs.Tree.{Statements}
 use Rattle.upon_syntax.specs.Cut.{Lexeme}
 use Rattle.upon_syntax.specs.Reading.{brackets_from}
@@ -11,8 +8,8 @@ use Rattle.upon_syntax.specs.Grammar.{AreStatements}
 use Rattle.upon_syntax.specs.Tags.{IsTag, Symbol, symbol_of, symbols_of, BeginsTag}
 use Rattle.upon_syntax.specs.Fine.{TokenFine, Fine, FineFrom}
 use Rattle.upon_syntax.specs.LaterFaults.{minus_before}
-use Rattle.upon_syntax.specs.FineAt.{last_or, fine_at, fine_stack}
-use Rattle.upon_syntax.specs.Tails.{Tail, Meets, sooner, later, together, meets}
+use Rattle.upon_syntax.specs.FineAt.{last_or, fine_at}
+use Rattle.upon_syntax.specs.Tails.{Meets, sooner, later, together, meets}
 use Rattle.upon_syntax.specs.TagShapes.{begins_a_tag, ends_a_tag, TagShape, tag_shape}
 use Rattle.upon_syntax.specs.TagsInStatements.{found_statements}
 
@@ -26,7 +23,7 @@ no_end_at [] e ms h = h.0
 no_end_at (f ∷ fs) e ms h = no_end_at fs e ms h.1
 
 module _ (s : List ℕ) (tree : Statements) (front : List Lexeme) (begin : Lexeme) (inner : List Lexeme) (x : Lexeme) (back : List Lexeme)
-  (reads : AreStatements s tree (front ++ (begin ∷ (inner ++ (x ∷ back)))) []) (begins : begins_a_tag begin.token ≡ true) (no_ends : NoEnds inner) where
+    (reads : AreStatements s tree (front ++ (begin ∷ (inner ++ (x ∷ back)))) []) (begins : begins_a_tag begin.token ≡ true) (no_ends : NoEnds inner) where
   -- the tag that stands at the begin
   the_tag : (after : List Lexeme) × IsTag s (begin ∷ (inner ++ (x ∷ back))) after
   the_tag = let f = found_statements s begin (inner ++ (x ∷ back)) begins tree (front ++ (begin ∷ (inner ++ (x ∷ back)))) [] reads (front, refl) (omega arith) in (f.0, f.1)
@@ -73,7 +70,11 @@ module _ (s : List ℕ) (tree : Statements) (front : List Lexeme) (begin : Lexem
   -- the open tag's tokens and the next one begin a tag
   pub row_begins : (row : List Symbol) → row ≡ symbols_of s (begin ∷ inner) → BeginsTag (row ++ (symbol_of s x ∷ []))
   row_begins row e = record {
-      text = s; lexemes = begin ∷ (inner ++ (x ∷ back)); rest = next_token.0.0; tag = next_token.0.1; more = symbols_of s back;
-      begins = ap (λ v. symbol_of s begin ∷ v) (map-append (symbol_of s) inner (x ∷ back)) ∙ sym (append_assoc (symbols_of s (begin ∷ inner)) (symbol_of s x ∷ []) (symbols_of s back)) ∙ ap (λ v. (v ++ (symbol_of s x ∷ [])) ++ symbols_of s back) (sym e);
-      within = let long : length (symbols_of s back) ≡ length back = length-map back (symbol_of s) in omega (arith, long, next_token.0.2);
-    }
+    text = s;
+    lexemes = begin ∷ (inner ++ (x ∷ back));
+    rest = next_token.0.0;
+    tag = next_token.0.1;
+    more = symbols_of s back;
+    begins = ap (λ v. symbol_of s begin ∷ v) (map-append (symbol_of s) inner (x ∷ back)) ∙ sym (append_assoc (symbols_of s (begin ∷ inner)) (symbol_of s x ∷ []) (symbols_of s back)) ∙ ap (λ v. (v ++ (symbol_of s x ∷ [])) ++ symbols_of s back) (sym e);
+    within = let long : length (symbols_of s back) ≡ length back = length-map back (symbol_of s) in omega (arith, long, next_token.0.2);
+  }

@@ -81,17 +81,19 @@ module _ (pairs : List Pair) (s : List ℕ) (q : ℕ) (ys : List Lexeme) where
       let a = ap is_space t ∙ end_is_no_space so in
       let b = ap begins_comment t ∙ end_is_no_comment so in
       let none = ap begins_block t ∙ end_begins_nothing so in
-      tag_moved so (significant (l ∷ (ls ++ ys))) (l ∷ significant (ls ++ ys)) (significant (l ∷ ls)) (l ∷ significant ls) (kept l (ls ++ ys) a b) (kept l ls a b)
-        (both_then l (significant (ls ++ ys)) (significant ls) (true_or_false (has_end (significant ls) ≡ true) (begins_block l.token) none) h,
-         λ k. ap (λ (x : Bool). if x then true else has_end (significant ls)) (ap ends_block t ∙ ending so k))
+      tag_moved so (significant (l ∷ (ls ++ ys))) (l ∷ significant (ls ++ ys)) (significant (l ∷ ls)) (l ∷ significant ls) (kept l (ls ++ ys) a b) (kept l ls a b) (
+        both_then l (significant (ls ++ ys)) (significant ls) (true_or_false (has_end (significant ls) ≡ true) (begins_block l.token) none) h,
+        λ k. ap (λ (x : Bool). if x then true else has_end (significant ls)) (ap ends_block t ∙ ending so k),
+      )
 
   tag_inner : (so : Sort) (c : Bool) (l : Lexeme) (ls : List Lexeme) → is_space l.token ≡ c → is_inside l.token ≡ true → BothTag so (significant (ls ++ ys)) (significant ls) → BothTag so (significant (l ∷ (ls ++ ys))) (significant (l ∷ ls))
   tag_inner so true l ls a i h = tag_moved so (significant (l ∷ (ls ++ ys))) (significant (ls ++ ys)) (significant (l ∷ ls)) (significant ls) (ap without_comments (space_step l (ls ++ ys) a)) (ap without_comments (space_step l ls a)) h
   tag_inner so false l ls a i h =
       let b = inside_is_no_comment l.token i in
-      tag_moved so (significant (l ∷ (ls ++ ys))) (l ∷ significant (ls ++ ys)) (significant (l ∷ ls)) (l ∷ significant ls) (kept l (ls ++ ys) a b) (kept l ls a b)
-        (both_then l (significant (ls ++ ys)) (significant ls) (true_or_false (has_end (significant ls) ≡ true) (begins_block l.token) (inside_begins_nothing l.token i)) h.0,
-         λ k. ap (λ (x : Bool). if x then true else has_end (significant ls)) (inside_ends_nothing l.token i) ∙ h.1 k)
+      tag_moved so (significant (l ∷ (ls ++ ys))) (l ∷ significant (ls ++ ys)) (significant (l ∷ ls)) (l ∷ significant ls) (kept l (ls ++ ys) a b) (kept l ls a b) (
+        both_then l (significant (ls ++ ys)) (significant ls) (true_or_false (has_end (significant ls) ≡ true) (begins_block l.token) (inside_begins_nothing l.token i)) h.0,
+        λ k. ap (λ (x : Bool). if x then true else has_end (significant ls)) (inside_ends_nothing l.token i) ∙ h.1 k,
+      )
 
   abbrev Left : Mode → ℕ → List Lexeme → Type 0
   Left mode m ls = Cut pairs s mode m ls outside q
@@ -100,9 +102,9 @@ module _ (pairs : List Pair) (s : List ℕ) (q : ℕ) (ys : List Lexeme) where
   in_mode mode mode' m ls e h = let F : Mode → Type 0 = λ x. Left x m ls in subst F e h
 
   at_begin : (so : Sort) (l : Lexeme) (ls : List Lexeme) → l.token ≡ begin_token so → Left (mode_after outside l.token) l.span.n ls
-    → ((kind : Sort) → Left (in_tag kind false) l.span.n ls → BothTag kind (significant (ls ++ ys)) (significant ls))
-    → (l.token ≡ BeginComment → Left in_comment l.span.n ls → Both (comment_from l (without_spaces (ls ++ ys))) (comment_from l (without_spaces ls)))
-    → Both (significant (l ∷ (ls ++ ys))) (significant (l ∷ ls))
+      → ((kind : Sort) → Left (in_tag kind false) l.span.n ls → BothTag kind (significant (ls ++ ys)) (significant ls))
+      → (l.token ≡ BeginComment → Left in_comment l.span.n ls → Both (comment_from l (without_spaces (ls ++ ys))) (comment_from l (without_spaces ls)))
+      → Both (significant (l ∷ (ls ++ ys))) (significant (l ∷ ls))
   at_begin expression l ls t h k c =
       both_kept l ls (ap is_space t) (ap begins_comment t) (true_or_false (has_end (significant ls) ≡ true) (begins_block l.token) (ap begins_block t)) (k expression (in_mode (mode_after outside l.token) (in_tag expression false) l.span.n ls (ap (mode_after outside) t) h)).0
   at_begin block l ls t h k c =
@@ -110,9 +112,9 @@ module _ (pairs : List Pair) (s : List ℕ) (q : ℕ) (ys : List Lexeme) where
       both_kept l ls (ap is_space t) (ap begins_comment t) (λ e. b.1 refl) b.0
   at_begin comment l ls t h k c =
       both_moved (significant (l ∷ (ls ++ ys))) (comment_from l (without_spaces (ls ++ ys))) (significant (l ∷ ls)) (comment_from l (without_spaces ls))
-        (ap without_comments (no_space_step l (ls ++ ys) (ap is_space t)) ∙ comment_step l (without_spaces (ls ++ ys)) (ap begins_comment t))
-        (ap without_comments (no_space_step l ls (ap is_space t)) ∙ comment_step l (without_spaces ls) (ap begins_comment t))
-        (c t (in_mode (mode_after outside l.token) in_comment l.span.n ls (ap (mode_after outside) t) h))
+      (ap without_comments (no_space_step l (ls ++ ys) (ap is_space t)) ∙ comment_step l (without_spaces (ls ++ ys)) (ap begins_comment t))
+      (ap without_comments (no_space_step l ls (ap is_space t)) ∙ comment_step l (without_spaces ls) (ap begins_comment t))
+      (c t (in_mode (mode_after outside l.token) in_comment l.span.n ls (ap (mode_after outside) t) h))
 
   mutual
     read_outside : (m : ℕ) (ls : List Lexeme) → Left outside m ls → Both (significant (ls ++ ys)) (significant ls)
@@ -142,8 +144,8 @@ module _ (pairs : List Pair) (s : List ℕ) (q : ℕ) (ys : List Lexeme) where
           (ap (comment_from begin) (no_space_step l (ls ++ ys) (ap is_space x.0)) ∙ no_raw_step begin l (without_spaces (ls ++ ys)) (ap is_raw x.0))
           (ap (comment_from begin) (no_space_step l ls (ap is_space x.0)) ∙ no_raw_step begin l (without_spaces ls) (ap is_raw x.0))
           (both_then begin (l ∷ significant (ls ++ ys)) (l ∷ significant ls) (true_or_false (has_end (l ∷ significant ls) ≡ true) (begins_block begin.token) (ap begins_block t))
-            (both_then l (significant (ls ++ ys)) (significant ls) (true_or_false (has_end (significant ls) ≡ true) (begins_block l.token) (ap begins_block x.0))
-              (read_outside l.span.n ls (in_mode (mode_after in_comment l.token) outside l.span.n ls (ap (mode_after in_comment) x.0) h.2))))
+          (both_then l (significant (ls ++ ys)) (significant ls) (true_or_false (has_end (significant ls) ≡ true) (begins_block l.token) (ap begins_block x.0))
+          (read_outside l.span.n ls (in_mode (mode_after in_comment l.token) outside l.span.n ls (ap (mode_after in_comment) x.0) h.2))))
     ]
 
     read_raw : (n m : ℕ) (ls : List Lexeme) → IsRaw pairs s n m → Left in_comment m ls → Both (behind_end (without_spaces (ls ++ ys))) (behind_end (without_spaces ls))

@@ -1,13 +1,10 @@
 -- What a text reads to before a place, and what of it counts there: the open tag, its brackets, the open blocks.
-use Rattle.std.specs.Prelude.{◌≡◌, ℕ, List, [], ◌∷◌, ◌++◌, Bool, true, false, ◌&&◌, not, Option, Some, None, if◌then◌else◌, codes}
-use Rattle.std.specs.Str.{bytes_eq}
+use Rattle.std.specs.Prelude.{ℕ, List, [], ◌∷◌, ◌++◌, Bool, true, false, Option, Some, None, if◌then◌else◌}
 use Rattle.upon_types.specs.declared.types.Span.{Span}
 use Rattle.upon_types.specs.declared.types.token.Token.{Token}
-use Rattle.upon_types.specs.declared.types.token.Token.TheVariants.{Raw, BeginExpr, EndExpr, BeginBlock, EndBlock, BeginComment, EndComment, OpenBracket, CloseBracket, OpenBrace, CloseBrace, OpenParen, CloseParen, Keyword, Plus, Minus}
-use Rattle.upon_types.specs.Place.{part}
+use Rattle.upon_types.specs.declared.types.token.Token.TheVariants.{BeginExpr, BeginBlock, BeginComment, OpenBracket, CloseBracket, OpenBrace, CloseBrace, OpenParen, CloseParen}
 use Rattle.upon_syntax.specs.Search.{Pair}
-use Rattle.upon_syntax.specs.Cut.{Lexeme, Mode, outside, in_tag, in_comment, Cut}
-use Rattle.upon_syntax.specs.Tokens.{significant, without_spaces}
+use Rattle.upon_syntax.specs.Cut.{Lexeme, Mode, outside, Cut}
 
 -- the text reads to p: it is cut into these tokens, and lies then in this mode
 abbrev pub ReadsTo : List Pair → List ℕ → List Lexeme → Mode → ℕ → Type 0

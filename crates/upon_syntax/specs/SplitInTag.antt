@@ -60,8 +60,15 @@ module _ (s : List ℕ) (rest : List Lexeme) where
 
   tag_fronted : (sort : Sort) (tag front read : List Lexeme) → InTag s sort rest tag read → InTag s sort rest tag (front ++ read)
   tag_fronted sort tag front read h = record {
-    front = front ++ h.front; begin = h.begin; inner = h.inner; later = h.later; opens = h.opens; of_sort = h.of_sort; no_comment = h.no_comment; inside = h.inside;
-    tokens = ap (λ (x : List Lexeme). front ++ x) h.tokens ∙ sym (append_assoc front h.front (without_spaces (h.begin ∷ h.inner) ++ significant (shown_lexemes s h.later rest)))
+    front = front ++ h.front;
+    begin = h.begin;
+    inner = h.inner;
+    later = h.later;
+    opens = h.opens;
+    of_sort = h.of_sort;
+    no_comment = h.no_comment;
+    inside = h.inside;
+    tokens = ap (λ (x : List Lexeme). front ++ x) h.tokens ∙ sym (append_assoc front h.front (without_spaces (h.begin ∷ h.inner) ++ significant (shown_lexemes s h.later rest)));
   }
 
   tag_arrives : (sort : Sort) (path : Bool) → Arrives s rest (in_tag sort path) (TagGoal sort)
@@ -69,11 +76,18 @@ module _ (s : List ℕ) (rest : List Lexeme) where
     fronted = λ o tag front read h. tag_fronted sort tag front read h;
     at_outside = λ o acc later e. no_inside (InTag s sort rest acc (significant (shown_lexemes s later rest))) (ap is_outside e);
     at_tag = λ o so pa begin inner later e t c each. record {
-      front = []; begin = begin; inner = inner; later = later; opens = refl; of_sort = t ∙ ap begin_token (ap (sort_of sort) e);
-      no_comment = ap begins_comment t ∙ c; inside = each; tokens = refl
+      front = [];
+      begin = begin;
+      inner = inner;
+      later = later;
+      opens = refl;
+      of_sort = t ∙ ap begin_token (ap (sort_of sort) e);
+      no_comment = ap begins_comment t ∙ c;
+      inside = each;
+      tokens = refl;
     };
     at_comment = λ begin later e t. no_inside (InTag s sort rest (begin ∷ []) (comment_from begin (without_spaces (shown_lexemes s later rest)))) (ap is_comment e);
-    at_raw = λ begin raw later e t r. no_inside (InTag s sort rest (begin ∷ raw ∷ []) (behind_end (without_spaces (shown_lexemes s later rest)))) (ap is_comment e)
+    at_raw = λ begin raw later e t r. no_inside (InTag s sort rest (begin ∷ raw ∷ []) (behind_end (without_spaces (shown_lexemes s later rest)))) (ap is_comment e);
   }
 
   abbrev CommentGoal : Option Lexeme → List Lexeme → List Lexeme → Type 0
@@ -81,8 +95,11 @@ module _ (s : List ℕ) (rest : List Lexeme) where
 
   comment_fronted : (front read : List Lexeme) → InComment read → InComment (front ++ read)
   comment_fronted front read h = record {
-    front = front ++ h.front; begin = h.begin; back = h.back; of_comment = h.of_comment;
-    tokens = ap (λ (x : List Lexeme). front ++ x) h.tokens ∙ sym (append_assoc front h.front (h.begin ∷ h.back))
+    front = front ++ h.front;
+    begin = h.begin;
+    back = h.back;
+    of_comment = h.of_comment;
+    tokens = ap (λ (x : List Lexeme). front ++ x) h.tokens ∙ sym (append_assoc front h.front (h.begin ∷ h.back));
   }
 
   raw_just_begun : (t : Token) → t ≡ Raw → (l : Lexeme) → l.token ≡ t → just_begun (Some l) ≡ false
@@ -94,7 +111,7 @@ module _ (s : List ℕ) (rest : List Lexeme) where
     at_outside = λ o acc later e k. no_inside (InComment (significant (shown_lexemes s later rest))) (ap is_outside e);
     at_tag = λ o so pa begin inner later e t c each k. no_inside (InComment (without_spaces (begin ∷ inner) ++ significant (shown_lexemes s later rest))) (sym (ap is_comment e));
     at_comment = λ begin later e t k. here begin later t;
-    at_raw = λ begin raw later e t r k. no_inside (InComment (behind_end (without_spaces (shown_lexemes s later rest)))) (sym k ∙ raw_just_begun Raw refl raw r)
+    at_raw = λ begin raw later e t r k. no_inside (InComment (behind_end (without_spaces (shown_lexemes s later rest)))) (sym k ∙ raw_just_begun Raw refl raw r);
   }
 
 -- a cut that goes on from a place in a tag: the open tag's tokens are read as they are
@@ -105,6 +122,10 @@ split_in_tag pairs s sort path p ls rest h = walk pairs s rest (in_tag sort path
 pub split_in_comment : (pairs : List Pair) (s : List ℕ) (p : ℕ) (ls : List Lexeme) (l : Lexeme) (more : List Lexeme) → Cut pairs s outside 0 ls in_comment p → just_begun (last_of ls) ≡ true → l.token ≡ EndComment → InComment (significant (shown_lexemes s false (ls ++ l ∷ more)))
 split_in_comment pairs s p ls l more h begun t =
     walk pairs s (l ∷ more) in_comment p (CommentGoal s (l ∷ more))
-      (comment_arrives s (l ∷ more) (λ begin later of_comment. record {
-        front = []; begin = begin; back = significant_behind s later l more; of_comment = of_comment; tokens = at_empty_comment s later begin l more t
-      })) ls h (sym (ap just_begun (last_from_none ls)) ∙ begun)
+    (comment_arrives s (l ∷ more) (λ begin later of_comment. record {
+      front = [];
+      begin = begin;
+      back = significant_behind s later l more;
+      of_comment = of_comment;
+      tokens = at_empty_comment s later begin l more t;
+    })) ls h (sym (ap just_begun (last_from_none ls)) ∙ begun)

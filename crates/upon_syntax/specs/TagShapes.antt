@@ -1,14 +1,12 @@
 -- The shape of a tag: a begin, tokens that are fine, and an end.
-use Rattle.std.proofs.Common.{◌≡◌, ◌⊎◌, inl, inr, ℕ, ◌+◌, ◌<◌, ◌≤◌, List, [], ◌∷◌, ◌++◌, length, Bool, true, false, Option, Some, None, refl, sym, ap, ◌∙◌, subst, arith, append_assoc, length-append, codes}
-use Rattle.upon_types.specs.declared.types.Span.{Span}
+use Rattle.std.proofs.Common.{◌≡◌, ℕ, List, ◌∷◌, Bool, true, false, Option, Some, None, refl, ap, ◌∙◌, codes}
 use Rattle.upon_types.specs.declared.types.token.Token.{Token}
 use Rattle.upon_types.specs.declared.types.token.Token.TheVariants.{BeginExpr, EndExpr, BeginBlock, EndBlock, Comma}
-use Rattle.upon_types.specs.Path.{Word, LoopNames, item, key_value}
+use Rattle.upon_types.specs.Path.{LoopNames, item, key_value}
 use Rattle.upon_types.specs.Expression.{Expression}
-use Rattle.upon_types.specs.Tree.{inline_expr, include}
 use Rattle.upon_syntax.specs.Cut.{Lexeme}
-use Rattle.upon_syntax.specs.Tokens.{Goes, GoesBy}
-use Rattle.upon_syntax.specs.Grammar.{BeginsBlock, IsWordTag, IsCondition, IsIfTag, IsElseIfTag, AreLoopNames, IsForTag, IsWithTag, IsIncludeContext, IsStatement}
+use Rattle.upon_syntax.specs.Tokens.{GoesBy}
+use Rattle.upon_syntax.specs.Grammar.{BeginsBlock, IsWordTag, IsCondition, AreLoopNames, IsIncludeContext}
 use Rattle.upon_syntax.specs.Tags.{IsTag, an_inline, an_include, an_if, an_else_if, an_else, an_endif, a_for, an_endfor, a_with, an_endwith}
 use Rattle.upon_syntax.specs.Fine.{Passes, passes_then, passes_nothing}
 use Rattle.upon_syntax.specs.FineExpression.{passes_by, passes_name, passes_text, passes_keyword, passes_expression}
@@ -37,8 +35,15 @@ pub record TagShape (s : List ℕ) (ts rest : List Lexeme) : Type 0 where
 module _ (s : List ℕ) where
   shape : (t u : Token) (ts us vs rest : List Lexeme) → begins_a_tag t ≡ true → ends_a_tag u ≡ true → GoesBy t ts us → Passes s us vs → GoesBy u vs rest → TagShape s ts rest
   shape t u ts us vs rest h k g fine e = record {
-    begin = g.1.lexeme; inside = us; starts = g.1.is; opens = ap begins_a_tag g.1.of_token ∙ h; last = vs; fine = fine;
-    end = e.1.lexeme; stops = e.1.is; closes = ap ends_a_tag e.1.of_token ∙ k
+    begin = g.1.lexeme;
+    inside = us;
+    starts = g.1.is;
+    opens = ap begins_a_tag g.1.of_token ∙ h;
+    last = vs;
+    fine = fine;
+    end = e.1.lexeme;
+    stops = e.1.is;
+    closes = ap ends_a_tag e.1.of_token ∙ k;
   }
 
   block_shape : (ts us vs rest : List Lexeme) (word : List ℕ) → BeginsBlock s word ts us → Passes s us vs → GoesBy EndBlock vs rest → TagShape s ts rest

@@ -1,12 +1,12 @@
 -- Tags as rows of tokens: what begins a tag, whatever it may go on with.
-use Rattle.std.specs.Prelude.{◌≡◌, ℕ, ◌≤◌, List, [], ◌∷◌, ◌++◌, length, map, Bool, codes}
+use Rattle.std.specs.Prelude.{◌≡◌, ℕ, ◌≤◌, List, [], ◌++◌, length, map, Bool, codes}
 use Rattle.upon_types.specs.declared.types.Span.{Span}
 use Rattle.upon_types.specs.declared.types.token.Token.{Token}
 use Rattle.upon_types.specs.declared.types.token.Token.TheVariants.{Keyword}
 use Rattle.upon_types.specs.Place.{part}
 use Rattle.upon_types.specs.Path.{Word, LoopNames}
 use Rattle.upon_types.specs.Expression.{Expression}
-use Rattle.upon_types.specs.Tree.{Statement, inline_expr, include}
+use Rattle.upon_types.specs.Tree.{inline_expr, include}
 use Rattle.std.specs.Prelude.{Option}
 use Rattle.upon_syntax.specs.Cut.{Lexeme}
 use Rattle.upon_syntax.specs.Grammar.{IsStatement, IsIfTag, IsElseIfTag, IsForTag, IsWithTag, IsWordTag}

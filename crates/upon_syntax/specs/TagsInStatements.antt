@@ -1,11 +1,9 @@
 -- Statements end with what is left of them, and where a begin stands among their tokens, a whole tag stands there.
-use Rattle.std.proofs.Common.{◌≡◌, ◌⊎◌, inl, inr, ℕ, ◌+◌, ◌<◌, ◌≤◌, List, [], ◌∷◌, ◌++◌, length, Bool, true, false, Option, Some, None, refl, sym, ap, ◌∙◌, subst, arith, length-append, codes}
-use Rattle.upon_types.specs.declared.types.token.Token.{Token}
+use Rattle.std.proofs.Common.{◌≡◌, inl, inr, ℕ, ◌<◌, ◌≤◌, List, [], ◌∷◌, ◌++◌, length, true, false, sym, ap, ◌∙◌, arith, length-append}
 use Rattle.upon_types.specs.declared.types.token.Token.TheVariants.{Raw}
 use Rattle.upon_types.specs.Tree.{Statement, raw, inline_expr, include, if_else, for_loop, with, Statements, no_statements, statement_then, Else, no_else, otherwise}
 use Rattle.upon_syntax.specs.Cut.{Lexeme}
-use Rattle.upon_syntax.specs.Tokens.{Goes}
-use Rattle.upon_syntax.specs.Grammar.{IsStatement, AreStatements, IsElse, IsElseIf, IsIfAfterElse, IsWordTag}
+use Rattle.upon_syntax.specs.Grammar.{IsStatement, AreStatements, IsElse, IsElseIf, IsIfAfterElse}
 use Rattle.upon_syntax.specs.Tags.{IsTag, an_inline, an_include, an_if, an_else_if, an_else, an_endif, a_for, an_endfor, a_with, an_endwith}
 use Rattle.upon_syntax.specs.Tails.{Tail, tail_same, tail_one, tail_then, longer_or_tail}
 use Rattle.upon_syntax.specs.TagShapes.{begins_a_tag, tag_shape}

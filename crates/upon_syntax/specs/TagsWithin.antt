@@ -1,15 +1,13 @@
 -- Where a begin stands among the tokens of statements, a whole tag stands there.
-use Rattle.std.proofs.Common.{◌≡◌, ◌⊎◌, inl, inr, ℕ, ◌+◌, ◌<◌, ◌≤◌, List, [], ◌∷◌, ◌++◌, length, Bool, true, false, Option, Some, None, refl, sym, ap, ◌∙◌, subst, arith, append_assoc, length-append, codes}
+use Rattle.std.proofs.Common.{◌≡◌, inl, inr, ℕ, ◌<◌, ◌≤◌, List, [], ◌∷◌, ◌++◌, length, true, Option, None, refl, sym, ap, ◌∙◌, subst}
 use Rattle.upon_types.specs.declared.types.token.Token.{Token}
-use Rattle.upon_types.specs.declared.types.token.Token.TheVariants.{Raw, BeginExpr, EndExpr, BeginBlock, EndBlock}
-use Rattle.upon_types.specs.Tree.{Statement, raw, inline_expr, include, if_else, for_loop, with, Statements, no_statements, statement_then, Else, no_else, otherwise}
+use Rattle.upon_types.specs.declared.types.token.Token.TheVariants.{BeginExpr, BeginBlock}
 use Rattle.upon_syntax.specs.Cut.{Lexeme}
 use Rattle.upon_syntax.specs.Reading.{brackets_from}
-use Rattle.upon_syntax.specs.Grammar.{IsStatement, AreStatements, IsElse, IsElseIf, IsIfAfterElse}
-use Rattle.upon_syntax.specs.Tags.{IsTag, an_inline, an_include, an_if, an_else_if, an_else, an_endif, a_for, an_endfor, a_with, an_endwith}
-use Rattle.upon_syntax.specs.Fine.{TokenFine, Fine, Passes}
+use Rattle.upon_syntax.specs.Tags.{IsTag}
+use Rattle.upon_syntax.specs.Fine.{TokenFine, Fine}
 use Rattle.upon_syntax.specs.FineAt.{last_or, fine_at}
-use Rattle.upon_syntax.specs.Tails.{Tail, tail_same, tail_one, tail_then, longer_or_tail, among_or_behind}
+use Rattle.upon_syntax.specs.Tails.{Tail, tail_one, tail_then, among_or_behind}
 use Rattle.upon_syntax.specs.TagShapes.{begins_a_tag, ends_a_tag, TagShape, tag_shape}
 
 module _ (s : List ℕ) where
@@ -35,9 +33,9 @@ module _ (s : List ℕ) where
       let row : (p.0 ++ (g.end ∷ rest)) ≡ (fs ++ (b ∷ more)) = ap (λ x. p.0 ++ x) (sym g.stops) ∙ sym p.1 ∙ e in
       elim (among_or_behind p.0 g.end rest fs b more row l) [
         | inl found ↦
-          let fine = p.2 None refl in
-          let F : List Lexeme → Type 0 = λ x. Fine s [] None x [] fine.0 in
-          begin_is_not_fine (brackets_from [] fs) (last_or None fs) b.token b begins (fine_at s [] [] None fine.0 fs b found.0 (subst F found.1 fine.2))
+            let fine = p.2 None refl in
+            let F : List Lexeme → Type 0 = λ x. Fine s [] None x [] fine.0 in
+            begin_is_not_fine (brackets_from [] fs) (last_or None fs) b.token b begins (fine_at s [] [] None fine.0 fs b found.0 (subst F found.1 fine.2))
         | inr same ↦ begin_is_no_end b.token begins (sym (ap (λ (x : Lexeme). ends_a_tag x.token) same) ∙ g.closes)
       ]
 

@@ -1,5 +1,5 @@
 -- The word that is told for what a tag wants at a place, and what is told of a token that may not stand there.
-use Rattle.std.specs.Prelude.{◌≡◌, ℕ, ◌<◌, List, [], ◌∷◌, ◌++◌, codes}
+use Rattle.std.specs.Prelude.{ℕ, ◌<◌, List, [], ◌∷◌, ◌++◌, codes}
 use Rattle.upon_types.specs.declared.types.token.Token.{Token}
 use Rattle.upon_types.specs.declared.types.token.Token.TheVariants.{EndExpr, EndBlock, OpenBracket, CloseBracket, CloseBrace, CloseParen, Colon, Keyword, Ident, Index, Number, String}
 use Rattle.upon_types.specs.Token.{token_word}

@@ -1,9 +1,9 @@
 -- Runs of characters, and what they are made of inside tags: whitespace, names and keywords.
-use Rattle.std.specs.Prelude.{◌≡◌, ◌⊎◌, ℕ, ◌+◌, ◌==◌, ◌||◌, List, [], ◌∷◌, length, Bool, true, false, codes, encode_utf8, encode_utf8_all}
+use Rattle.std.specs.Prelude.{◌≡◌, ℕ, ◌+◌, ◌==◌, ◌||◌, List, [], ◌∷◌, length, Bool, true, false, codes, encode_utf8, encode_utf8_all}
 use Rattle.std.specs.List.{list_any}
 use Rattle.std.specs.Str.{bytes_eq}
-use Rattle.unicode_ident.specs.Ident.{is_xid_start, is_xid_continue}
-use Rattle.upon_syntax.specs.Search.{Pair, Occurs, NoneAt}
+use Rattle.unicode_ident.specs.Ident.{is_xid_start}
+use Rattle.upon_syntax.specs.Search.{Occurs}
 
 -- the whitespace inside tags: tab, line feed, carriage return and space
 abbrev pub is_tag_space : ℕ → Bool
