@@ -24,12 +24,18 @@ enum Failure {
 }
 
 impl From<Error> for Failure {
+    ghost use Rattle.upon.specs.declared.program.Failure.TheVariants.{Fault};
+
+    ghost from_gives = { λ error failure. failure ≡ Fault error };
+
     fn from(error: Error) -> Failure {
         Failure::Fault(error)
     }
 }
 
 impl From<AllocError> for Failure {
+    ghost from_gives = { λ _ failure. status_of failure ≡ 1 };
+
     fn from(error: AllocError) -> Failure {
         Failure::Fault(error.into())
     }

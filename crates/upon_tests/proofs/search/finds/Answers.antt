@@ -2,4 +2,4 @@ use Rattle.std.proofs.lemmas.Str.{IsCharBoundary-start}
 use Rattle.upon_tests.proofs.search.finds.Goals as goal
 
 pub find_at-requires : goal.find_at-requires
-find_at-requires c = IsCharBoundary-start c.args.source.now c.utf8.source
+find_at-requires g c = IsCharBoundary-start c.args.source.now c.utf8.source
