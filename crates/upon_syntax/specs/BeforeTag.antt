@@ -7,7 +7,7 @@ use Rattle.upon_syntax.specs.Inside.{path_after}
 use Rattle.upon_syntax.specs.Cut.{Lexeme, Mode, outside, in_tag, in_comment, Step, mode_after, Cut}
 use Rattle.upon_syntax.specs.Tokens.{begins_comment}
 use Rattle.upon_syntax.specs.Reading.{opens_tag, from_begin, open_tag, closed_part, before_tag}
-use Rattle.upon_syntax.specs.TagWalk.{is_inside, EachInside, extent_is_inside, inside_is_no_begin, inside_stays, end_leaves, begin_step, other_step}
+use Rattle.upon_syntax.specs.InsideTag.{is_inside, EachInside, extent_is_inside, inside_is_no_begin, inside_stays, end_leaves, begin_step, other_step}
 
 abbrev is_outside : Mode → Bool
 is_outside outside = true

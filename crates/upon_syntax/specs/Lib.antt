@@ -70,12 +70,14 @@ pub mod TagsWithin
 pub mod TagsInStatements
 pub mod NoCommentToken
 pub mod OpenTagFine
+pub mod InsideTag
 pub mod TagWalk
 pub mod SplitInTag
 pub mod NextToken
 pub mod NoTreeTag
 pub mod NoLiteralFault
 pub mod NoTreeLiteral
+pub mod TagBlocks
 pub mod NoTreeBlocks
 pub mod NoTreeUnclosed
 pub mod BeforeTag

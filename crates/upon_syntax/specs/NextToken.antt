@@ -15,7 +15,7 @@ use Rattle.upon_syntax.specs.Faults.{tag_tokens, tag_row, lexeme_at}
 use Rattle.upon_syntax.specs.Fine.{TokenFine, Fine}
 use Rattle.upon_syntax.specs.FineAt.{last_or}
 use Rattle.upon_syntax.specs.TagShapes.{begins_a_tag, ends_a_tag}
-use Rattle.upon_syntax.specs.TagWalk.{is_inside, EachInside}
+use Rattle.upon_syntax.specs.InsideTag.{is_inside, EachInside}
 use Rattle.upon_syntax.specs.SplitInTag.{InTag, split_in_tag}
 use Rattle.upon_syntax.specs.OneStep.{one_step, step_ends}
 use Rattle.upon_syntax.specs.OneCut.{cut_on}

@@ -16,9 +16,10 @@ use Rattle.upon_syntax.specs.Grammar.{HasTree}
 use Rattle.upon_syntax.specs.Fine.{Passes}
 use Rattle.upon_syntax.specs.OneCut.{one_cut_to}
 use Rattle.upon_syntax.specs.LaterFaults.{UnclosedBlock}
-use Rattle.upon_syntax.specs.TagWalk.{shown_token}
+use Rattle.upon_syntax.specs.InsideTag.{shown_token}
 use Rattle.upon_syntax.specs.Blocks.{if_block, for_block, with_block, Open, Closer, else_if, plain_else, end_if, end_for, end_with, else_by, closer_by, end_from, by_word, by_closer, blocks_from, outermost}
-use Rattle.upon_syntax.specs.NoTreeBlocks.{begins_block, is_word, stepped, word_next, closer_in, Closing, TokenTaken, AllTaken, blocks_of_statements, taken_of_statements}
+use Rattle.upon_syntax.specs.TagBlocks.{begins_block, is_word, stepped, word_next, closer_in, Closing, TokenTaken, AllTaken}
+use Rattle.upon_syntax.specs.NoTreeBlocks.{blocks_of_statements, taken_of_statements}
 
 -- a raw part without its place
 abbrev pub erased : Token → Lexeme → Lexeme

@@ -18,9 +18,9 @@ use Rattle.upon_syntax.specs.OneStep.{one_step}
 use Rattle.upon_syntax.specs.OneCut.{cut_on, cut_ends}
 use Rattle.upon_syntax.specs.Faults.{tag_tokens, lexeme_at}
 use Rattle.upon_syntax.specs.LaterFaults.{UnexpectedBlock}
-use Rattle.upon_syntax.specs.TagWalk.{EachInside, inside_is_no_comment, one_read, kept, spaces_append}
+use Rattle.upon_syntax.specs.InsideTag.{EachInside, inside_is_no_comment, one_read, kept, spaces_append}
 use Rattle.upon_syntax.specs.Blocks.{Open, Closer, else_if, plain_else, else_by, closer_by, closer_of, takes, end_from, blocks_from}
-use Rattle.upon_syntax.specs.NoTreeBlocks.{begins_block, is_word, stepped, word_next, closer_in, Closing, TokenTaken, AllTaken}
+use Rattle.upon_syntax.specs.TagBlocks.{begins_block, is_word, stepped, word_next, closer_in, Closing, TokenTaken, AllTaken}
 use Rattle.upon_syntax.specs.NoTreeUnclosed.{same_by_word, same_closer_by, tree_taken}
 use Rattle.upon_syntax.specs.BeforeTag.{split_before, open_tag_is, before_tag_is}
 use Rattle.upon_syntax.specs.ReadBefore.{ends_block, has_end, Ended, read_before}

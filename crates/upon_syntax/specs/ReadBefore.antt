@@ -8,8 +8,8 @@ use Rattle.upon_syntax.specs.Delimiters.{Sort, expression, block, comment, begin
 use Rattle.upon_syntax.specs.Inside.{path_after}
 use Rattle.upon_syntax.specs.Cut.{Lexeme, Mode, outside, in_tag, in_comment, mode_after, Cut}
 use Rattle.upon_syntax.specs.Tokens.{is_space, begins_comment, is_raw, without_spaces, without_comments, comment_from, behind_end, significant}
-use Rattle.upon_syntax.specs.TagWalk.{is_inside, extent_is_inside, inside_is_no_comment, inside_stays, end_leaves, end_is_no_comment, end_is_no_space, no_space_step, space_step, comment_step, raw_step, no_raw_step, kept, raw_then_raw}
-use Rattle.upon_syntax.specs.NoTreeBlocks.{begins_block}
+use Rattle.upon_syntax.specs.InsideTag.{is_inside, extent_is_inside, inside_is_no_comment, inside_stays, end_leaves, end_is_no_comment, end_is_no_space, no_space_step, space_step, comment_step, raw_step, no_raw_step, kept, raw_then_raw}
+use Rattle.upon_syntax.specs.TagBlocks.{begins_block}
 
 abbrev pub ends_block : Token → Bool
 ends_block EndBlock = true

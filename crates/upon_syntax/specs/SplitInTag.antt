@@ -9,7 +9,8 @@ use Rattle.upon_syntax.specs.Shown.{shown_lexemes}
 use Rattle.upon_syntax.specs.Tokens.{begins_comment, without_spaces, comment_from, behind_end, significant}
 use Rattle.upon_syntax.specs.Reading.{open_tag, last_of}
 use Rattle.upon_syntax.specs.LaterFaults.{just_begun}
-use Rattle.upon_syntax.specs.TagWalk.{EachInside, last_from, Arrives, walk, significant_behind, at_empty_comment}
+use Rattle.upon_syntax.specs.InsideTag.{EachInside, significant_behind, at_empty_comment}
+use Rattle.upon_syntax.specs.TagWalk.{last_from, Arrives, walk}
 
 -- the open tag is a begin and what may stand inside a tag, and its tokens are read as they are, between some others and the rest
 pub record InTag (s : List ℕ) (sort : Sort) (rest tag read : List Lexeme) : Type 0 where
