@@ -1,6 +1,6 @@
 -- Texts and what is wrong with them: a fault that holds, with its place and its reason.
 use Rattle.std.specs.Fmt.{digits}
-use Rattle.std.proofs.Common.{◌≡◌, ◌⊎◌, inl, inr, ℕ, ◌<◌, ◌==◌, ◌&&◌, pos, List, [], ◌∷◌, ◌++◌, Bool, true, false, Some, refl, sym, ap, subst, ◌∙◌, arith, codes}
+use Rattle.std.proofs.Common.{◌≡◌, ◌⊎◌, inl, inr, ℕ, pos, List, [], ◌∷◌, ◌++◌, Bool, true, false, Some, refl, sym, ap, subst, ◌∙◌, arith, codes}
 use Rattle.upon_syntax.proofs.Computing.{computing}
 use Rattle.upon_types.specs.declared.types.token.Token.TheVariants.{Raw, BeginExpr, EndExpr, BeginBlock, EndBlock, BeginComment, OpenBracket, CloseBracket, OpenBrace, OpenParen, CloseParen, Comma, Colon, Whitespace, Keyword, Ident, Number, String}
 use Rattle.upon_types.specs.declared.types.Span.{Span}
@@ -13,8 +13,8 @@ use Rattle.upon_types.specs.Expression.{Expression, base, filtered, Base, var, l
 use Rattle.upon_types.specs.Tree.{inline_expr}
 use Rattle.upon_syntax.specs.Search.{Pair}
 use Rattle.upon_syntax.specs.Searcher.{default_pairs}
-use Rattle.upon_syntax.specs.Delimiters.{Sort, expression, block, comment}
-use Rattle.upon_syntax.specs.Cut.{Lexeme, Mode, outside, in_tag, in_comment, Begins, Ends, mode_after, Cut}
+use Rattle.upon_syntax.specs.Delimiters.{Sort, expression, comment}
+use Rattle.upon_syntax.specs.Cut.{Lexeme, Mode, outside, in_tag, Begins, Ends, mode_after, Cut}
 use Rattle.upon_syntax.specs.Reading.{ReadsTo}
 use Rattle.upon_syntax.specs.Tokens.{Goes}
 use Rattle.upon_syntax.specs.Expressions.{op_token, sign_token, IsBareName, IsStep, IsLiteral, IsBase, IsExpression}
@@ -32,6 +32,7 @@ use Rattle.upon_syntax.proofs.NoTree.{first_goes, first_is, by_block}
 use Rattle.upon_syntax.proofs.NoCut.{steps_test, last_mode}
 use Rattle.upon_syntax.proofs.Examples.Short.{at, lex, number, one}
 
+-- a cut to a place, in the mode behind its tokens
 cut_to : (pairs : List Pair) (s : List ℕ) (mode : Mode) (m n : ℕ) (ls : List Lexeme) → steps_test pairs s mode m n ls ≡ true → Cut pairs s mode m ls (last_mode mode ls) n
 cut_to pairs s mode m n [] h = (refl, same_number _ _ h)
 cut_to pairs s mode m n (l ∷ ls) h =
