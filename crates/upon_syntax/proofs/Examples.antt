@@ -7,3 +7,4 @@ pub mod Trimming
 pub mod Comments
 pub mod Delimiters
 pub mod NoTree
+pub mod Faults
