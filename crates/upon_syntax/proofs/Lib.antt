@@ -20,5 +20,6 @@ pub mod HasTreeTests
 pub mod NoTree
 pub mod NoNumber
 pub mod NoCut
+pub mod TagRows
 pub mod Examples
 pub mod Computing

@@ -25,7 +25,7 @@ abbrev pub last_mode : Mode → List Lexeme → Mode
 last_mode mode [] = mode
 last_mode mode (l ∷ ls) = last_mode (mode_after mode l.token) ls
 
-steps_tested : (pairs : List Pair) (s : List ℕ) (mode : Mode) (m n : ℕ) (ls : List Lexeme) → steps_test pairs s mode m n ls ≡ true → Cut pairs s mode m ls (last_mode mode ls) n
+pub steps_tested : (pairs : List Pair) (s : List ℕ) (mode : Mode) (m n : ℕ) (ls : List Lexeme) → steps_test pairs s mode m n ls ≡ true → Cut pairs s mode m ls (last_mode mode ls) n
 steps_tested pairs s mode m n [] h = (refl, same_number _ _ h)
 steps_tested pairs s mode m n (l ∷ ls) h =
     let rest = right_true _ _ h in

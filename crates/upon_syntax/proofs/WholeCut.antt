@@ -17,11 +17,11 @@ begins_by sort hyphen kind = is_sort sort (begun kind) && same_bool (has_hyphen 
 abbrev pub ends_by : Sort → Bool → Delimiter → Bool
 ends_by sort hyphen kind = is_sort sort (ended kind) && same_bool (has_hyphen kind) hyphen
 
-begins_tested : (pairs : List Pair) (s : List ℕ) (sort : Sort) (hyphen : Bool) (m n : ℕ) → stands_test (begins_by sort hyphen) pairs s m n ≡ true → Begins pairs s sort hyphen m n
+pub begins_tested : (pairs : List Pair) (s : List ℕ) (sort : Sort) (hyphen : Bool) (m n : ℕ) → stands_test (begins_by sort hyphen) pairs s m n ≡ true → Begins pairs s sort hyphen m n
 begins_tested pairs s sort hyphen m n h = let d = stands_tested (begins_by sort hyphen) pairs s m n h in
     record { kind = d.0; stands = d.1; of_sort = is_sort_tested _ _ (left_true _ _ d.2); of_hyphen = one_bool _ _ (right_true _ _ d.2) }
 
-ends_tested : (pairs : List Pair) (s : List ℕ) (sort : Sort) (hyphen : Bool) (m n : ℕ) → stands_test (ends_by sort hyphen) pairs s m n ≡ true → Ends pairs s sort hyphen m n
+pub ends_tested : (pairs : List Pair) (s : List ℕ) (sort : Sort) (hyphen : Bool) (m n : ℕ) → stands_test (ends_by sort hyphen) pairs s m n ≡ true → Ends pairs s sort hyphen m n
 ends_tested pairs s sort hyphen m n h = let d = stands_tested (ends_by sort hyphen) pairs s m n h in
     record { kind = d.0; stands = d.1; of_sort = is_sort_tested _ _ (left_true _ _ d.2); of_hyphen = one_bool _ _ (right_true _ _ d.2) }
 
