@@ -1,13 +1,13 @@
 -- Rows of tokens that begin a tag, and one that begins none.
 use Rattle.std.proofs.Common.{◌≡◌, ◌⊎◌, inl, inr, ℕ, pos, List, [], ◌∷◌, ◌++◌, Bool, true, false, Some, refl, sym, ap, subst, ◌∙◌, arith, codes}
 use Rattle.upon_syntax.proofs.Computing.{computing}
-use Rattle.upon_types.specs.declared.types.token.Token.TheVariants.{BeginExpr, EndExpr, BeginBlock, OpenBracket, CloseBracket, OpenBrace, OpenParen, Colon, Keyword, Ident, Number, String}
+use Rattle.upon_types.specs.declared.types.token.Token.TheVariants.{BeginExpr, EndExpr, BeginBlock, OpenBracket, CloseBracket, OpenBrace, OpenParen, Colon, Keyword, Ident, Number, String, Dot, Index}
 use Rattle.upon_types.specs.declared.types.Span.{Span}
 use Rattle.upon_types.specs.declared.types.token.Token.{Token}
 use Rattle.upon_types.specs.declared.types.ast.path.AccessOp.{AccessOp}
 use Rattle.upon_types.specs.declared.types.ast.path.AccessOp.TheVariants.{Direct, Optional}
 use Rattle.upon_types.specs.Val.{Val, none_val, bool_val, int_val, text_val, list_val, map_val}
-use Rattle.upon_types.specs.Path.{Step}
+use Rattle.upon_types.specs.Path.{Step, by_index}
 use Rattle.upon_types.specs.Expression.{Expression, base, filtered, Base, var, literal, list, mapping, paren, call, no_bases}
 use Rattle.upon_types.specs.Tree.{inline_expr}
 use Rattle.upon_syntax.specs.Cut.{Lexeme}
@@ -17,7 +17,7 @@ use Rattle.upon_syntax.specs.Tags.{IsTag, an_inline, an_include, an_if, an_else_
 use Rattle.upon_syntax.specs.Wanted.{plain_symbol}
 use Rattle.upon_syntax.proofs.ReadStatements.{read_statements, statements_read}
 use Rattle.upon_syntax.proofs.NoTree.{first_goes, first_is, by_block}
-use Rattle.upon_syntax.proofs.Examples.Short.{at, lex, number, one}
+use Rattle.upon_syntax.proofs.Examples.Short.{at, bare, step, quote, lex, number, one}
 
 -- a row begins a tag, where an expression's tag in some text begins with it
 shown_by : (row more : List Symbol) (s : List ℕ) (ls : List Lexeme) (e : Expression) (span : Span) → read_statements s (one (inline_expr e span)) ls ≡ Some [] → symbols_of s ls ≡ row ++ more → BeginsTag row
@@ -33,6 +33,14 @@ number_may_stand = shown_by (plain_symbol BeginExpr ∷ plain_symbol Number ∷ 
 pub bracket_may_stand : BeginsTag (plain_symbol BeginExpr ∷ plain_symbol OpenBracket ∷ [])
 unfolding computing
 bracket_may_stand = shown_by (plain_symbol BeginExpr ∷ plain_symbol OpenBracket ∷ []) (plain_symbol CloseBracket ∷ plain_symbol EndExpr ∷ []) (codes "{{ [] }}") (lex BeginExpr 0 2 ∷ lex OpenBracket 3 4 ∷ lex CloseBracket 4 5 ∷ lex EndExpr 6 8 ∷ []) (base (list no_bases (at 3 5))) (at 0 8) refl refl
+
+pub text_may_stand : BeginsTag (plain_symbol BeginExpr ∷ plain_symbol String ∷ [])
+unfolding computing
+text_may_stand = shown_by (plain_symbol BeginExpr ∷ plain_symbol String ∷ []) (plain_symbol EndExpr ∷ []) (codes "{{ \"\" }}") (lex BeginExpr 0 2 ∷ lex String 3 5 ∷ lex EndExpr 6 8 ∷ []) (base (quote [] 3 5)) (at 0 8) refl refl
+
+pub index_may_stand : BeginsTag (plain_symbol BeginExpr ∷ plain_symbol Ident ∷ plain_symbol Dot ∷ plain_symbol Index ∷ [])
+unfolding computing
+index_may_stand = shown_by (plain_symbol BeginExpr ∷ plain_symbol Ident ∷ plain_symbol Dot ∷ plain_symbol Index ∷ []) (plain_symbol EndExpr ∷ []) (codes "{{ a.0 }}") (lex BeginExpr 0 2 ∷ lex Ident 3 4 ∷ lex Dot 4 5 ∷ lex Index 5 6 ∷ lex EndExpr 7 9 ∷ []) (base (var (bare (codes "a") 3 4) (step Direct (by_index 0 (at 5 6)) 4 6 ∷ []))) (at 0 9) refl refl
 
 not_op : (op : AccessOp) → Colon ≡ op_token op → ⊥
 not_op Direct h = cc

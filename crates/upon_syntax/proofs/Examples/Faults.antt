@@ -2,19 +2,22 @@
 use Rattle.std.specs.Fmt.{digits}
 use Rattle.std.proofs.Common.{◌≡◌, inl, ℕ, List, [], ◌∷◌, true, false, refl, arith, codes}
 use Rattle.upon_syntax.proofs.Computing.{computing}
-use Rattle.upon_types.specs.declared.types.token.Token.TheVariants.{Raw, BeginExpr, BeginBlock, EndBlock, BeginComment, OpenBracket, CloseParen, Comma, Colon, Whitespace, Keyword, Ident, Number}
+use Rattle.upon_types.specs.declared.types.token.Token.TheVariants.{Raw, BeginExpr, BeginBlock, EndBlock, BeginComment, OpenBracket, CloseParen, Comma, Colon, Whitespace, Keyword, Ident, Number, Dot, Index, String}
 use Rattle.upon_syntax.specs.Searcher.{default_pairs}
-use Rattle.upon_syntax.specs.Delimiters.{expression, comment}
+use Rattle.upon_syntax.specs.Delimiters.{expression, block, comment}
 use Rattle.upon_syntax.specs.Cut.{Lexeme, outside, in_tag}
 use Rattle.upon_syntax.specs.Reading.{ReadsTo}
 use Rattle.upon_syntax.specs.Wanted.{an_expression}
-use Rattle.upon_syntax.specs.Blocks.{if_block}
-use Rattle.upon_syntax.specs.FirstFault.{Holds, unexpected_end, unclosed_tag, unclosed_bracket, unexpected_close, unexpected_character, unexpected_token, empty_comment, comment_eof, wrong_number, unclosed_block}
+use Rattle.upon_syntax.specs.Blocks.{if_block, end_if}
+use Rattle.upon_syntax.specs.FirstFault.{Holds, unexpected_end, unclosed_tag, unclosed_bracket, unexpected_close, unexpected_character, unexpected_token, empty_comment, comment_eof, wrong_number, wrong_index, wrong_escape, unexpected_block, unclosed_block}
 use Rattle.upon_syntax.proofs.Tests.{occurs_tested, none_tested}
-use Rattle.upon_syntax.proofs.InnerTests.{inner_tested}
+use Rattle.upon_syntax.proofs.InnerTests.{inner_tested, each_piece}
+use Rattle.upon_syntax.specs.Inside.{escaped, quoted}
 use Rattle.upon_syntax.proofs.WholeCut.{begins_tested, ends_tested, step_tested}
 use Rattle.upon_syntax.proofs.NoCut.{steps_test, last_mode, steps_tested}
-use Rattle.upon_syntax.proofs.TagRows.{number_may_stand, bracket_may_stand, colon_may_not_stand}
+use Rattle.upon_syntax.proofs.TagRows.{number_may_stand, bracket_may_stand, colon_may_not_stand, text_may_stand, index_may_stand}
+use Rattle.upon_syntax.proofs.ReadStatements.{word_tag_read}
+use Rattle.upon_syntax.specs.Tags.{an_endif}
 use Rattle.upon_syntax.proofs.Examples.Short.{at, lex}
 
 reads_to : (s : List ℕ) (ls : List Lexeme) (n : ℕ) → steps_test default_pairs s outside 0 n ls ≡ true → ReadsTo default_pairs s ls (last_mode outside ls) n
@@ -173,6 +176,61 @@ colon_first = record {
   wanted = an_expression;
   wants = record { may_stand = bracket_may_stand; least = λ v l m. omega (arith, l) };
   stuck = colon_may_not_stand;
+  at = refl;
+  told = refl;
+}
+
+-- `{{ a.18446744073709551616 }}`: no index is as large
+large_index : Holds default_pairs (codes "{{ a.18446744073709551616 }}") wrong_index 5 (at 5 25) (codes "base 10 literal out of range for unsigned 64-bit integer")
+unfolding computing
+large_index = record {
+  lexemes = lex BeginExpr 0 2 ∷ lex Whitespace 2 3 ∷ lex Ident 3 4 ∷ lex Dot 4 5 ∷ [];
+  sort = expression;
+  in_path = true;
+  reads = reads_to (codes "{{ a.18446744073709551616 }}") (lex BeginExpr 0 2 ∷ lex Whitespace 2 3 ∷ lex Ident 3 4 ∷ lex Dot 4 5 ∷ []) 5 refl;
+  to = 25;
+  stands = inner_tested default_pairs (codes "{{ a.18446744073709551616 }}") true Index 5 25 refl;
+  fits = index_may_stand;
+  large = refl;
+  at = refl;
+  told = refl;
+}
+
+-- `{{ "\q" }}`: the escape is none of the five
+strange_escape : Holds default_pairs (codes "{{ \"\\q\" }}") wrong_escape 3 (at 5 6) (codes "unknown escape character")
+unfolding computing
+strange_escape = record {
+  lexemes = lex BeginExpr 0 2 ∷ lex Whitespace 2 3 ∷ [];
+  sort = expression;
+  in_path = false;
+  reads = reads_to (codes "{{ \"\\q\" }}") (lex BeginExpr 0 2 ∷ lex Whitespace 2 3 ∷ []) 3 refl;
+  to = 7;
+  stands = inner_tested default_pairs (codes "{{ \"\\q\" }}") false String 3 7 refl;
+  string = record { pieces = escaped 113 ∷ []; each = each_piece (escaped 113 ∷ []) refl; stand = occurs_tested (codes "{{ \"\\q\" }}") 3 (quoted (escaped 113 ∷ [])) refl; to = refl };
+  fits = text_may_stand;
+  from = 5;
+  long = 1;
+  escape = refl;
+  at = refl;
+  told = refl;
+}
+
+-- `{% endif %}`: no block is open
+stray_endif : Holds default_pairs (codes "{% endif %}") unexpected_block 9 (at 0 11) (codes "unexpected `endif` block")
+unfolding computing
+stray_endif = record {
+  lexemes = lex BeginBlock 0 2 ∷ lex Whitespace 2 3 ∷ lex Keyword 3 8 ∷ lex Whitespace 8 9 ∷ [];
+  in_path = false;
+  reads = reads_to (codes "{% endif %}") (lex BeginBlock 0 2 ∷ lex Whitespace 2 3 ∷ lex Keyword 3 8 ∷ lex Whitespace 8 9 ∷ []) 9 refl;
+  hyphen = false;
+  to = 11;
+  ends = ends_tested default_pairs (codes "{% endif %}") block false 9 11 refl;
+  whole = an_endif (word_tag_read (codes "{% endif %}") (codes "endif") (lex BeginBlock 0 2 ∷ lex Keyword 3 8 ∷ lex EndBlock 9 11 ∷ []) [] refl);
+  closer = end_if;
+  closing = refl;
+  refused = refl;
+  begin = at 0 2;
+  begins = refl;
   at = refl;
   told = refl;
 }
