@@ -8,3 +8,4 @@ pub mod Comments
 pub mod Delimiters
 pub mod NoTree
 pub mod Faults
+pub mod TokenFaults

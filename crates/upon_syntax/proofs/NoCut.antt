@@ -3,6 +3,8 @@ use Rattle.std.proofs.Common.{◌≡◌, inl, inr, ℕ, ◌==◌, ◌&&◌, ◌|
 use Rattle.std.proofs.lemmas.Bool.{ltb-true}
 use Rattle.upon_types.specs.declared.types.Delimiter.{Delimiter}
 use Rattle.upon_types.specs.Tree.{Statements}
+use Rattle.upon_syntax.specs.Searcher.{default_pairs}
+use Rattle.upon_syntax.specs.Reading.{ReadsTo}
 use Rattle.upon_syntax.specs.Search.{Pair, HasTexts, Stands}
 use Rattle.upon_syntax.specs.Delimiters.{Sort, expression, block, comment, begun, ended}
 use Rattle.upon_syntax.specs.Cut.{Lexeme, Mode, outside, in_tag, in_comment, mode_after, Cut}
@@ -30,6 +32,10 @@ steps_tested pairs s mode m n [] h = (refl, same_number _ _ h)
 steps_tested pairs s mode m n (l ∷ ls) h =
     let rest = right_true _ _ h in
     (same_number _ _ (left_true _ _ h), step_tested pairs s mode l.token l.hyphen m l.span.n (left_true _ _ rest), steps_tested pairs s (mode_after mode l.token) l.span.n n ls (right_true _ _ rest))
+
+-- what a text reads to, under the default delimiters
+pub reads_to : (s : List ℕ) (ls : List Lexeme) (n : ℕ) → steps_test default_pairs s outside 0 n ls ≡ true → ReadsTo default_pairs s ls (last_mode outside ls) n
+reads_to s ls n h = steps_tested default_pairs s outside 0 n ls h
 
 inside : (mode : Mode) → is_outside mode ≡ false → mode ≡ outside → ⊥
 inside mode h e = let k : is_outside mode ≡ true = ap is_outside e in cc (h, k)

@@ -1,27 +1,19 @@
--- Texts and what is wrong with them: a fault that holds, with its place and its reason.
-use Rattle.std.specs.Fmt.{digits}
-use Rattle.std.proofs.Common.{◌≡◌, inl, ℕ, List, [], ◌∷◌, true, false, refl, arith, codes}
+-- Texts with a delimiter, a bracket, a comment or a block that is wrong, and what is told: a fault that holds, with its place and its reason.
+use Rattle.std.proofs.Common.{inl, [], ◌∷◌, true, false, refl, codes}
 use Rattle.upon_syntax.proofs.Computing.{computing}
-use Rattle.upon_types.specs.declared.types.token.Token.TheVariants.{Raw, BeginExpr, BeginBlock, EndBlock, BeginComment, OpenBracket, CloseParen, Comma, Colon, Whitespace, Keyword, Ident, Number, Dot, Index, String}
+use Rattle.upon_types.specs.declared.types.token.Token.TheVariants.{Raw, BeginExpr, BeginBlock, EndBlock, BeginComment, OpenBracket, CloseParen, Comma, Whitespace, Keyword, Ident, Number}
 use Rattle.upon_syntax.specs.Searcher.{default_pairs}
 use Rattle.upon_syntax.specs.Delimiters.{expression, block, comment}
-use Rattle.upon_syntax.specs.Cut.{Lexeme, outside, in_tag}
-use Rattle.upon_syntax.specs.Reading.{ReadsTo}
-use Rattle.upon_syntax.specs.Wanted.{an_expression}
+use Rattle.upon_syntax.specs.Cut.{outside, in_tag}
 use Rattle.upon_syntax.specs.Blocks.{if_block, end_if}
-use Rattle.upon_syntax.specs.FirstFault.{Holds, unexpected_end, unclosed_tag, unclosed_bracket, unexpected_close, unexpected_character, unexpected_token, empty_comment, comment_eof, wrong_number, wrong_index, wrong_escape, unexpected_block, unclosed_block}
+use Rattle.upon_syntax.specs.FirstFault.{Holds, unexpected_end, unclosed_tag, unclosed_bracket, unexpected_close, unexpected_character, empty_comment, comment_eof, unexpected_block, unclosed_block}
 use Rattle.upon_syntax.proofs.Tests.{occurs_tested, none_tested}
-use Rattle.upon_syntax.proofs.InnerTests.{inner_tested, each_piece}
-use Rattle.upon_syntax.specs.Inside.{escaped, quoted}
-use Rattle.upon_syntax.proofs.WholeCut.{begins_tested, ends_tested, step_tested}
-use Rattle.upon_syntax.proofs.NoCut.{steps_test, last_mode, steps_tested}
-use Rattle.upon_syntax.proofs.TagRows.{number_may_stand, bracket_may_stand, colon_may_not_stand, text_may_stand, index_may_stand}
+use Rattle.upon_syntax.proofs.InnerTests.{inner_tested}
+use Rattle.upon_syntax.proofs.WholeCut.{begins_tested, ends_tested}
+use Rattle.upon_syntax.proofs.NoCut.{reads_to}
 use Rattle.upon_syntax.proofs.ReadStatements.{word_tag_read}
 use Rattle.upon_syntax.specs.Tags.{an_endif}
 use Rattle.upon_syntax.proofs.Examples.Short.{at, lex}
-
-reads_to : (s : List ℕ) (ls : List Lexeme) (n : ℕ) → steps_test default_pairs s outside 0 n ls ≡ true → ReadsTo default_pairs s ls (last_mode outside ls) n
-reads_to s ls n h = steps_tested default_pairs s outside 0 n ls h
 
 -- `}}`: an end outside tags
 end_outside : Holds default_pairs (codes "}}") unexpected_end 0 (at 0 2) (codes "unexpected end expression")
@@ -142,75 +134,6 @@ strange_character = record {
   stands = occurs_tested (codes "{{ a @ }}") 5 (codes "@") refl;
   to = 6;
   nothing = inl (refl, refl);
-  at = refl;
-  told = refl;
-}
-
--- `{{ 0b2 x }}`: the digit is none of the base
-wrong_digit : Holds default_pairs (codes "{{ 0b2 x }}") wrong_number 3 (at 5 6) (codes "invalid digit for base 2 literal")
-unfolding computing digits
-wrong_digit = record {
-  lexemes = lex BeginExpr 0 2 ∷ lex Whitespace 2 3 ∷ [];
-  sort = expression;
-  in_path = false;
-  reads = reads_to (codes "{{ 0b2 x }}") (lex BeginExpr 0 2 ∷ lex Whitespace 2 3 ∷ []) 3 refl;
-  to = 6;
-  stands = inner_tested default_pairs (codes "{{ 0b2 x }}") false Number 3 6 refl;
-  fits = number_may_stand;
-  told = refl;
-}
-
--- `{{ :`: an expression is wanted
-colon_first : Holds default_pairs (codes "{{ :") unexpected_token 3 (at 3 4) (codes "expected expression, found colon")
-unfolding computing
-colon_first = record {
-  lexemes = lex BeginExpr 0 2 ∷ lex Whitespace 2 3 ∷ [];
-  sort = expression;
-  in_path = false;
-  reads = reads_to (codes "{{ :") (lex BeginExpr 0 2 ∷ lex Whitespace 2 3 ∷ []) 3 refl;
-  t = Colon;
-  hyphen = false;
-  to = 4;
-  stands = step_tested default_pairs (codes "{{ :") (in_tag expression false) Colon false 3 4 refl;
-  counts = refl;
-  wanted = an_expression;
-  wants = record { may_stand = bracket_may_stand; least = λ v l m. omega (arith, l) };
-  stuck = colon_may_not_stand;
-  at = refl;
-  told = refl;
-}
-
--- `{{ a.18446744073709551616 }}`: no index is as large
-large_index : Holds default_pairs (codes "{{ a.18446744073709551616 }}") wrong_index 5 (at 5 25) (codes "base 10 literal out of range for unsigned 64-bit integer")
-unfolding computing
-large_index = record {
-  lexemes = lex BeginExpr 0 2 ∷ lex Whitespace 2 3 ∷ lex Ident 3 4 ∷ lex Dot 4 5 ∷ [];
-  sort = expression;
-  in_path = true;
-  reads = reads_to (codes "{{ a.18446744073709551616 }}") (lex BeginExpr 0 2 ∷ lex Whitespace 2 3 ∷ lex Ident 3 4 ∷ lex Dot 4 5 ∷ []) 5 refl;
-  to = 25;
-  stands = inner_tested default_pairs (codes "{{ a.18446744073709551616 }}") true Index 5 25 refl;
-  fits = index_may_stand;
-  large = refl;
-  at = refl;
-  told = refl;
-}
-
--- `{{ "\q" }}`: the escape is none of the five
-strange_escape : Holds default_pairs (codes "{{ \"\\q\" }}") wrong_escape 3 (at 5 6) (codes "unknown escape character")
-unfolding computing
-strange_escape = record {
-  lexemes = lex BeginExpr 0 2 ∷ lex Whitespace 2 3 ∷ [];
-  sort = expression;
-  in_path = false;
-  reads = reads_to (codes "{{ \"\\q\" }}") (lex BeginExpr 0 2 ∷ lex Whitespace 2 3 ∷ []) 3 refl;
-  to = 7;
-  stands = inner_tested default_pairs (codes "{{ \"\\q\" }}") false String 3 7 refl;
-  string = record { pieces = escaped 113 ∷ []; each = each_piece (escaped 113 ∷ []) refl; stand = occurs_tested (codes "{{ \"\\q\" }}") 3 (quoted (escaped 113 ∷ [])) refl; to = refl };
-  fits = text_may_stand;
-  from = 5;
-  long = 1;
-  escape = refl;
   at = refl;
   told = refl;
 }
