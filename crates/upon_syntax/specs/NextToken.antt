@@ -1,5 +1,5 @@
 -- The token behind an open tag, where the text has a tree: the tag's row goes on with it, and it ends the tag or is fine.
-use Rattle.std.proofs.Common.{◌≡◌, ◌⊎◌, ℕ, List, [], ◌∷◌, ◌++◌, length, Bool, true, false, Option, None, refl, sym, ap, ◌∙◌, subst, arith, if◌then◌else◌, ◌&&◌}
+use Rattle.std.proofs.Common.{◌≡◌, ◌⊎◌, inl, inr, ℕ, List, [], ◌∷◌, ◌++◌, length, Bool, true, false, Option, None, refl, sym, ap, ◌∙◌, subst, arith, if◌then◌else◌, ◌&&◌}
 use Rattle.upon_types.specs.declared.types.token.Token.{Token}
 use Rattle.upon_types.specs.declared.types.token.Token.TheVariants.{Raw, EndExpr, EndBlock, Whitespace}
 use Rattle.upon_types.specs.Tree.{Statements}
@@ -99,6 +99,13 @@ pub record Next (s : List ℕ) (ls : List Lexeme) (x : Lexeme) : Type 0 where
   pub brackets : open_brackets ls ≡ brackets_from [] inner
   pub begins : BeginsTag (tag_row s ls ++ symbol_of s x ∷ [])
   pub last : ((ends_a_tag x.token ≡ true) × ((before' : Option Lexeme) × Fine s [] None inner [] before')) ⊎ TokenFine s (brackets_from [] inner) (last_or None inner) x.token x
+
+-- a token that ends no tag is fine
+pub next_fine : (s : List ℕ) (ls : List Lexeme) (x : Lexeme) (next : Next s ls x) → ends_a_tag x.token ≡ false → TokenFine s (brackets_from [] next.inner) (last_or None next.inner) x.token x
+next_fine s ls x next none = elim next.last [
+  | inl h ↦ let ends = h.0 in absurd cc
+  | inr h ↦ h
+]
 
 module _ (pairs : List Pair) (s : List ℕ) (texts : HasTexts pairs) (sort : Sort) (path : Bool) (p : ℕ) (ls : List Lexeme) (reads : Cut pairs s outside 0 ls (in_tag sort path) p) (tree : Statements) (has : HasTree pairs s tree) where
   next_of : (x : Lexeme) (r : List Lexeme) → is_raw x.token ≡ false → is_space x.token ≡ false → begins_comment x.token ≡ false → InTag s sort (x ∷ r) (open_tag ls) (significant (shown_lexemes s false (ls ++ (x ∷ r)))) → AreStatements s tree (significant (shown_lexemes s false (ls ++ (x ∷ r)))) [] → Next s ls x

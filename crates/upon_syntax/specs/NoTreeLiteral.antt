@@ -1,5 +1,5 @@
 -- A text with a literal that stands for nothing, or with a comment that ends where it has just begun, has no tree.
-use Rattle.std.proofs.Common.{◌≡◌, ◌⊎◌, inl, inr, ℕ, suc, ◌+◌, ◌^◌, ◌<◌, ◌≤◌, nat_lt, List, [], ◌∷◌, ◌++◌, length, Bool, true, false, Option, Some, None, refl, ap, ◌∙◌, subst, arith, if◌then◌else◌}
+use Rattle.std.proofs.Common.{◌≡◌, inr, ℕ, suc, ◌+◌, ◌^◌, ◌<◌, ◌≤◌, nat_lt, List, [], ◌∷◌, ◌++◌, length, Bool, true, false, Option, Some, None, refl, ap, ◌∙◌, subst, arith, if◌then◌else◌}
 use Rattle.upon_types.specs.declared.types.Span.{Span}
 use Rattle.upon_types.specs.declared.types.token.Token.{Token}
 use Rattle.upon_types.specs.declared.types.token.Token.TheVariants.{BeginExpr, BeginBlock, BeginComment, EndComment, Minus, Index, Number, String}
@@ -9,19 +9,18 @@ use Rattle.upon_syntax.specs.Search.{Pair, HasTexts}
 use Rattle.upon_syntax.specs.Cut.{Lexeme, outside, in_comment, Cut}
 use Rattle.upon_syntax.specs.Shown.{shown_lexemes}
 use Rattle.upon_syntax.specs.Tokens.{significant}
-use Rattle.upon_syntax.specs.Literal.{digits_in, IsText}
+use Rattle.upon_syntax.specs.Literal.{digits_in}
 use Rattle.upon_syntax.specs.LiteralFaults.{is_float, base_text, number_fault, index_value}
-use Rattle.upon_syntax.specs.Reading.{brackets_from, last_of}
+use Rattle.upon_syntax.specs.Reading.{last_of}
 use Rattle.upon_syntax.specs.Grammar.{AreStatements, HasTree}
 use Rattle.upon_syntax.specs.Faults.{span, tag_tokens, lexeme_at}
 use Rattle.upon_syntax.specs.LaterFaults.{Told, minus_before, start_from, told_of_number, number_told, WrongNumber, WrongIndex, WrongEscape, EmptyComment}
-use Rattle.upon_syntax.specs.Fine.{TokenFine, Fine}
 use Rattle.upon_syntax.specs.FineAt.{last_or}
-use Rattle.upon_syntax.specs.TagShapes.{begins_a_tag, ends_a_tag}
-use Rattle.upon_syntax.specs.NextToken.{Next, the_next}
+use Rattle.upon_syntax.specs.TagShapes.{begins_a_tag}
+use Rattle.upon_syntax.specs.NextToken.{Next, next_fine, the_next}
 use Rattle.upon_syntax.specs.OneStep.{one_step, step_ends}
 use Rattle.upon_syntax.specs.OneCut.{cut_on}
-use Rattle.upon_syntax.specs.SplitInTag.{InComment, split_in_comment}
+use Rattle.upon_syntax.specs.SplitInTag.{InComment, last_is, split_in_comment}
 use Rattle.upon_syntax.specs.NoCommentToken.{no_comment}
 use Rattle.upon_syntax.specs.NoLiteralFault.{integer_no_fault, index_no_fault, text_no_fault}
 
@@ -34,14 +33,10 @@ begin_is_no_minus BeginExpr h = refl
 begin_is_no_minus BeginBlock h = refl
 begin_is_no_minus _ h = absurd cc
 
-last_kept : (l : Lexeme) (ls : List Lexeme) → last_of (l ∷ ls) ≡ last_or (Some l) ls
-last_kept l [] = refl
-last_kept l (k ∷ ls) = last_kept k ls
-
 -- a minus stands before a literal behind the tag's begin
 same_minus : (begin : Lexeme) (inner : List Lexeme) → begins_a_tag begin.token ≡ true → minus_before (last_of (begin ∷ inner)) ≡ minus_before (last_or None inner)
 same_minus begin [] h = begin_is_no_minus begin.token h
-same_minus begin (k ∷ inner) h = ap minus_before (last_kept k inner)
+same_minus begin (k ∷ inner) h = ap minus_before (last_is k inner)
 
 if_not : (test : Bool) (x y : Option Told) → test ≡ false → (if test then x else y) ≡ y
 if_not true x y e = absurd cc
@@ -53,15 +48,6 @@ not_told text before p n float none = if_not (is_float text) _ _ float ∙ ap (�
 nothing_is_told : (o : Option Told) (t : Told) → o ≡ None → o ≡ Some t → ⊥
 nothing_is_told o t e h = cc
 
-ends_no_tag_number : ends_a_tag Number ≡ true → ⊥
-ends_no_tag_number h = cc
-
-ends_no_tag_index : ends_a_tag Index ≡ true → ⊥
-ends_no_tag_index h = cc
-
-ends_no_tag_string : ends_a_tag String ≡ true → ⊥
-ends_no_tag_string h = cc
-
 some_length : (back : List Lexeme) → 0 < suc (length back)
 some_length back = omega arith
 
@@ -70,40 +56,29 @@ comment_is_not_outside e = cc
 
 module _ (pairs : List Pair) (s : List ℕ) (texts : HasTexts pairs) (p : ℕ) (place : Span) (reason : List ℕ) (tree : Statements) (has : HasTree pairs s tree) where
   no_number : (ls : List Lexeme) (to : ℕ) (next : Next s ls (lexeme_at Number false p to)) (t : Told) → number_told (part s (span p to)) (last_of (tag_tokens ls)) p to ≡ Some t → ⊥
-  no_number ls to next t told = by_last next.last
-    where
-      by_last : ((ends_a_tag Number ≡ true) × ((before' : Option Lexeme) × Fine s [] None next.inner [] before')) ⊎ TokenFine s (brackets_from [] next.inner) (last_or None next.inner) Number (lexeme_at Number false p to) → ⊥
-      by_last (inl h) = ends_no_tag_number h.0
-      by_last (inr h) =
-          let text = part s (span p to) in
-          let fine = integer_no_fault (minus_before (last_or None next.inner)) text h.0 h.1 in
-          let same : minus_before (last_of (tag_tokens ls)) ≡ minus_before (last_or None next.inner) = ap (λ x. minus_before (last_of x)) next.tag ∙ same_minus next.begin next.inner next.plain_begin in
-          let none : number_fault (minus_before (last_of (tag_tokens ls))) text ≡ None = ap (λ x. number_fault x text) same ∙ fine.1 in
-          nothing_is_told (number_told text (last_of (tag_tokens ls)) p to) t (not_told text (last_of (tag_tokens ls)) p to fine.0 none) told
+  no_number ls to next t told =
+      let h = next_fine s ls (lexeme_at Number false p to) next refl in
+      let text = part s (span p to) in
+      let fine = integer_no_fault (minus_before (last_or None next.inner)) text h.0 h.1 in
+      let same : minus_before (last_of (tag_tokens ls)) ≡ minus_before (last_or None next.inner) = ap (λ x. minus_before (last_of x)) next.tag ∙ same_minus next.begin next.inner next.plain_begin in
+      let none : number_fault (minus_before (last_of (tag_tokens ls))) text ≡ None = ap (λ x. number_fault x text) same ∙ fine.1 in
+      nothing_is_told (number_told text (last_of (tag_tokens ls)) p to) t (not_told text (last_of (tag_tokens ls)) p to fine.0 none) told
 
   pub no_tree_wrong_number : WrongNumber pairs s p place reason → ⊥
   no_tree_wrong_number f = no_number f.lexemes f.to (the_next pairs s texts f.sort f.in_path p f.lexemes f.reads tree has Number false f.to (inr (refl, f.stands)) refl refl refl) (record { place = place; reason = reason }) f.told
 
   no_index : (ls : List Lexeme) (to : ℕ) → Next s ls (lexeme_at Index false p to) → nat_lt (index_value (digits_in 10 (part s (span p to)))) (2 ^ 64) ≡ false → ⊥
-  no_index ls to next large = by_last next.last
-    where
-      by_last : ((ends_a_tag Index ≡ true) × ((before' : Option Lexeme) × Fine s [] None next.inner [] before')) ⊎ TokenFine s (brackets_from [] next.inner) (last_or None next.inner) Index (lexeme_at Index false p to) → ⊥
-      by_last (inl h) = ends_no_tag_index h.0
-      by_last (inr h) = let small = index_no_fault (part s (span p to)) h.0 h.1 in cc
+  no_index ls to next large =
+      let h = next_fine s ls (lexeme_at Index false p to) next refl in
+      let small = index_no_fault (part s (span p to)) h.0 h.1 in
+      cc
 
   pub no_tree_wrong_index : WrongIndex pairs s p place reason → ⊥
   no_tree_wrong_index f = no_index f.lexemes f.to (the_next pairs s texts f.sort f.in_path p f.lexemes f.reads tree has Index false f.to (inr (refl, f.stands)) refl refl refl) f.large
 
-  no_text : (ls : List Lexeme) (to : ℕ) → Next s ls (lexeme_at String false p to) → (t : List ℕ) × IsText s p to t
-  no_text ls to next = by_last next.last
-    where
-      by_last : ((ends_a_tag String ≡ true) × ((before' : Option Lexeme) × Fine s [] None next.inner [] before')) ⊎ TokenFine s (brackets_from [] next.inner) (last_or None next.inner) String (lexeme_at String false p to) → (t : List ℕ) × IsText s p to t
-      by_last (inl h) = absurd (ends_no_tag_string h.0)
-      by_last (inr h) = h
-
   pub no_tree_wrong_escape : WrongEscape pairs s p place reason → ⊥
   no_tree_wrong_escape f =
-      let text = no_text f.lexemes f.to (the_next pairs s texts f.sort f.in_path p f.lexemes f.reads tree has String false f.to (inr (refl, f.stands)) refl refl refl) in
+      let text = next_fine s f.lexemes (lexeme_at String false p f.to) (the_next pairs s texts f.sort f.in_path p f.lexemes f.reads tree has String false f.to (inr (refl, f.stands)) refl refl refl) refl in
       let none = text_no_fault s p f.to text.0 f.string text.1 (p + 1) in
       let some = f.escape in
       cc

@@ -15,7 +15,8 @@ use Rattle.upon_syntax.specs.Faults.{UnclosedBracket, UnexpectedClose, Unexpecte
 use Rattle.upon_syntax.specs.Fine.{TokenFine, Fine}
 use Rattle.upon_syntax.specs.FineAt.{last_or, fine_stack}
 use Rattle.upon_syntax.specs.TagShapes.{ends_a_tag}
-use Rattle.upon_syntax.specs.NextToken.{Next, the_next}
+use Rattle.upon_syntax.specs.InsideTag.{end_is_no_space, end_is_no_comment}
+use Rattle.upon_syntax.specs.NextToken.{Next, next_fine, the_next}
 
 raw_by_extent : (s : List ℕ) (t : Token) (m n : ℕ) → Extent s t m n → is_raw t ≡ false
 raw_by_extent s Raw m n h = absurd h
@@ -30,26 +31,16 @@ end_is_no_raw expression = refl
 end_is_no_raw block = refl
 end_is_no_raw comment = refl
 
-end_is_no_space : (sort : Sort) → is_space (end_token sort) ≡ false
-end_is_no_space expression = refl
-end_is_no_space block = refl
-end_is_no_space comment = refl
-
-end_begins_no_comment : (sort : Sort) → begins_comment (end_token sort) ≡ false
-end_begins_no_comment expression = refl
-end_begins_no_comment block = refl
-end_begins_no_comment comment = refl
-
 end_is_not_fine : (s : List ℕ) (stack : List Lexeme) (before : Option Lexeme) (sort : Sort) (l : Lexeme) → TokenFine s stack before (end_token sort) l → ⊥
 end_is_not_fine s stack before expression l h = h
 end_is_not_fine s stack before block l h = h
 end_is_not_fine s stack before comment l h = h
 
-close_is_no_end : (t : Token) → is_close t ≡ true → ends_a_tag t ≡ true → ⊥
-close_is_no_end CloseBracket h k = cc
-close_is_no_end CloseBrace h k = cc
-close_is_no_end CloseParen h k = cc
-close_is_no_end _ h k = absurd cc
+close_is_no_end : (t : Token) → is_close t ≡ true → ends_a_tag t ≡ false
+close_is_no_end CloseBracket h = refl
+close_is_no_end CloseBrace h = refl
+close_is_no_end CloseParen h = refl
+close_is_no_end _ h = absurd cc
 
 close_is_no_space : (t : Token) → is_close t ≡ true → is_space t ≡ false
 close_is_no_space CloseBracket h = refl
@@ -65,7 +56,7 @@ close_fits s stack before _ l h f = absurd cc
 
 module _ (pairs : List Pair) (s : List ℕ) (texts : HasTexts pairs) (p : ℕ) (place : Span) (reason : List ℕ) (tree : Statements) (has : HasTree pairs s tree) where
   step_is_no_raw : (sort : Sort) (path : Bool) (t : Token) (hyphen : Bool) (to : ℕ) → Step pairs s (in_tag sort path) t hyphen p to → (is_raw t ≡ false) × (begins_comment t ≡ false)
-  step_is_no_raw sort path t hyphen to (inl e) = (ap is_raw e.0 ∙ end_is_no_raw sort, ap begins_comment e.0 ∙ end_begins_no_comment sort)
+  step_is_no_raw sort path t hyphen to (inl e) = (ap is_raw e.0 ∙ end_is_no_raw sort, ap begins_comment e.0 ∙ end_is_no_comment sort)
   step_is_no_raw sort path t hyphen to (inr x) = (raw_by_extent s t p to x.1.extent, comment_by_extent s t p to x.1.extent)
 
   pub no_tree_unexpected_token : UnexpectedToken pairs s p place reason → ⊥
@@ -84,18 +75,15 @@ module _ (pairs : List Pair) (s : List ℕ) (texts : HasTexts pairs) (p : ℕ) (
   pub no_tree_unclosed_bracket : UnclosedBracket pairs s p place reason → ⊥
   no_tree_unclosed_bracket f =
       let t = end_token f.sort in
-      let next = the_next pairs s texts f.sort f.in_path p f.lexemes f.reads tree has t f.hyphen f.to (inl (refl, f.ends)) (end_is_no_raw f.sort) (end_is_no_space f.sort) (end_begins_no_comment f.sort) in
+      let next = the_next pairs s texts f.sort f.in_path p f.lexemes f.reads tree has t f.hyphen f.to (inl (refl, f.ends)) (end_is_no_raw f.sort) (end_is_no_space f.sort) (end_is_no_comment f.sort) in
       some_brackets f.lexemes (lexeme_at t f.hyphen p f.to) f.bracket f.others f.sort refl f.brackets next
 
   unmatched : (ls : List Lexeme) (x : Lexeme) → is_close x.token ≡ true → closes_first (open_brackets ls) x.token ≡ false → Next s ls x → ⊥
-  unmatched ls x close none next = by_last next.last
-    where
-      by_last : ((ends_a_tag x.token ≡ true) × ((before' : Option Lexeme) × Fine s [] None next.inner [] before')) ⊎ TokenFine s (brackets_from [] next.inner) (last_or None next.inner) x.token x → ⊥
-      by_last (inl h) = close_is_no_end x.token close h.0
-      by_last (inr h) =
-          let matched = close_fits s (brackets_from [] next.inner) (last_or None next.inner) x.token x close h in
-          let same : closes_first (open_brackets ls) x.token ≡ closes_first (brackets_from [] next.inner) x.token = ap (λ y. closes_first y x.token) next.brackets in
-          cc
+  unmatched ls x close none next =
+      let fine = next_fine s ls x next (close_is_no_end x.token close) in
+      let matched = close_fits s (brackets_from [] next.inner) (last_or None next.inner) x.token x close fine in
+      let same : closes_first (open_brackets ls) x.token ≡ closes_first (brackets_from [] next.inner) x.token = ap (λ y. closes_first y x.token) next.brackets in
+      cc
 
   pub no_tree_unexpected_close : UnexpectedClose pairs s p place reason → ⊥
   no_tree_unexpected_close f =

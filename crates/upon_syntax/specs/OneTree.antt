@@ -1,6 +1,5 @@
 -- A text has one tree at most.
-use Rattle.std.proofs.Common.{◌≡◌, ℕ, ◌<◌, ◌≤◌, inl, inr, List, length, arith, refl, sym, ap, ◌∙◌, subst}
-use Rattle.std.proofs.lemmas.Bool.{cases_order}
+use Rattle.std.proofs.Common.{◌≡◌, ℕ, ◌<◌, ◌≤◌, List, length, arith, refl, sym, ap, ◌∙◌, subst}
 use Rattle.upon_types.specs.declared.types.Span.{Span}
 use Rattle.upon_types.specs.declared.types.Delimiter.TheVariants.{BeginExpr}
 use Rattle.upon_types.specs.FirstTree.{Statement, raw, inline_expr, Statements, no_statements, statement_then}
@@ -8,27 +7,16 @@ use Rattle.upon_syntax.specs.Search.{Pair, HasTexts}
 use Rattle.upon_syntax.specs.FirstGrammar.{IsTag, IsStatement, Reads, HasTree}
 use Rattle.upon_syntax.specs.Raw.{IsRaw}
 use Rattle.upon_syntax.specs.OneDelimiter.{not_bare}
+use Rattle.upon_syntax.specs.OneRaw.{one_raw}
 use Rattle.upon_syntax.specs.OneTag.{one_tag, tag_ends}
 
 module _ (pairs : List Pair) (s : List ℕ) where
-  raw_is_longest : (m n k : ℕ) → IsRaw pairs s m n → IsRaw pairs s m k → n < k → ⊥
-  raw_is_longest m n k a b l = elim a.ends [
-    | inl e ↦ omega (arith, e, b.within)
-    | inr d ↦ not_bare pairs s d.0 n d.1 d.2 (b.bare n (omega (arith, a.some)) l)
-  ]
-
-  one_raw : (m n k : ℕ) → IsRaw pairs s m n → IsRaw pairs s m k → n ≡ k
-  one_raw m n k a b = elim (cases_order n k) [
-    | inl e ↦ e
-    | inr differ ↦ elim differ [ inl l ↦ absurd (raw_is_longest m n k a b l) | inr l ↦ absurd (raw_is_longest m k n b a l) ]
-  ]
-
   raw_is_no_tag : (name : List ℕ) (at : Span) (m n k : ℕ) → IsRaw pairs s m n → IsTag pairs s name at m k → ⊥
   raw_is_no_tag name at m n k a b = not_bare pairs s BeginExpr m b.inside b.begins (a.bare m (omega arith) a.some)
 
   pub one_statement : (t u : Statement) (m n k : ℕ) → IsStatement pairs s t (record { m = m; n = n }) → IsStatement pairs s u (record { m = m; n = k }) → (t ≡ u) × (n ≡ k)
   one_statement (raw p) (raw q) m n k a b =
-      let e = one_raw m n k a.1 b.1 in
+      let e = one_raw pairs s m n k a.1 b.1 in
       (ap raw (a.0 ∙ (λ i. record { m = m; n = e i }) ∙ sym b.0), e)
   one_statement (raw p) (inline_expr name at q) m n k a b = absurd (raw_is_no_tag name at m n k a.1 b.1)
   one_statement (inline_expr name at p) (raw q) m n k a b = absurd (raw_is_no_tag name at m k n b.1 a.1)

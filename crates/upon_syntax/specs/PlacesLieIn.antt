@@ -21,7 +21,7 @@ use Rattle.upon_syntax.specs.EachLiesIn.{StatementLiesIn, EachLiesIn}
 abbrev pub HasUtf8 : List Pair → Type 0
 HasUtf8 pairs = (i : ℕ) → i < length pairs → IsUtf8 (text_at pairs i)
 
-past_chars : (cs rest bs : List ℕ) → IsUtf8 bs → bs ≡ encode_utf8_all cs ++ rest → IsUtf8 rest
+pub past_chars : (cs rest bs : List ℕ) → IsUtf8 bs → bs ≡ encode_utf8_all cs ++ rest → IsUtf8 rest
 past_chars [] rest bs text e = subst IsUtf8 e text
 past_chars (c ∷ cs) rest bs text e =
     past_chars cs rest (encode_utf8_all cs ++ rest)

@@ -10,7 +10,8 @@ use Rattle.upon_syntax.specs.Tokens.{begins_comment, without_spaces, comment_fro
 use Rattle.upon_syntax.specs.Reading.{open_tag, last_of}
 use Rattle.upon_syntax.specs.LaterFaults.{just_begun}
 use Rattle.upon_syntax.specs.InsideTag.{EachInside, significant_behind, at_empty_comment}
-use Rattle.upon_syntax.specs.TagWalk.{last_from, Arrives, walk}
+use Rattle.upon_syntax.specs.TagWalk.{Arrives, walk}
+use Rattle.upon_syntax.specs.FineAt.{last_or}
 
 -- the open tag is a begin and what may stand inside a tag, and its tokens are read as they are, between some others and the rest
 pub record InTag (s : List ℕ) (sort : Sort) (rest tag read : List Lexeme) : Type 0 where
@@ -47,13 +48,13 @@ sort_of other mode = other
 no_inside : (P : Type 0) → true ≡ false → P
 no_inside P e = absurd cc
 
-last_is : (l : Lexeme) (ls : List Lexeme) → last_of (l ∷ ls) ≡ last_from (Some l) ls
+pub last_is : (l : Lexeme) (ls : List Lexeme) → last_of (l ∷ ls) ≡ last_or (Some l) ls
 last_is l [] = refl
 last_is l (k ∷ ls) = last_is k ls
 
-last_from_none : (ls : List Lexeme) → last_of ls ≡ last_from None ls
-last_from_none [] = refl
-last_from_none (l ∷ ls) = last_is l ls
+last_or_none : (ls : List Lexeme) → last_of ls ≡ last_or None ls
+last_or_none [] = refl
+last_or_none (l ∷ ls) = last_is l ls
 
 module _ (s : List ℕ) (rest : List Lexeme) where
   abbrev TagGoal : Sort → Option Lexeme → List Lexeme → List Lexeme → Type 0
@@ -129,4 +130,4 @@ split_in_comment pairs s p ls l more h begun t =
       back = significant_behind s later l more;
       of_comment = of_comment;
       tokens = at_empty_comment s later begin l more t;
-    })) ls h (sym (ap just_begun (last_from_none ls)) ∙ begun)
+    })) ls h (sym (ap just_begun (last_or_none ls)) ∙ begun)

@@ -16,7 +16,7 @@ use Rattle.upon_syntax.specs.Words.{is_tag_space, begins_name, IsRun}
 use Rattle.upon_syntax.specs.Inside.{Piece, plain, escaped, pieces_text, quoted, IsQuoted, kind_by, continues_number, Extent, begins_as}
 use Rattle.upon_syntax.specs.Cut.{Mode, outside, in_tag, in_comment, Step}
 use Rattle.upon_syntax.specs.Bounds.{drop-Occurs, occurs_lies_in}
-use Rattle.upon_syntax.specs.PlacesLieIn.{HasUtf8}
+use Rattle.upon_syntax.specs.PlacesLieIn.{HasUtf8, past_chars}
 use Rattle.upon_syntax.specs.OneRun.{run_ends}
 use Rattle.upon_syntax.specs.OneQuoted.{quoted_ends}
 use Rattle.upon_syntax.specs.OneStep.{step_ends}
@@ -40,13 +40,6 @@ begins_low in_path c t e h = elim (cases_lt c 128) [
   | inl l ↦ l
   | inr l ↦ absurd (only_ident t (begins_name c) (sym (high_begins_name in_path c l) ∙ e) h)
 ]
-
-past_chars : (cs rest bs : List ℕ) → IsUtf8 bs → bs ≡ encode_utf8_all cs ++ rest → IsUtf8 rest
-past_chars [] rest bs text e = subst IsUtf8 e text
-past_chars (c ∷ cs) rest bs text e =
-    past_chars cs rest (encode_utf8_all cs ++ rest)
-    (IsUtf8-past_char bs (encode_utf8_all cs ++ rest) c text (e ∙ append_assoc (encode_utf8 c) (encode_utf8_all cs) rest))
-    refl
 
 past_byte : (b : ℕ) (rest bs : List ℕ) → b < 128 → IsUtf8 bs → bs ≡ b ∷ rest → IsUtf8 rest
 past_byte b rest bs low text e = IsUtf8-past_char bs rest b text (e ∙ ap (λ x. x ++ rest) (sym (encode_ascii b low)))

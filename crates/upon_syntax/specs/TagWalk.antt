@@ -9,12 +9,8 @@ use Rattle.upon_syntax.specs.Cut.{Lexeme, Mode, outside, in_tag, in_comment, mod
 use Rattle.upon_syntax.specs.Shown.{shown_lexeme, shown_lexemes, begin_trims, is_end}
 use Rattle.upon_syntax.specs.Tokens.{is_space, begins_comment, is_raw, without_spaces, without_comments, comment_from, behind_end, significant}
 use Rattle.upon_syntax.specs.Reading.{opens_tag, from_begin}
+use Rattle.upon_syntax.specs.FineAt.{last_or}
 use Rattle.upon_syntax.specs.InsideTag.{EachInside, each_more, extent_is_inside, inside_is_no_begin, inside_is_no_comment, inside_is_no_raw, inside_stays, end_leaves, end_is_no_begin, end_is_no_comment, end_is_no_space, shown_token, shown_same, begin_step, other_step, no_space_step, comment_step, raw_step, no_raw_step, kept, one_read, one_pushed, raw_then_raw}
-
--- the last token of those behind another
-abbrev pub last_from : Option Lexeme → List Lexeme → Option Lexeme
-last_from o [] = o
-last_from o (l ∷ ls) = last_from (Some l) ls
 
 -- What is shown where the walk ends in the mode `final`, of the last token, the open tag and the tokens that are read.
 pub record Arrives (s : List ℕ) (rest : List Lexeme) (final : Mode) (Goal : Option Lexeme → List Lexeme → List Lexeme → Type 0) : Type 0 where
@@ -42,46 +38,46 @@ module _ (pairs : List Pair) (s : List ℕ) (rest : List Lexeme) (final : Mode) 
 
   -- a begin stands outside
   at_begin : (sort : Sort) (l : Lexeme) (acc ls : List Lexeme) (e b e' : Bool) → l.token ≡ begin_token sort → Left (mode_after outside l.token) l.span.n ls
-      → ((so : Sort) → l.token ≡ begin_token so → begins_comment (begin_token so) ≡ false → Left (in_tag so false) l.span.n ls → Goal (last_from (Some l) ls) (from_begin (l ∷ []) ls) (without_spaces (l ∷ []) ++ significant (Still ls e')))
-      → (l.token ≡ BeginComment → Left in_comment l.span.n ls → Goal (last_from (Some l) ls) (from_begin (l ∷ []) ls) (comment_from l (without_spaces (Still ls e'))))
-      → Goal (last_from (Some l) ls) (from_begin acc (l ∷ ls)) (significant (shown_lexeme s e b l.token l ∷ Still ls e'))
+      → ((so : Sort) → l.token ≡ begin_token so → begins_comment (begin_token so) ≡ false → Left (in_tag so false) l.span.n ls → Goal (last_or (Some l) ls) (from_begin (l ∷ []) ls) (without_spaces (l ∷ []) ++ significant (Still ls e')))
+      → (l.token ≡ BeginComment → Left in_comment l.span.n ls → Goal (last_or (Some l) ls) (from_begin (l ∷ []) ls) (comment_from l (without_spaces (Still ls e'))))
+      → Goal (last_or (Some l) ls) (from_begin acc (l ∷ ls)) (significant (shown_lexeme s e b l.token l ∷ Still ls e'))
   at_begin expression l acc ls e b e' t h k c =
-      moved (last_from (Some l) ls) (from_begin acc (l ∷ ls)) (from_begin (l ∷ []) ls) (significant (shown_lexeme s e b l.token l ∷ Still ls e')) (without_spaces (l ∷ []) ++ significant (Still ls e'))
+      moved (last_or (Some l) ls) (from_begin acc (l ∷ ls)) (from_begin (l ∷ []) ls) (significant (shown_lexeme s e b l.token l ∷ Still ls e')) (without_spaces (l ∷ []) ++ significant (Still ls e'))
       (begin_step acc l ls (ap opens_tag t))
       (ap (λ (x : Lexeme). significant (x ∷ Still ls e')) (shown_same s e b l.token l (ap is_raw t)) ∙ one_read (is_space l.token) l (Still ls e') refl (ap begins_comment t))
       (k expression t refl (in_mode (mode_after outside l.token) (in_tag expression false) l.span.n ls (ap (mode_after outside) t) h))
   at_begin block l acc ls e b e' t h k c =
-      moved (last_from (Some l) ls) (from_begin acc (l ∷ ls)) (from_begin (l ∷ []) ls) (significant (shown_lexeme s e b l.token l ∷ Still ls e')) (without_spaces (l ∷ []) ++ significant (Still ls e'))
+      moved (last_or (Some l) ls) (from_begin acc (l ∷ ls)) (from_begin (l ∷ []) ls) (significant (shown_lexeme s e b l.token l ∷ Still ls e')) (without_spaces (l ∷ []) ++ significant (Still ls e'))
       (begin_step acc l ls (ap opens_tag t))
       (ap (λ (x : Lexeme). significant (x ∷ Still ls e')) (shown_same s e b l.token l (ap is_raw t)) ∙ one_read (is_space l.token) l (Still ls e') refl (ap begins_comment t))
       (k block t refl (in_mode (mode_after outside l.token) (in_tag block false) l.span.n ls (ap (mode_after outside) t) h))
   at_begin comment l acc ls e b e' t h k c =
-      moved (last_from (Some l) ls) (from_begin acc (l ∷ ls)) (from_begin (l ∷ []) ls) (significant (shown_lexeme s e b l.token l ∷ Still ls e')) (comment_from l (without_spaces (Still ls e')))
+      moved (last_or (Some l) ls) (from_begin acc (l ∷ ls)) (from_begin (l ∷ []) ls) (significant (shown_lexeme s e b l.token l ∷ Still ls e')) (comment_from l (without_spaces (Still ls e')))
       (begin_step acc l ls (ap opens_tag t))
       (ap (λ (x : Lexeme). significant (x ∷ Still ls e')) (shown_same s e b l.token l (ap is_raw t)) ∙ ap without_comments (no_space_step l (Still ls e') (ap is_space t)) ∙ comment_step l (without_spaces (Still ls e')) (ap begins_comment t))
       (c t (in_mode (mode_after outside l.token) in_comment l.span.n ls (ap (mode_after outside) t) h))
 
   -- a token that is kept, and the walk goes on behind it
   behind_kept : (l x : Lexeme) (acc ls read : List Lexeme) → opens_tag l.token ≡ false → read ≡ x ∷ significant (Still ls (is_end l.token && l.hyphen))
-      → Goal (last_from (Some l) ls) (from_begin (acc ++ l ∷ []) ls) (significant (Still ls (is_end l.token && l.hyphen))) → Goal (last_from (Some l) ls) (from_begin acc (l ∷ ls)) read
+      → Goal (last_or (Some l) ls) (from_begin (acc ++ l ∷ []) ls) (significant (Still ls (is_end l.token && l.hyphen))) → Goal (last_or (Some l) ls) (from_begin acc (l ∷ ls)) read
   behind_kept l x acc ls read h f g =
       let e' = is_end l.token && l.hyphen in
-      moved (last_from (Some l) ls) (from_begin acc (l ∷ ls)) (from_begin (acc ++ l ∷ []) ls) read (x ∷ significant (Still ls e')) (other_step acc l ls h) f
-      (arrives.fronted (last_from (Some l) ls) (from_begin (acc ++ l ∷ []) ls) (x ∷ []) (significant (Still ls e')) g)
+      moved (last_or (Some l) ls) (from_begin acc (l ∷ ls)) (from_begin (acc ++ l ∷ []) ls) read (x ∷ significant (Still ls e')) (other_step acc l ls h) f
+      (arrives.fronted (last_or (Some l) ls) (from_begin (acc ++ l ∷ []) ls) (x ∷ []) (significant (Still ls e')) g)
 
   behind_front : (l x : Lexeme) (acc ls front read : List Lexeme) → opens_tag l.token ≡ false → read ≡ x ∷ significant (Still ls (is_end l.token && l.hyphen))
-      → Goal (last_from (Some l) ls) (from_begin (acc ++ l ∷ []) ls) (significant (Still ls (is_end l.token && l.hyphen))) → Goal (last_from (Some l) ls) (from_begin acc (l ∷ ls)) (front ++ read)
-  behind_front l x acc ls front read h f g = arrives.fronted (last_from (Some l) ls) (from_begin acc (l ∷ ls)) front read (behind_kept l x acc ls read h f g)
+      → Goal (last_or (Some l) ls) (from_begin (acc ++ l ∷ []) ls) (significant (Still ls (is_end l.token && l.hyphen))) → Goal (last_or (Some l) ls) (from_begin acc (l ∷ ls)) (front ++ read)
+  behind_front l x acc ls front read h f g = arrives.fronted (last_or (Some l) ls) (from_begin acc (l ∷ ls)) front read (behind_kept l x acc ls read h f g)
 
   behind_comment : (l : Lexeme) (front acc ls read : List Lexeme) → opens_tag l.token ≡ false → read ≡ front ++ significant (Still ls (is_end l.token && l.hyphen))
-      → Goal (last_from (Some l) ls) (from_begin (acc ++ l ∷ []) ls) (significant (Still ls (is_end l.token && l.hyphen))) → Goal (last_from (Some l) ls) (from_begin acc (l ∷ ls)) read
+      → Goal (last_or (Some l) ls) (from_begin (acc ++ l ∷ []) ls) (significant (Still ls (is_end l.token && l.hyphen))) → Goal (last_or (Some l) ls) (from_begin acc (l ∷ ls)) read
   behind_comment l front acc ls read h f g =
       let e' = is_end l.token && l.hyphen in
-      moved (last_from (Some l) ls) (from_begin acc (l ∷ ls)) (from_begin (acc ++ l ∷ []) ls) read (front ++ significant (Still ls e')) (other_step acc l ls h) f
-      (arrives.fronted (last_from (Some l) ls) (from_begin (acc ++ l ∷ []) ls) front (significant (Still ls e')) g)
+      moved (last_or (Some l) ls) (from_begin acc (l ∷ ls)) (from_begin (acc ++ l ∷ []) ls) read (front ++ significant (Still ls e')) (other_step acc l ls h) f
+      (arrives.fronted (last_or (Some l) ls) (from_begin (acc ++ l ∷ []) ls) front (significant (Still ls e')) g)
 
   mutual
-    walk_outside : (m : ℕ) (ls : List Lexeme) (e : Bool) (o : Option Lexeme) (acc : List Lexeme) → Left outside m ls → Goal (last_from o ls) (from_begin acc ls) (significant (Still ls e))
+    walk_outside : (m : ℕ) (ls : List Lexeme) (e : Bool) (o : Option Lexeme) (acc : List Lexeme) → Left outside m ls → Goal (last_or o ls) (from_begin acc ls) (significant (Still ls e))
     walk_outside m [] e o acc h = arrives.at_outside o acc e h.0
     walk_outside m (l ∷ ls) e o acc h = elim h.1 [
       | inl raw ↦
@@ -97,7 +93,7 @@ module _ (pairs : List Pair) (s : List ℕ) (rest : List Lexeme) (final : Mode) 
     ]
 
     walk_tag : (sort : Sort) (path : Bool) (m : ℕ) (ls : List Lexeme) (e : Bool) (o : Option Lexeme) (begin : Lexeme) (inner : List Lexeme) → begin.token ≡ begin_token sort → begins_comment (begin_token sort) ≡ false → EachInside inner → Left (in_tag sort path) m ls
-        → Goal (last_from o ls) (from_begin (begin ∷ inner) ls) (without_spaces (begin ∷ inner) ++ significant (Still ls e))
+        → Goal (last_or o ls) (from_begin (begin ∷ inner) ls) (without_spaces (begin ∷ inner) ++ significant (Still ls e))
     walk_tag sort path m [] e o begin inner t c each h = arrives.at_tag o sort path begin inner e h.0 t c each
     walk_tag sort path m (l ∷ ls) e o begin inner t c each h = elim h.1 [
       | inl end ↦
@@ -114,13 +110,13 @@ module _ (pairs : List Pair) (s : List ℕ) (rest : List Lexeme) (final : Mode) 
           let e' = is_end l.token && l.hyphen in
           let inside = extent_is_inside s l.token m l.span.n i.1.extent in
           let tag = begin ∷ inner in
-          moved (last_from (Some l) ls) (from_begin tag (l ∷ ls)) (from_begin (tag ++ l ∷ []) ls) (without_spaces tag ++ significant (shown_lexeme s e b l.token l ∷ Still ls e')) (without_spaces (tag ++ l ∷ []) ++ significant (Still ls e'))
+          moved (last_or (Some l) ls) (from_begin tag (l ∷ ls)) (from_begin (tag ++ l ∷ []) ls) (without_spaces tag ++ significant (shown_lexeme s e b l.token l ∷ Still ls e')) (without_spaces (tag ++ l ∷ []) ++ significant (Still ls e'))
           (other_step tag l ls (inside_is_no_begin l.token inside))
           (ap (λ (y : Lexeme). without_spaces tag ++ significant (y ∷ Still ls e')) (shown_same s e b l.token l (inside_is_no_raw l.token inside)) ∙ one_pushed tag l (Still ls e') (inside_is_no_comment l.token inside))
           (walk_tag sort (path_after path l.token) l.span.n ls e' (Some l) begin (inner ++ l ∷ []) t c (each_more inner l each inside) (in_mode (mode_after (in_tag sort path) l.token) (in_tag sort (path_after path l.token)) l.span.n ls (inside_stays sort path l.token inside) h.2))
     ]
 
-    walk_comment : (m : ℕ) (ls : List Lexeme) (e : Bool) (begin : Lexeme) → begin.token ≡ BeginComment → Left in_comment m ls → Goal (last_from (Some begin) ls) (from_begin (begin ∷ []) ls) (comment_from begin (without_spaces (Still ls e)))
+    walk_comment : (m : ℕ) (ls : List Lexeme) (e : Bool) (begin : Lexeme) → begin.token ≡ BeginComment → Left in_comment m ls → Goal (last_or (Some begin) ls) (from_begin (begin ∷ []) ls) (comment_from begin (without_spaces (Still ls e)))
     walk_comment m [] e begin t h = arrives.at_comment begin e h.0 t
     walk_comment m (l ∷ ls) e begin t h = elim h.1 [
       | inl raw ↦
@@ -128,7 +124,7 @@ module _ (pairs : List Pair) (s : List ℕ) (rest : List Lexeme) (final : Mode) 
           let e' = is_end l.token && l.hyphen in
           let x = shown_lexeme s e b l.token l in
           let u : x.token ≡ Raw = shown_token s e b l.token l ∙ raw.0 in
-          moved (last_from (Some l) ls) (from_begin (begin ∷ []) (l ∷ ls)) (from_begin (begin ∷ l ∷ []) ls) (comment_from begin (without_spaces (x ∷ Still ls e'))) (behind_end (without_spaces (Still ls e')))
+          moved (last_or (Some l) ls) (from_begin (begin ∷ []) (l ∷ ls)) (from_begin (begin ∷ l ∷ []) ls) (comment_from begin (without_spaces (x ∷ Still ls e'))) (behind_end (without_spaces (Still ls e')))
           (other_step (begin ∷ []) l ls (ap opens_tag raw.0))
           (ap (comment_from begin) (no_space_step x (Still ls e') (ap is_space u)) ∙ raw_step begin x (without_spaces (Still ls e')) (ap is_raw u))
           (walk_raw m l.span.n ls e' begin l t raw.0 raw.2 (in_mode (mode_after in_comment l.token) in_comment l.span.n ls (ap (mode_after in_comment) raw.0) h.2))
@@ -142,7 +138,7 @@ module _ (pairs : List Pair) (s : List ℕ) (rest : List Lexeme) (final : Mode) 
           (walk_outside l.span.n ls e' (Some l) (begin ∷ l ∷ []) (in_mode (mode_after in_comment l.token) outside l.span.n ls (ap (mode_after in_comment) end.0) h.2))
     ]
 
-    walk_raw : (n m : ℕ) (ls : List Lexeme) (e : Bool) (begin raw : Lexeme) → begin.token ≡ BeginComment → raw.token ≡ Raw → IsRaw pairs s n m → Left in_comment m ls → Goal (last_from (Some raw) ls) (from_begin (begin ∷ raw ∷ []) ls) (behind_end (without_spaces (Still ls e)))
+    walk_raw : (n m : ℕ) (ls : List Lexeme) (e : Bool) (begin raw : Lexeme) → begin.token ≡ BeginComment → raw.token ≡ Raw → IsRaw pairs s n m → Left in_comment m ls → Goal (last_or (Some raw) ls) (from_begin (begin ∷ raw ∷ []) ls) (behind_end (without_spaces (Still ls e)))
     walk_raw n m [] e begin raw t r z h = arrives.at_raw begin raw e h.0 t r
     walk_raw n m (l ∷ ls) e begin raw t r z h = elim h.1 [
       | inl again ↦ absurd (raw_then_raw pairs s n m l.span.n z again.2)
@@ -151,12 +147,12 @@ module _ (pairs : List Pair) (s : List ℕ) (rest : List Lexeme) (final : Mode) 
           let e' = is_end l.token && l.hyphen in
           let x = shown_lexeme s e b l.token l in
           let u : x.token ≡ EndComment = shown_token s e b l.token l ∙ end.0 in
-          moved (last_from (Some l) ls) (from_begin (begin ∷ raw ∷ []) (l ∷ ls)) (from_begin (begin ∷ raw ∷ l ∷ []) ls) (behind_end (without_spaces (x ∷ Still ls e'))) (significant (Still ls e'))
+          moved (last_or (Some l) ls) (from_begin (begin ∷ raw ∷ []) (l ∷ ls)) (from_begin (begin ∷ raw ∷ l ∷ []) ls) (behind_end (without_spaces (x ∷ Still ls e'))) (significant (Still ls e'))
           (other_step (begin ∷ raw ∷ []) l ls (ap opens_tag end.0))
           (ap behind_end (no_space_step x (Still ls e') (ap is_space u)))
           (walk_outside l.span.n ls e' (Some l) (begin ∷ raw ∷ l ∷ []) (in_mode (mode_after in_comment l.token) outside l.span.n ls (ap (mode_after in_comment) end.0) h.2))
     ]
 
   -- along a whole cut from the start of the text
-  pub walk : (ls : List Lexeme) → Cut pairs s outside 0 ls final p → Goal (last_from None ls) (from_begin [] ls) (significant (shown_lexemes s false (ls ++ rest)))
+  pub walk : (ls : List Lexeme) → Cut pairs s outside 0 ls final p → Goal (last_or None ls) (from_begin [] ls) (significant (shown_lexemes s false (ls ++ rest)))
   walk ls h = walk_outside 0 ls false None [] h
