@@ -1,0 +1,2 @@
+// What a template means on a context: the text that it gives, and how it ends.
+#![tactic(auto)]

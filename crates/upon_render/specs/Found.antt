@@ -1,0 +1,27 @@
+-- What a search comes to: something that was found, or a fault; and the answer of one that goes on to a next state.
+use Rattle.upon_types.specs.Fault.{Fault}
+
+pub data Found (A : Type 0) : Type 0 where
+  found : A → Found A
+  at_fault : Fault → Found A
+
+-- on with what was found, if no fault was met
+abbrev pub and_then : {A B : Type 0} → Found A → (A → Found B) → Found B
+and_then (found a) go = go a
+and_then (at_fault fault) go = at_fault fault
+
+-- an answer, and the next state of the one that was asked
+pub record Reply (Q : Type 0) (A : Type 0) : Type 0 where
+  pub answer : A
+  pub next : Q
+
+abbrev pub reply : {Q A : Type 0} → A → Q → Reply Q A
+reply answer next = record { answer = answer; next = next }
+
+abbrev pub on_found : {Q A B : Type 0} → Found A → Q → (A → Q → Reply Q (Found B)) → Reply Q (Found B)
+on_found (found a) q go = go a q
+on_found (at_fault fault) q go = reply (at_fault fault) q
+
+-- on with what was found and the next state, if no fault was met
+abbrev pub with_found : {Q A B : Type 0} → Reply Q (Found A) → (A → Q → Reply Q (Found B)) → Reply Q (Found B)
+with_found r go = on_found r.answer r.next go

@@ -1,0 +1,9 @@
+pub mod Found
+pub mod Vals
+pub mod LookupFaults
+pub mod Truth
+pub mod Walk
+pub mod Environment
+pub mod Items
+pub mod Source
+pub mod Lookup

@@ -1,0 +1,2 @@
+// How a running template finds values: paths, bindings, loops.
+#![tactic(auto)]
