@@ -1,0 +1,31 @@
+-- Which templates a template reaches: those that it includes, and those that they include.
+use Rattle.std.specs.Prelude.{◌≡◌, ◌⊎◌, ℕ, List, [], ◌∷◌, Some}
+use Rattle.upon_types.specs.Tree.{Statement, raw, inline_expr, include, if_else, for_loop, with, Statements, no_statements, statement_then, Else, no_else, otherwise}
+use Rattle.upon_meaning.specs.Engine.{Template, Table}
+
+-- an include of this name stands in the tree
+abbrev mutual
+  pub StatementIncludes : List ℕ → Statement → Type 0
+  StatementIncludes name (raw span) = ⊥
+  StatementIncludes name (inline_expr e span) = ⊥
+  StatementIncludes name (include word value) = word.text ≡ name
+  StatementIncludes name (if_else negated e body other) = Includes name body ⊎ ElseIncludes name other
+  StatementIncludes name (for_loop names e body) = Includes name body
+  StatementIncludes name (with e word body) = Includes name body
+
+  pub Includes : List ℕ → Statements → Type 0
+  Includes name no_statements = ⊥
+  Includes name (statement_then t ts) = StatementIncludes name t ⊎ Includes name ts
+
+  pub ElseIncludes : List ℕ → Else → Type 0
+  ElseIncludes name no_else = ⊥
+  ElseIncludes name (otherwise body) = Includes name body
+
+-- the tree includes the first of the names, which the table holds; its tree includes the next, and so on to the last, and this name
+abbrev pub ReachesBy : Table → Statements → List (List ℕ) → List ℕ → Type 0
+ReachesBy table tree [] name = Includes name tree
+ReachesBy table tree (via ∷ names) name = Includes via tree × ((t : Template) × (table via ≡ Some t) × ReachesBy table t.tree names name)
+
+-- an include of this name stands in the tree, or in one that it reaches
+abbrev pub Reaches : Table → Statements → List ℕ → Type 0
+Reaches table tree name = (names : List (List ℕ)) × ReachesBy table tree names name

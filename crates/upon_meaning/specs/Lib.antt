@@ -1,0 +1,12 @@
+pub mod Outcome
+pub mod Answers
+pub mod Engine
+pub mod CallFaults
+pub mod DefaultFormat
+pub mod Entries
+pub mod Evaluation
+pub mod Emission
+pub mod Meaning
+pub mod Alone
+pub mod Includes
+pub mod Names
