@@ -1,0 +1,47 @@
+-- Renderings with a value source or a template source, and what they give.
+use Rattle.std.proofs.Common.{◌≡◌, ℕ, ◌+◌, List, [], ◌∷◌, Option, Some, None, true, false, refl, codes}
+use Rattle.upon_types.specs.Expression.{var}
+use Rattle.upon_types.specs.Fault.{render}
+use Rattle.upon_types.specs.Tree.{include}
+use Rattle.upon_types.specs.Val.{Val, text_val, none_val}
+use Rattle.upon_render.specs.Environment.{context, value_source}
+use Rattle.upon_render.specs.Found.{Reply, reply}
+use Rattle.upon_render.specs.Source.{Said, says, refuses, Member, key}
+use Rattle.upon_meaning.specs.Alone.{alone}
+use Rattle.upon_meaning.specs.Engine.{Template, rendering_of, rendering_by}
+use Rattle.upon_meaning.specs.Outcome.{good, fails, states}
+use Rattle.upon_meaning.proofs.Computing.{computing}
+use Rattle.upon_meaning.proofs.Examples.Short.{quoted, first, dot, maybe, shows, text, map_of, template, held, engine, no_source, fault_at}
+
+-- a value source that keeps the paths that it was asked for, and refuses
+keeps : List (List Member) → List Member → Reply (List (List Member)) (Said Val)
+keeps asked path = reply (refuses (codes "no user")) (path ∷ asked)
+
+-- `{{ user?.name }}`: the whole path is asked for, once
+asked_once : alone (rendering_of {T = Unit {0}} (engine [] []) keeps None) (template (codes "{{ user?.name }}") (shows 0 16 (var (first 3 (codes "user")) (maybe 7 (codes "name") ∷ [])) ∷ [])) None value_source (states [] tt) ≡ record { text = []; end = fails (fault_at render (codes "no user") 3 13); next = states ((record { is_optional = false; access = key (codes "user") } ∷ record { is_optional = true; access = key (codes "name") } ∷ []) ∷ []) tt }
+unfolding computing keeps
+asked_once = refl
+
+-- a template source over two templates, which counts what it is asked
+hello : Template
+hello = template (codes "Hello {{ user.name }}!") (text 0 6 ∷ shows 6 21 (var (first 9 (codes "user")) (dot 13 (codes "name") ∷ [])) ∷ text 21 22 ∷ [])
+
+goodbye : Template
+goodbye = template (codes "Goodbye {{ user.name }}!") (text 0 8 ∷ shows 8 23 (var (first 11 (codes "user")) (dot 15 (codes "name") ∷ [])) ∷ text 23 24 ∷ [])
+
+answered : Option Template → Said Template
+answered (Some t) = says t
+answered None = refuses (codes "template not found")
+
+counts : ℕ → List ℕ → Reply ℕ (Said Template)
+counts n name = reply (answered (held ((codes "hello", hello) ∷ (codes "goodbye", goodbye) ∷ []) name)) (n + 1)
+
+-- `{% include "hello" %}`, a new line, `{% include "goodbye" %}`
+two_included : alone (rendering_by (engine [] []) no_source counts None) (template (codes "{% include \"hello\" %}\n{% include \"goodbye\" %}") (include (quoted 11 (codes "hello")) None ∷ text 21 22 ∷ include (quoted 33 (codes "goodbye")) None ∷ [])) None (context (map_of ((codes "user", map_of ((codes "name", text_val (codes "John Smith")) ∷ [])) ∷ []))) (states tt 0) ≡ record { text = codes "Hello John Smith!\nGoodbye John Smith!"; end = good; next = states tt 2 }
+unfolding computing hello goodbye answered counts
+two_included = refl
+
+-- `{% include "x" %}`
+not_answered : alone (rendering_by (engine [] []) no_source counts None) (template (codes "{% include \"x\" %}") (include (quoted 11 (codes "x")) None ∷ [])) None (context none_val) (states tt 0) ≡ record { text = []; end = fails (fault_at render (codes "template not found") 11 14); next = states tt 1 }
+unfolding computing answered counts
+not_answered = refl
