@@ -1,5 +1,5 @@
 -- Which templates a template reaches: those that it includes, and those that they include.
-use Rattle.std.specs.Prelude.{◌≡◌, ◌⊎◌, ℕ, List, [], ◌∷◌, Some}
+use Rattle.std.specs.Prelude.{◌≡◌, ◌<◌, ◌⊎◌, ℕ, List, [], ◌∷◌, Some}
 use Rattle.upon_types.specs.Tree.{Statement, raw, inline_expr, include, if_else, for_loop, with, Statements, no_statements, statement_then, Else, no_else, otherwise}
 use Rattle.upon_meaning.specs.Engine.{Template, Table}
 
@@ -29,3 +29,13 @@ ReachesBy table tree (via ∷ names) name = Includes via tree × ((t : Template)
 -- an include of this name stands in the tree, or in one that it reaches
 abbrev pub Reaches : Table → Statements → List ℕ → Type 0
 Reaches table tree name = (names : List (List ℕ)) × ReachesBy table tree names name
+
+-- the stored templates that a tree includes have numbers less than k
+abbrev pub IncludesBelow : Table → (List ℕ → ℕ) → Statements → ℕ → Type 0
+IncludesBelow table number tree k = (name : List ℕ) (t : Template) → Includes name tree → table name ≡ Some t → number name < k
+
+-- Numbers that show how deep includes go: the tree has the number k, and it and each stored template that it reaches have numbers
+-- greater than those of the stored templates that they include.
+pub record IsNumbered (table : Table) (number : List ℕ → ℕ) (tree : Statements) (k : ℕ) : Type 0 where
+  pub itself : IncludesBelow table number tree k
+  pub reached : (name : List ℕ) (t : Template) → Reaches table tree name → table name ≡ Some t → IncludesBelow table number t.tree (number name)

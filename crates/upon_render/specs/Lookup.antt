@@ -4,11 +4,11 @@ use Rattle.upon_types.specs.declared.types.Span.{Span}
 use Rattle.upon_types.specs.declared.types.ast.path.AccessOp.{AccessOp}
 use Rattle.upon_types.specs.Path.{Selector, by_index, by_key, Step, path_span}
 use Rattle.upon_types.specs.Val.{Val, none_val, bool_val, int_val, text_val, map_val, entry_then, no_entries}
-use Rattle.upon_render.specs.Environment.{Bound, plain, key_text, loop_state, Root, context, value_source, nothing, Environment, bound_to}
+use Rattle.upon_render.specs.Environment.{Bound, Binding, plain, key_text, loop_state, Root, context, value_source, nothing, Environment, bound_to}
 use Rattle.upon_render.specs.Found.{Found, found, at_fault, Reply, reply}
 use Rattle.upon_render.specs.LookupFaults.{wrong, not_in_scope, not_in_map, index_into_string, integer_index, index_into}
 use Rattle.upon_render.specs.Source.{Said, says, refuses, Source, members_of}
-use Rattle.upon_render.specs.Walk.{missed, member, walk}
+use Rattle.upon_render.specs.Walk.{missed, walk, as_some, context_walk}
 
 -- a loop's key has no members
 abbrev pub key_walk : List ℕ → List Step → Found Val
@@ -55,14 +55,19 @@ bound_value (plain v) steps = walk steps v
 bound_value (key_text text) steps = key_walk text steps
 bound_value (loop_state index count) steps = state_walk index count steps
 
--- in a context any fault of the first member means that nothing binds it
-abbrev pub after_first : Found (Option Val) → Span → (Val → Found Val) → Found Val
-after_first (found (Some v)) at go = go v
-after_first (found None) at go = found none_val
-after_first (at_fault fault) at go = at_fault (not_in_scope at)
+abbrev pub maybe_bound : Option Bound → List Step → Found (Option Val)
+maybe_bound None steps = found None
+maybe_bound (Some b) steps = as_some (bound_value b steps)
 
-abbrev pub context_value : Val → Step → List Step → Found Val
-context_value v first rest = after_first (member v first) first.span (walk rest)
+-- a path among bindings: the first one of its first member's name answers; none where there is no such binding
+abbrev pub bindings_walk : List Binding → Step → List Step → Found (Option Val)
+bindings_walk bs first rest = maybe_bound (bound_to first.selector bs) rest
+
+-- what nothing binds is a fault at the first member
+abbrev pub or_not_in_scope : Found (Option Val) → Span → Found Val
+or_not_in_scope (found (Some v)) at = found v
+or_not_in_scope (found None) at = at_fault (not_in_scope at)
+or_not_in_scope (at_fault fault) at = at_fault fault
 
 -- a refusal of the value source lies at the whole path
 abbrev pub said_value : Said Val → Span → Found Val
@@ -74,14 +79,15 @@ replied r at = reply (said_value r.answer at) r.next
 
 -- the value source is asked for the whole path, once
 abbrev pub root_value : {Q : Type 0} → Source Q → Root → Step → List Step → Q → Reply Q (Found Val)
-root_value ask (context v) first rest q = reply (context_value v first rest) q
+root_value ask (context v) first rest q = reply (or_not_in_scope (context_walk first rest v) first.span) q
 root_value ask value_source first rest q = replied (ask q (members_of (first ∷ rest))) (path_span first rest)
 root_value ask nothing first rest q = reply (at_fault (not_in_scope first.span)) q
 
-abbrev pub bound_or_root : {Q : Type 0} → Source Q → Option Bound → Root → Step → List Step → Q → Reply Q (Found Val)
-bound_or_root ask (Some b) root first rest q = reply (bound_value b rest) q
-bound_or_root ask None root first rest q = root_value ask root first rest q
+abbrev pub or_root : {Q : Type 0} → Found (Option Val) → Source Q → Root → Step → List Step → Q → Reply Q (Found Val)
+or_root (found (Some v)) ask root first rest q = reply (found v) q
+or_root (found None) ask root first rest q = root_value ask root first rest q
+or_root (at_fault fault) ask root first rest q = reply (at_fault fault) q
 
--- the first binding of the first member's name answers, or else the root
+-- the bindings answer, or else the root
 abbrev pub lookup : {Q : Type 0} → Source Q → Environment → Step → List Step → Q → Reply Q (Found Val)
-lookup ask env first rest q = bound_or_root ask (bound_to first.selector env.bindings) env.root first rest q
+lookup ask env first rest q = or_root (bindings_walk env.bindings first rest) ask env.root first rest q

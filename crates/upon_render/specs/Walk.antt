@@ -45,3 +45,17 @@ after_member (at_fault fault) go = at_fault fault
 abbrev pub walk : List Step → Val → Found Val
 walk [] v = found v
 walk (step ∷ steps) v = after_member (member v step) (walk steps)
+
+abbrev pub as_some : Found Val → Found (Option Val)
+as_some (found v) = found (Some v)
+as_some (at_fault fault) = at_fault fault
+
+abbrev pub after_first : Found (Option Val) → (Val → Found Val) → Found (Option Val)
+after_first (found (Some v)) go = as_some (go v)
+after_first (found None) go = found (Some none_val)
+after_first (at_fault fault) go = found None
+
+-- A path in a context. Any fault of its first member says that nothing binds the path there, and so there is none; where the first
+-- member misses by `?.`, that is bound, to no value. Later members are a walk.
+abbrev pub context_walk : Step → List Step → Val → Found (Option Val)
+context_walk first rest v = after_first (member v first) (walk rest)
