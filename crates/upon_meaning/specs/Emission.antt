@@ -4,11 +4,11 @@ use Rattle.upon_types.specs.declared.types.Span.{Span}
 use Rattle.upon_types.specs.Expression.{Expression, base, filtered, Base, var, literal, list, mapping, paren, call}
 use Rattle.upon_types.specs.Path.{Word}
 use Rattle.upon_render.specs.Environment.{Environment}
-use Rattle.upon_render.specs.Found.{Found, found, at_fault, Reply, with_found}
+use Rattle.upon_render.specs.Found.{Found, found, at_fault, Reply}
 use Rattle.upon_meaning.specs.Answers.{FormatEnd, well, refused, Formatted, Formatter, Callable, formatter, function}
 use Rattle.upon_meaning.specs.CallFaults.{unknown_callable, formatter_expects, not_formatted}
 use Rattle.upon_meaning.specs.Engine.{Calls}
-use Rattle.upon_meaning.specs.Evaluation.{Operand, values_of, answered, ahead, evaluate, evaluate_base, evaluate_arguments}
+use Rattle.upon_meaning.specs.Evaluation.{Operand, values_of, answered, operand_then, evaluate, evaluate_base, evaluate_arguments}
 use Rattle.upon_meaning.specs.Outcome.{End, good, fails, Outcome, fault}
 
 abbrev pub end_of : FormatEnd → Span → End
@@ -53,7 +53,7 @@ module _ {V : Type 0} (calls : Calls V) where
     pub emit : Expression → Environment → V → Outcome V
     emit (base b) env q = emit_base b env q
     emit (filtered receiver name args span) env q =
-        emit_applied calls name span (with_found (evaluate calls receiver env q) (λ o q'. ahead o (evaluate_arguments calls args env q')))
+        emit_applied calls name span (operand_then (evaluate calls receiver env q) (evaluate_arguments calls args env))
 
     pub emit_base : Base → Environment → V → Outcome V
     emit_base (paren e span) env q = emit e env q

@@ -51,6 +51,11 @@ placed r at = with_found r (λ v q. reply (found (operand v at)) q)
 abbrev pub ahead : {V : Type 0} → Operand → Reply V (Found (List Operand)) → Reply V (Found (List Operand))
 ahead o r = with_found r (λ os q. reply (found (o ∷ os)) q)
 
+-- one operand, and then others
+abbrev pub operand_then : {V : Type 0} → Reply V (Found Operand) → (V → Reply V (Found (List Operand))) → Reply V (Found (List Operand))
+operand_then first others = with_found first (λ o q. ahead o (others q))
+
+-- the list of the values, and the map of the entries
 abbrev pub as_list : {V : Type 0} → Reply V (Found (List Operand)) → Span → Reply V (Found Operand)
 as_list r at = with_found r (λ os q. reply (found (operand (list_val (vals_of (values_of os))) at)) q)
 
@@ -67,7 +72,7 @@ module _ {V : Type 0} (calls : Calls V) where
     pub evaluate : Expression → Environment → V → Reply V (Found Operand)
     evaluate (base b) env q = evaluate_base b env q
     evaluate (filtered receiver name args span) env q =
-        applied calls name span (with_found (evaluate receiver env q) (λ o q'. ahead o (evaluate_arguments args env q')))
+        applied calls name span (operand_then (evaluate receiver env q) (evaluate_arguments args env))
 
     pub evaluate_base : Base → Environment → V → Reply V (Found Operand)
     evaluate_base (var first rest) env q = placed (lookup calls.ask env first rest q) (path_span first rest)
@@ -79,7 +84,7 @@ module _ {V : Type 0} (calls : Calls V) where
 
     pub evaluate_bases : Bases → Environment → V → Reply V (Found (List Operand))
     evaluate_bases no_bases env q = reply (found []) q
-    evaluate_bases (base_then b bs) env q = with_found (evaluate_base b env q) (λ o q'. ahead o (evaluate_bases bs env q'))
+    evaluate_bases (base_then b bs) env q = operand_then (evaluate_base b env q) (evaluate_bases bs env)
 
     -- the entries so far, and then these
     pub evaluate_items : Items → Entries → Environment → V → Reply V (Found Entries)
