@@ -17,7 +17,7 @@ unknown_function at = wrong (codes "unknown function") at
 abbrev pub formatter_found : Span → Fault
 formatter_found at = wrong (codes "expected function, found formatter") at
 
--- of the number of operands
+-- of the number of values that are given
 abbrev pub formatter_expects : ℕ → Span → Fault
 formatter_expects n at = wrong (codes "formatter expects 1 argument, " ++ decimal n ++ codes " provided") at
 

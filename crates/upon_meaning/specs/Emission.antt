@@ -8,7 +8,7 @@ use Rattle.upon_render.specs.Found.{Found, found, at_fault, Reply}
 use Rattle.upon_meaning.specs.Answers.{FormatEnd, well, refused, Formatted, Formatter, Callable, formatter, function}
 use Rattle.upon_meaning.specs.CallFaults.{unknown_callable, formatter_expects, not_formatted}
 use Rattle.upon_meaning.specs.Engine.{Calls}
-use Rattle.upon_meaning.specs.Evaluation.{Operand, values_of, answered, operand_then, evaluate, evaluate_base, evaluate_arguments}
+use Rattle.upon_meaning.specs.Evaluation.{Evaluated, values_of, answered, evaluated_then, evaluate, evaluate_base, evaluate_arguments}
 use Rattle.upon_meaning.specs.Outcome.{End, good, fails, Outcome, fault}
 
 abbrev pub end_of : FormatEnd → Span → End
@@ -27,25 +27,25 @@ shown_or_fault (at_fault f) q go = fault f q
 abbrev pub emit_found : {V A : Type 0} → Reply V (Found A) → (A → V → Outcome V) → Outcome V
 emit_found r go = shown_or_fault r.answer r.next go
 
--- a formatter takes one operand
-abbrev pub formatted_by : {V : Type 0} → Formatter → Word → List Operand → V → Outcome V
+-- a formatter takes one value
+abbrev pub formatted_by : {V : Type 0} → Formatter → Word → List Evaluated → V → Outcome V
 formatted_by f name (o ∷ []) q = shown (f o.value) name.span q
-formatted_by f name operands q = fault (formatter_expects (length operands) name.span) q
+formatted_by f name given q = fault (formatter_expects (length given) name.span) q
 
--- The operands are there: now the name is looked up. A function's value goes through the default formatter, whose fault lies at the
+-- All values are there: now the name is looked up. A function's value goes through the default formatter, whose fault lies at the
 -- whole; the function's own faults lie at the name.
-abbrev pub emitted : {V : Type 0} → Formatter → Word → Span → List Operand → Option Callable → V → Outcome V
-emitted default name whole operands None q = fault (unknown_callable name.span) q
-emitted default name whole operands (Some (formatter f)) q = formatted_by f name operands q
-emitted default name whole operands (Some (function f)) q =
-    shown_or_fault (answered name name.span operands (f (values_of operands))) q (λ v q'. shown (default v) whole q')
+abbrev pub emitted : {V : Type 0} → Formatter → Word → Span → List Evaluated → Option Callable → V → Outcome V
+emitted default name whole given None q = fault (unknown_callable name.span) q
+emitted default name whole given (Some (formatter f)) q = formatted_by f name given q
+emitted default name whole given (Some (function f)) q =
+    shown_or_fault (answered name name.span given (f (values_of given))) q (λ v q'. shown (default v) whole q')
 
-abbrev pub emit_applied : {V : Type 0} → Calls V → Word → Span → Reply V (Found (List Operand)) → Outcome V
+abbrev pub emit_applied : {V : Type 0} → Calls V → Word → Span → Reply V (Found (List Evaluated)) → Outcome V
 emit_applied calls name whole r = emit_found r (λ os q. emitted calls.default_formatter name whole os (calls.callables name.text) q)
 
--- a value goes through the default formatter, whose fault lies at the operand
-abbrev pub emit_operand : {V : Type 0} → Calls V → Reply V (Found Operand) → Outcome V
-emit_operand calls r = emit_found r (λ o q. shown (calls.default_formatter o.value) o.place q)
+-- a value goes through the default formatter, whose fault lies where it stands
+abbrev pub emit_value : {V : Type 0} → Calls V → Reply V (Found Evaluated) → Outcome V
+emit_value calls r = emit_found r (λ o q. shown (calls.default_formatter o.value) o.place q)
 
 module _ {V : Type 0} (calls : Calls V) where
   -- parentheses around it make no difference
@@ -53,12 +53,12 @@ module _ {V : Type 0} (calls : Calls V) where
     pub emit : Expression → Environment → V → Outcome V
     emit (base b) env q = emit_base b env q
     emit (filtered receiver name args span) env q =
-        emit_applied calls name span (operand_then (evaluate calls receiver env q) (evaluate_arguments calls args env))
+        emit_applied calls name span (evaluated_then (evaluate calls receiver env q) (evaluate_arguments calls args env))
 
     pub emit_base : Base → Environment → V → Outcome V
     emit_base (paren e span) env q = emit e env q
     emit_base (call name args span) env q = emit_applied calls name span (evaluate_arguments calls args env q)
-    emit_base (var first rest) env q = emit_operand calls (evaluate_base calls (var first rest) env q)
-    emit_base (literal v span) env q = emit_operand calls (evaluate_base calls (literal v span) env q)
-    emit_base (list bases span) env q = emit_operand calls (evaluate_base calls (list bases span) env q)
-    emit_base (mapping items span) env q = emit_operand calls (evaluate_base calls (mapping items span) env q)
+    emit_base (var first rest) env q = emit_value calls (evaluate_base calls (var first rest) env q)
+    emit_base (literal v span) env q = emit_value calls (evaluate_base calls (literal v span) env q)
+    emit_base (list bases span) env q = emit_value calls (evaluate_base calls (list bases span) env q)
+    emit_base (mapping items span) env q = emit_value calls (evaluate_base calls (mapping items span) env q)

@@ -15,76 +15,76 @@ use Rattle.upon_meaning.specs.Engine.{Calls}
 use Rattle.upon_meaning.specs.Entries.{with_entry}
 
 -- a value, and where the expression that gives it stands, without the parentheses around it
-pub record Operand : Type 0 where
+pub record Evaluated : Type 0 where
   pub value : Val
   pub place : Span
 
-abbrev pub operand : Val → Span → Operand
-operand v at = record { value = v; place = at }
+abbrev pub evaluated : Val → Span → Evaluated
+evaluated v at = record { value = v; place = at }
 
-abbrev pub values_of : List Operand → List Val
-values_of operands = map (λ o. o.value) operands
+abbrev pub values_of : List Evaluated → List Val
+values_of given = map (λ o. o.value) given
 
 -- an argument that does not fit is told at its place (each function names one that it was given)
-abbrev pub misfit_at : Word → Misfit → Option Operand → Span → Fault
+abbrev pub misfit_at : Word → Misfit → Option Evaluated → Span → Fault
 misfit_at name misfit (Some o) whole = argument_misfits name.text misfit o.value o.place
 misfit_at name misfit None whole = function_declined [] whole
 
 -- the value that a function gives, or its fault: of an argument at the argument, else where `whole` says
-abbrev pub answered : Word → Span → List Operand → Answer → Found Val
-answered name whole operands (gives v) = found v
-answered name whole operands (wrong_number n) = at_fault (function_expects n (length operands) whole)
-answered name whole operands (wrong_argument i misfit) = at_fault (misfit_at name misfit (slice_get operands i) whole)
-answered name whole operands (declines text) = at_fault (function_declined text whole)
+abbrev pub answered : Word → Span → List Evaluated → Answer → Found Val
+answered name whole given (gives v) = found v
+answered name whole given (wrong_number n) = at_fault (function_expects n (length given) whole)
+answered name whole given (wrong_argument i misfit) = at_fault (misfit_at name misfit (slice_get given i) whole)
+answered name whole given (declines text) = at_fault (function_declined text whole)
 
--- the operands are there: now the name is looked up, then the function answers
-abbrev pub called : Word → Span → List Operand → Option Callable → Found Val
-called name whole operands None = at_fault (unknown_function name.span)
-called name whole operands (Some (formatter f)) = at_fault (formatter_found name.span)
-called name whole operands (Some (function f)) = answered name whole operands (f (values_of operands))
+-- all values are there: now the name is looked up, then the function answers
+abbrev pub called : Word → Span → List Evaluated → Option Callable → Found Val
+called name whole given None = at_fault (unknown_function name.span)
+called name whole given (Some (formatter f)) = at_fault (formatter_found name.span)
+called name whole given (Some (function f)) = answered name whole given (f (values_of given))
 
 -- a value of a place
-abbrev pub placed : {V : Type 0} → Reply V (Found Val) → Span → Reply V (Found Operand)
-placed r at = with_found r (λ v q. reply (found (operand v at)) q)
+abbrev pub placed : {V : Type 0} → Reply V (Found Val) → Span → Reply V (Found Evaluated)
+placed r at = with_found r (λ v q. reply (found (evaluated v at)) q)
 
--- one operand ahead of others
-abbrev pub ahead : {V : Type 0} → Operand → Reply V (Found (List Operand)) → Reply V (Found (List Operand))
+-- one value ahead of others
+abbrev pub ahead : {V : Type 0} → Evaluated → Reply V (Found (List Evaluated)) → Reply V (Found (List Evaluated))
 ahead o r = with_found r (λ os q. reply (found (o ∷ os)) q)
 
--- one operand, and then others
-abbrev pub operand_then : {V : Type 0} → Reply V (Found Operand) → (V → Reply V (Found (List Operand))) → Reply V (Found (List Operand))
-operand_then first others = with_found first (λ o q. ahead o (others q))
+-- one value, and then others
+abbrev pub evaluated_then : {V : Type 0} → Reply V (Found Evaluated) → (V → Reply V (Found (List Evaluated))) → Reply V (Found (List Evaluated))
+evaluated_then first others = with_found first (λ o q. ahead o (others q))
 
 -- the list of the values, and the map of the entries
-abbrev pub as_list : {V : Type 0} → Reply V (Found (List Operand)) → Span → Reply V (Found Operand)
-as_list r at = with_found r (λ os q. reply (found (operand (list_val (vals_of (values_of os))) at)) q)
+abbrev pub as_list : {V : Type 0} → Reply V (Found (List Evaluated)) → Span → Reply V (Found Evaluated)
+as_list r at = with_found r (λ os q. reply (found (evaluated (list_val (vals_of (values_of os))) at)) q)
 
-abbrev pub as_map : {V : Type 0} → Reply V (Found Entries) → Span → Reply V (Found Operand)
-as_map r at = with_found r (λ es q. reply (found (operand (map_val es) at)) q)
+abbrev pub as_map : {V : Type 0} → Reply V (Found Entries) → Span → Reply V (Found Evaluated)
+as_map r at = with_found r (λ es q. reply (found (evaluated (map_val es) at)) q)
 
 -- a filter or a call: it stands where `whole` says
-abbrev pub applied : {V : Type 0} → Calls V → Word → Span → Reply V (Found (List Operand)) → Reply V (Found Operand)
+abbrev pub applied : {V : Type 0} → Calls V → Word → Span → Reply V (Found (List Evaluated)) → Reply V (Found Evaluated)
 applied calls name whole r = with_found r (λ os q. placed (reply (called name whole os (calls.callables name.text)) q) whole)
 
 module _ {V : Type 0} (calls : Calls V) where
   -- from the left, a filter's receiver before its arguments
   abbrev mutual
-    pub evaluate : Expression → Environment → V → Reply V (Found Operand)
+    pub evaluate : Expression → Environment → V → Reply V (Found Evaluated)
     evaluate (base b) env q = evaluate_base b env q
     evaluate (filtered receiver name args span) env q =
-        applied calls name span (operand_then (evaluate receiver env q) (evaluate_arguments args env))
+        applied calls name span (evaluated_then (evaluate receiver env q) (evaluate_arguments args env))
 
-    pub evaluate_base : Base → Environment → V → Reply V (Found Operand)
+    pub evaluate_base : Base → Environment → V → Reply V (Found Evaluated)
     evaluate_base (var first rest) env q = placed (lookup calls.ask env first rest q) (path_span first rest)
-    evaluate_base (literal v span) env q = reply (found (operand v span)) q
+    evaluate_base (literal v span) env q = reply (found (evaluated v span)) q
     evaluate_base (list bases span) env q = as_list (evaluate_bases bases env q) span
     evaluate_base (mapping items span) env q = as_map (evaluate_items items no_entries env q) span
     evaluate_base (paren e span) env q = evaluate e env q
     evaluate_base (call name args span) env q = applied calls name span (evaluate_arguments args env q)
 
-    pub evaluate_bases : Bases → Environment → V → Reply V (Found (List Operand))
+    pub evaluate_bases : Bases → Environment → V → Reply V (Found (List Evaluated))
     evaluate_bases no_bases env q = reply (found []) q
-    evaluate_bases (base_then b bs) env q = operand_then (evaluate_base b env q) (evaluate_bases bs env)
+    evaluate_bases (base_then b bs) env q = evaluated_then (evaluate_base b env q) (evaluate_bases bs env)
 
     -- the entries so far, and then these
     pub evaluate_items : Items → Entries → Environment → V → Reply V (Found Entries)
@@ -92,6 +92,6 @@ module _ {V : Type 0} (calls : Calls V) where
     evaluate_items (item_then key b items) es env q =
         with_found (evaluate_base b env q) (λ o q'. evaluate_items items (with_entry key.text o.value es) env q')
 
-    pub evaluate_arguments : Arguments → Environment → V → Reply V (Found (List Operand))
+    pub evaluate_arguments : Arguments → Environment → V → Reply V (Found (List Evaluated))
     evaluate_arguments no_arguments env q = reply (found []) q
     evaluate_arguments (arguments bases span) env q = evaluate_bases bases env q

@@ -12,7 +12,7 @@ use Rattle.upon_render.specs.Items.{items_of}
 use Rattle.upon_render.specs.Truth.{truth}
 use Rattle.upon_meaning.specs.Emission.{emit}
 use Rattle.upon_meaning.specs.Engine.{Calls}
-use Rattle.upon_meaning.specs.Evaluation.{Operand, evaluate}
+use Rattle.upon_meaning.specs.Evaluation.{Evaluated, evaluate}
 use Rattle.upon_meaning.specs.Outcome.{Outcome, States, states, written, fault, then_do, named_as, named_end}
 
 -- the template that runs: its text, and its name where it has one
@@ -33,11 +33,11 @@ abbrev pub in_template : {V T : Type 0} → Option (List ℕ) → T → Outcome 
 in_template name templates o = record { text = o.text; end = named_end name o.end; next = states o.next templates }
 
 -- on with a value, or its fault in the template of this name
-abbrev pub on_value : {V T : Type 0} → Option (List ℕ) → Found Operand → States V T → (Val → States V T → Outcome (States V T)) → Outcome (States V T)
+abbrev pub on_value : {V T : Type 0} → Option (List ℕ) → Found Evaluated → States V T → (Val → States V T → Outcome (States V T)) → Outcome (States V T)
 on_value name (found o) s go = go o.value s
 on_value name (at_fault f) s go = fault (named_as name f) s
 
-abbrev pub with_value : {V T : Type 0} → Option (List ℕ) → T → Reply V (Found Operand) → (Val → States V T → Outcome (States V T)) → Outcome (States V T)
+abbrev pub with_value : {V T : Type 0} → Option (List ℕ) → T → Reply V (Found Evaluated) → (Val → States V T → Outcome (States V T)) → Outcome (States V T)
 with_value name templates r go = on_value name r.answer (states r.next templates) go
 
 -- one of two, and then on

@@ -26,9 +26,9 @@ picky : Callable
 picky = formatter (λ v. record { text = codes "("; end = refused (Some (codes "no")) })
 
 -- `{{ 1 | fmt: 2 }}`
-two_operands : rendered (engine [] ((codes "fmt", bracketed) ∷ [])) (template (codes "{{ 1 | fmt: 2 }}") (inline_expr (filtered (base (number 3 4 (pos 1))) (word 7 (codes "fmt")) (arguments (bases (number 12 13 (pos 2) ∷ [])) (at 10 13)) (at 3 13)) (at 0 16) ∷ [])) none_val ≡ breaks [] (fault_at render (codes "formatter expects 1 argument, 2 provided") 7 10)
+two_values : rendered (engine [] ((codes "fmt", bracketed) ∷ [])) (template (codes "{{ 1 | fmt: 2 }}") (inline_expr (filtered (base (number 3 4 (pos 1))) (word 7 (codes "fmt")) (arguments (bases (number 12 13 (pos 2) ∷ [])) (at 10 13)) (at 3 13)) (at 0 16) ∷ [])) none_val ≡ breaks [] (fault_at render (codes "formatter expects 1 argument, 2 provided") 7 10)
 unfolding computing bracketed
-two_operands = refl
+two_values = refl
 
 -- `{{ (1 | fmt) }}`
 in_parentheses : rendered (engine [] ((codes "fmt", bracketed) ∷ [])) (template (codes "{{ (1 | fmt) }}") (shows 0 15 (paren (filtered (base (number 4 5 (pos 1))) (word 8 (codes "fmt")) no_arguments (at 4 11)) (at 3 12)) ∷ [])) none_val ≡ gives (codes "<1>")
