@@ -4,3 +4,4 @@ pub mod Loops
 pub mod Includes
 pub mod Callables
 pub mod Sources
+pub mod Faults

@@ -50,6 +50,11 @@ text_argument : rendered (engine [] ((codes "double", function double) ∷ [])) 
 unfolding computing double
 text_argument = refl
 
+-- `{{ ("x") | double }}`: the argument's place is without the parentheses
+receiver_in_parentheses : rendered (engine [] ((codes "double", function double) ∷ [])) (template (codes "{{ (\"x\") | double }}") (inline_expr (filtered (base (paren (base (quote 4 (codes "x"))) (at 3 8))) (word 11 (codes "double")) no_arguments (at 3 17)) (at 0 20) ∷ [])) none_val ≡ breaks [] (fault_at render (codes "function `double` expects i64 argument, found string") 4 7)
+unfolding computing double
+receiver_in_parentheses = refl
+
 -- `{{ double() }}`, and `{% if double() %}{% endif %}`: at the name where it is emitted, else at the whole call
 no_argument : rendered (engine [] ((codes "double", function double) ∷ [])) (template (codes "{{ double() }}") (shows 0 14 (call (word 3 (codes "double")) no_arguments (at 3 11)) ∷ [])) none_val ≡ breaks [] (fault_at render (codes "function expects 1 arguments, 0 provided") 3 9)
 unfolding computing double

@@ -4,7 +4,7 @@ use Rattle.upon_types.specs.declared.types.Span.{Span}
 use Rattle.upon_types.specs.declared.types.ast.path.AccessOp.TheVariants.{Direct, Optional}
 use Rattle.upon_types.specs.Expression.{base, Base, var, literal, Bases, no_bases, base_then, Items, no_items, item_then}
 use Rattle.upon_types.specs.Fault.{Fault, Kind, made}
-use Rattle.upon_types.specs.Path.{Word, by_key, Step}
+use Rattle.upon_types.specs.Path.{Word, by_index, by_key, Step}
 use Rattle.upon_types.specs.Tree.{Statement, raw, inline_expr, Statements, no_statements, statement_then}
 use Rattle.upon_types.specs.Val.{Val, int_val, text_val, list_val, map_val, Entries, no_entries}
 use Rattle.upon_types.specs.View.{vals_of}
@@ -43,6 +43,13 @@ dot m text = record { op = Direct; selector = by_key (word (m + 1) text); span =
 
 abbrev pub maybe : ℕ → List ℕ → Step
 maybe m text = record { op = Optional; selector = by_key (word (m + 2) text); span = at m (m + 2 + length text) }
+
+-- the member `.n` or `?.n` of one digit
+abbrev pub dot_index : ℕ → ℕ → Step
+dot_index m n = record { op = Direct; selector = by_index n (at (m + 1) (m + 2)); span = at m (m + 2) }
+
+abbrev pub maybe_index : ℕ → ℕ → Step
+maybe_index m n = record { op = Optional; selector = by_index n (at (m + 2) (m + 3)); span = at m (m + 3) }
 
 -- ---- expressions
 abbrev pub number : ℕ → ℕ → ℤ → Base
