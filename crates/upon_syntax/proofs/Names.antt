@@ -13,7 +13,7 @@ underscore_continues : is_xid_continue 95 ≡ true
 underscore_continues = is_xid_continue-ascii 95 (omega arith)
 
 -- what begins a name continues one
-begins_continues : (c : ℕ) → begins_name c ≡ true → is_xid_continue c ≡ true
+pub begins_continues : (c : ℕ) → begins_name c ≡ true → is_xid_continue c ≡ true
 begins_continues c h = let e = underscore_continues in grind (arith, nat_tests, is_xid_start-is_xid_continue c)
 
 module _ (pairs : List Pair) (s : List ℕ) (m c : ℕ) (stands : Occurs s m (encode_utf8 c)) where

@@ -48,3 +48,7 @@ cut_lies_in pairs s ls texts utf8 text h = (cut_lies_from pairs s texts outside 
 pub joined_parts : (pairs : List Pair) (s : List ℕ) (ls : List Lexeme) → HasTexts pairs → Cut pairs s outside 0 ls outside (length s) → concat (parts s ls) ≡ s
 joined_parts pairs s ls texts h =
     sym (parts_from pairs s texts outside outside 0 (length s) ls h ∙ ap (λ x. concat (parts s ls) ++ x) (drop_all (length s) s (omega arith)) ∙ append-nil (concat (parts s ls)))
+
+-- nor of what was read, with the rest behind it
+pub joined_so_far : (pairs : List Pair) (s : List ℕ) (ls : List Lexeme) (mode : Mode) (p : ℕ) → HasTexts pairs → Cut pairs s outside 0 ls mode p → concat (parts s ls) ++ drop p s ≡ s
+joined_so_far pairs s ls mode p texts h = sym (parts_from pairs s texts outside mode 0 p ls h)

@@ -84,3 +84,12 @@ pub mod BeforeTag
 pub mod ReadBefore
 pub mod NoTreeUnexpected
 pub mod NoTreeFault
+pub mod Marks
+pub mod Brackets
+pub mod Inner
+pub mod CutFaults
+pub mod Lexing
+pub mod LexStep
+pub mod OpenTags
+pub mod Lexers
+pub mod Given

@@ -26,10 +26,6 @@ shown_keeps : (s : List ℕ) (a b : Bool) (t : Token) (l : Lexeme) → is_raw t 
 shown_keeps s a b Raw l h = absurd cc
 shown_keeps s a b t l h = refl
 
-kept_by : (b : Bool) (l : Lexeme) (ls : List Lexeme) → b ≡ false → (if b then ls else (l ∷ ls)) ≡ l ∷ ls
-kept_by true l ls h = absurd cc
-kept_by false l ls h = refl
-
 kept_without : (b : Bool) (l : Lexeme) (ls ks : List Lexeme) → b ≡ false → (if b then ks else (l ∷ ls)) ≡ l ∷ ls
 kept_without true l ls ks h = absurd cc
 kept_without false l ls ks h = refl
@@ -39,7 +35,7 @@ first_kept : (s : List ℕ) (a : Bool) (l : Lexeme) (ls : List Lexeme) → is_ra
 first_kept s a l ls raw space comments =
     let others = shown_lexemes s (is_end l.token && l.hyphen) ls in
     let shown : shown_lexemes s a (l ∷ ls) ≡ l ∷ others = ap (λ x. x ∷ others) (shown_keeps s a (begin_trims ls) l.token l raw) in
-    let spaced : without_spaces (l ∷ others) ≡ l ∷ without_spaces others = kept_by (is_space l.token) l (without_spaces others) space in
+    let spaced : without_spaces (l ∷ others) ≡ l ∷ without_spaces others = kept_without (is_space l.token) l (without_spaces others) (without_spaces others) space in
     (without_comments (without_spaces others), ap significant shown ∙ ap without_comments spaced ∙ kept_without (begins_comment l.token) l (without_comments (without_spaces others)) (comment_from l (without_spaces others)) comments)
 
 begin_is_no_space : (sort : Sort) → is_space (begin_token sort) ≡ false
@@ -113,7 +109,7 @@ module _ (pairs : List Pair) (s : List ℕ) (texts : HasTexts pairs) (sort : Sor
       let back = first_kept s g.later x r raw space comments in
       let inner = without_spaces g.inner in
       let begin_space : is_space g.begin.token ≡ false = ap is_space g.of_sort ∙ begin_is_no_space sort in
-      let begin_kept : without_spaces (g.begin ∷ g.inner) ≡ g.begin ∷ inner = kept_by (is_space g.begin.token) g.begin inner begin_space in
+      let begin_kept : without_spaces (g.begin ∷ g.inner) ≡ g.begin ∷ inner = kept_without (is_space g.begin.token) g.begin inner inner begin_space in
       let tokens : significant (shown_lexemes s false (ls ++ (x ∷ r))) ≡ g.front ++ (g.begin ∷ (inner ++ (x ∷ back.0))) =
       g.tokens ∙ ap (λ y. g.front ++ (y ++ significant (shown_lexemes s g.later (x ∷ r)))) begin_kept ∙ ap (λ y. g.front ++ ((g.begin ∷ inner) ++ y)) back.1 in
       let F : List Lexeme → Type 0 = λ y. AreStatements s tree y [] in

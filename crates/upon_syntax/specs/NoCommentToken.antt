@@ -10,7 +10,7 @@ use Rattle.upon_syntax.specs.Grammar.{IsStatement, AreStatements, IsElse, IsElse
 use Rattle.upon_syntax.specs.Tags.{IsTag, an_inline, an_include, an_if, an_else_if, an_else, an_endif, a_for, an_endfor, a_with, an_endwith}
 use Rattle.upon_syntax.specs.Fine.{TokenFine, Fine}
 use Rattle.upon_syntax.specs.FineAt.{last_or, fine_at}
-use Rattle.upon_syntax.specs.Tails.{Tail, longer_or_tail, among_or_behind}
+use Rattle.upon_syntax.specs.Tails.{Tail, longer_or_tail, among_or_behind, rows_rest, only_one}
 use Rattle.upon_syntax.specs.TagShapes.{begins_a_tag, ends_a_tag, TagShape, tag_shape}
 use Rattle.upon_syntax.specs.TagsWithin.{shape_tail}
 use Rattle.upon_syntax.specs.TagsInStatements.{statement_tail, statements_tail}
@@ -29,9 +29,6 @@ is_not_raw t e h = let comment : begins_comment t ≡ true = ap begins_comment e
 
 first_is : {a f : Lexeme} {xs ys : List Lexeme} → (a ∷ xs) ≡ (f ∷ ys) → a ≡ f
 first_is e = cc
-
-others_are : {a f : Lexeme} {xs ys : List Lexeme} → (a ∷ xs) ≡ (f ∷ ys) → xs ≡ ys
-others_are e = cc
 
 module _ (s : List ℕ) (b : Lexeme) (more : List Lexeme) (comment : b.token ≡ BeginComment) where
   -- it stands not before the rest
@@ -62,7 +59,7 @@ module _ (s : List ℕ) (b : Lexeme) (more : List Lexeme) (comment : b.token ≡
     where
       first_or_inner : (fs : List Lexeme) → ts ≡ fs ++ (b ∷ more) → ⊥
       first_or_inner [] e = let rows : (g.begin ∷ g.inside) ≡ (b ∷ more) = sym g.starts ∙ e in begins_no_tag b.token comment (sym (ap (λ (x : Lexeme). begins_a_tag x.token) (first_is rows)) ∙ g.opens)
-      first_or_inner (f ∷ fs) e = let rows : (g.begin ∷ g.inside) ≡ (f ∷ (fs ++ (b ∷ more))) = sym g.starts ∙ e in not_inside ts rest g fs (others_are rows) l
+      first_or_inner (f ∷ fs) e = let rows : (g.begin ∷ g.inside) ≡ (f ∷ (fs ++ (b ∷ more))) = sym g.starts ∙ e in not_inside ts rest g fs (rows_rest rows) l
 
   lacks_tag : (ts rest : List Lexeme) → IsTag s ts rest → Lacks ts rest
   lacks_tag ts rest tag = lacks_shape ts rest (tag_shape s ts rest tag)
@@ -77,13 +74,9 @@ module _ (s : List ℕ) (b : Lexeme) (more : List Lexeme) (comment : b.token ≡
       let whole : length ts ≡ length (t.0 ++ (b ∷ more)) = ap length t.1 in
       omega (arith, l, long, whole, length-append t.0 (b ∷ more))
 
-  only_one : (front rest : List Lexeme) (l : Lexeme) → (l ∷ rest) ≡ (front ++ (b ∷ more)) → length rest < length (b ∷ more) → l ≡ b
-  only_one [] rest l e h = cc
-  only_one (f ∷ front) rest l e h = let rows : rest ≡ (front ++ (b ∷ more)) = cc in let long : length rest ≡ length (front ++ (b ∷ more)) = ap length rows in absurd (omega (arith, h, long, length-append front (b ∷ more)))
-
   lacks_raw : (ts rest : List Lexeme) (l : Lexeme) → ts ≡ l ∷ rest → l.token ≡ Raw → Lacks ts rest
   lacks_raw ts rest l e is_raw t h =
-      let same : l ≡ b = only_one t.0 rest l (sym e ∙ t.1) h in
+      let same : l ≡ b = only_one b more t.0 rest l (sym e ∙ t.1) h in
       is_not_raw b.token comment (sym (ap (λ (x : Lexeme). x.token) same) ∙ is_raw)
 
   mutual

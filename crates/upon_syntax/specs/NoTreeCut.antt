@@ -47,20 +47,20 @@ module _ (pairs : List Pair) (s : List ℕ) (texts : HasTexts pairs) where
   stuck : (mode : Mode) (p : ℕ) (ls : List Lexeme) (tree : Statements) → Cut pairs s outside 0 ls mode p → NoStep pairs s mode p → p < length s → HasTree pairs s tree → ⊥
   stuck mode p ls tree reads none l h = no_cut pairs s mode outside p (length s) ls h.lexemes texts reads none l h.cut
 
-  one_sort : (a b : Sort) (h k : Bool) (p m n : ℕ) → Ends pairs s a h p m → Ends pairs s b k p n → a ≡ b
+  pub one_sort : (a b : Sort) (h k : Bool) (p m n : ℕ) → Ends pairs s a h p m → Ends pairs s b k p n → a ≡ b
   one_sort a b h k p m n x y =
       let e = one_stands pairs s x.kind y.kind p m n x.stands y.stands in
       let kinds : x.kind ≡ y.kind = e.0 in
       let sorts : Some a ≡ Some b = sym x.of_sort ∙ ap ended kinds ∙ y.of_sort in
       cc
 
-  begin_is_no_end : (a : Sort) (h : Bool) (b : Sort) (k : Bool) (p m n : ℕ) → Ends pairs s a h p m → Begins pairs s b k p n → ⊥
+  pub begin_is_no_end : (a : Sort) (h : Bool) (b : Sort) (k : Bool) (p m n : ℕ) → Ends pairs s a h p m → Begins pairs s b k p n → ⊥
   begin_is_no_end a h b k p m n x y =
       let e = one_stands pairs s x.kind y.kind p m n x.stands y.stands in
       both_sorts y.kind b a y.of_sort (sym (ap ended e.0) ∙ x.of_sort)
 
   -- an end that the mode does not await
-  no_step_at_end : (mode : Mode) (sort : Sort) (hyphen : Bool) (p to : ℕ) → Ends pairs s sort hyphen p to → (awaited mode ≡ Some sort → ⊥) → NoStep pairs s mode p
+  pub no_step_at_end : (mode : Mode) (sort : Sort) (hyphen : Bool) (p to : ℕ) → Ends pairs s sort hyphen p to → (awaited mode ≡ Some sort → ⊥) → NoStep pairs s mode p
   no_step_at_end outside sort hyphen p to e h t k n (inl r) = raw_is_no_delimiter pairs s e.kind p n to r.2 e.stands
   no_step_at_end outside sort hyphen p to e h t k n (inr b) = begin_is_no_end sort hyphen b.0 k p to n e b.2
   no_step_at_end (in_tag other path) sort hyphen p to e h t k n (inl x) = h (ap Some (one_sort other sort k hyphen p n to x.1 e))
@@ -69,7 +69,7 @@ module _ (pairs : List Pair) (s : List ℕ) (texts : HasTexts pairs) where
   no_step_at_end in_comment sort hyphen p to e h t k n (inr x) = h (ap Some (one_sort comment sort k hyphen p n to x.1 e))
 
   -- a begin in a tag or a comment
-  no_step_at_begin : (mode : Mode) (sort begun : Sort) (hyphen : Bool) (p to : ℕ) → awaited mode ≡ Some sort → Begins pairs s begun hyphen p to → NoStep pairs s mode p
+  pub no_step_at_begin : (mode : Mode) (sort begun : Sort) (hyphen : Bool) (p to : ℕ) → awaited mode ≡ Some sort → Begins pairs s begun hyphen p to → NoStep pairs s mode p
   no_step_at_begin outside sort begun hyphen p to a b t k n x = absurd cc
   no_step_at_begin (in_tag other path) sort begun hyphen p to a b t k n (inl x) = begin_is_no_end other k begun hyphen p n to x.1 b
   no_step_at_begin (in_tag other path) sort begun hyphen p to a b t k n (inr x) = not_bare pairs s b.kind p to b.stands x.1.bare
@@ -126,7 +126,7 @@ module _ (pairs : List Pair) (s : List ℕ) (texts : HasTexts pairs) where
       let extent : Extent s QuestionDot p n = subst F (begun_as t QuestionDot begins question_is_no_name) x.extent in
       question.1 extent.0
 
-  no_step_at_character : (sort : Sort) (path : Bool) (c p to : ℕ) → NoneAt pairs s p → Occurs s p (encode_utf8 c) → BeginsNoToken s path c p to → NoStep pairs s (in_tag sort path) p
+  pub no_step_at_character : (sort : Sort) (path : Bool) (c p to : ℕ) → NoneAt pairs s p → Occurs s p (encode_utf8 c) → BeginsNoToken s path c p to → NoStep pairs s (in_tag sort path) p
   no_step_at_character sort path c p to bare o none t k n (inl x) = not_bare pairs s x.1.kind p n x.1.stands bare
   no_step_at_character sort path c p to bare o none t k n (inr x) = no_token path c p to none t n o x.1
 
@@ -144,7 +144,7 @@ module _ (pairs : List Pair) (s : List ℕ) (texts : HasTexts pairs) where
       let F : Token → Type 0 = λ y. Extent s y p n in
       none n (subst F (begun_as t String begins string_is_no_name) x.extent)
 
-  no_step_at_quote : (sort : Sort) (path : Bool) (p : ℕ) → NoneAt pairs s p → Occurs s p (34 ∷ []) → ((n : ℕ) → IsQuoted s p n → ⊥) → NoStep pairs s (in_tag sort path) p
+  pub no_step_at_quote : (sort : Sort) (path : Bool) (p : ℕ) → NoneAt pairs s p → Occurs s p (34 ∷ []) → ((n : ℕ) → IsQuoted s p n → ⊥) → NoStep pairs s (in_tag sort path) p
   no_step_at_quote sort path p bare o none t k n (inl x) = not_bare pairs s x.1.kind p n x.1.stands bare
   no_step_at_quote sort path p bare o none t k n (inr x) = no_string path p o none t n x.1
 

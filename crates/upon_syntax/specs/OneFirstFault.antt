@@ -52,7 +52,7 @@ same_row : (a b : Row) → row_rank a ≡ row_rank b → a ≡ b
 same_row a b e = sym (by_rank-row_rank a) ∙ ap by_rank e ∙ by_rank-row_rank b
 
 -- two that do not stand one after the other stand at one point, in one row
-same_stand : (row other : Row) (p q : ℕ) → NotAfter row p other q → NotAfter other q row p → (row ≡ other) × (p ≡ q)
+pub same_stand : (row other : Row) (p q : ℕ) → NotAfter row p other q → NotAfter other q row p → (row ≡ other) × (p ≡ q)
 same_stand row other p q (inl l) (inl k) = absurd (omega arith)
 same_stand row other p q (inl l) (inr k) = absurd (omega (arith, k.0))
 same_stand row other p q (inr l) (inl k) = absurd (omega (arith, l.0))

@@ -8,22 +8,22 @@ use Rattle.upon_syntax.specs.Bounds.{drop-Occurs, occurs_within}
 is_byte : (c d : ℕ) (bs ds : List ℕ) → c < 128 → c ∷ bs ≡ encode_utf8 d ++ ds → c ≡ d
 is_byte c d bs ds low e = (encode_same c d bs ds (ap (λ x. x ++ bs) (encode_ascii c low) ∙ e)).0
 
-quote_is_no_piece : (c : ℕ) (bs cs : List ℕ) → is_piece (plain c) ≡ true → 34 ∷ bs ≡ encode_utf8 c ++ cs → ⊥
+pub quote_is_no_piece : (c : ℕ) (bs cs : List ℕ) → is_piece (plain c) ≡ true → 34 ∷ bs ≡ encode_utf8 c ++ cs → ⊥
 quote_is_no_piece c bs cs p e =
     let F : ℕ → Type 0 = λ x. is_piece (plain x) ≡ true in
     let h : is_piece (plain 34) ≡ true = subst F (sym (is_byte 34 c bs cs (omega arith) e)) p in
     cc
 
-backslash_is_no_piece : (c : ℕ) (bs cs : List ℕ) → is_piece (plain c) ≡ true → 92 ∷ bs ≡ encode_utf8 c ++ cs → ⊥
+pub backslash_is_no_piece : (c : ℕ) (bs cs : List ℕ) → is_piece (plain c) ≡ true → 92 ∷ bs ≡ encode_utf8 c ++ cs → ⊥
 backslash_is_no_piece c bs cs p e =
     let F : ℕ → Type 0 = λ x. is_piece (plain x) ≡ true in
     let h : is_piece (plain 92) ≡ true = subst F (sym (is_byte 92 c bs cs (omega arith) e)) p in
     cc
 
-same_rest : (b c : ℕ) (bs cs : List ℕ) → b ∷ bs ≡ c ∷ cs → bs ≡ cs
+pub same_rest : (b c : ℕ) (bs cs : List ℕ) → b ∷ bs ≡ c ∷ cs → bs ≡ cs
 same_rest b c bs cs e = cc
 
-quote_is_no_backslash : (bs cs : List ℕ) → 34 ∷ bs ≡ 92 ∷ cs → ⊥
+pub quote_is_no_backslash : (bs cs : List ℕ) → 34 ∷ bs ≡ 92 ∷ cs → ⊥
 quote_is_no_backslash bs cs e = cc
 
 same_pieces : (ps qs : List Piece) (rest left : List ℕ) → EachIsPiece ps → EachIsPiece qs → pieces_text ps ++ (34 ∷ rest) ≡ pieces_text qs ++ (34 ∷ left) → ps ≡ qs
@@ -48,7 +48,7 @@ same_pieces (escaped c ∷ ps) (escaped d ∷ qs) rest left p q e =
 
 module _ (s : List ℕ) where
   -- behind the opening quote stand the pieces, the closing quote and the rest
-  reads : (m n : ℕ) (a : IsQuoted s m n) → drop m s ≡ 34 ∷ (pieces_text a.pieces ++ (34 ∷ drop (m + length (quoted a.pieces)) s))
+  pub reads : (m n : ℕ) (a : IsQuoted s m n) → drop m s ≡ 34 ∷ (pieces_text a.pieces ++ (34 ∷ drop (m + length (quoted a.pieces)) s))
   reads m n a = drop-Occurs s m (quoted a.pieces) a.stand ∙ ap (λ x. 34 ∷ x) (append_assoc (pieces_text a.pieces) (34 ∷ []) (drop (m + length (quoted a.pieces)) s))
 
   pub one_quoted : (m n k : ℕ) (a : IsQuoted s m n) (b : IsQuoted s m k) → (a.pieces ≡ b.pieces) × (n ≡ k)

@@ -9,7 +9,7 @@ use Rattle.upon_syntax.specs.Tags.{IsTag, Symbol, symbol_of, symbols_of, BeginsT
 use Rattle.upon_syntax.specs.Fine.{TokenFine, Fine, FineFrom}
 use Rattle.upon_syntax.specs.LaterFaults.{minus_before}
 use Rattle.upon_syntax.specs.FineAt.{last_or, fine_at}
-use Rattle.upon_syntax.specs.Tails.{Meets, sooner, later, together, meets}
+use Rattle.upon_syntax.specs.Tails.{Meets, sooner, later, together, meets, rows_rest}
 use Rattle.upon_syntax.specs.TagShapes.{begins_a_tag, ends_a_tag, TagShape, tag_shape}
 use Rattle.upon_syntax.specs.TagsInStatements.{found_statements}
 
@@ -31,9 +31,6 @@ module _ (s : List ℕ) (tree : Statements) (front : List Lexeme) (begin : Lexem
   the_shape : TagShape s (begin ∷ (inner ++ (x ∷ back))) the_tag.0
   the_shape = tag_shape s (begin ∷ (inner ++ (x ∷ back))) the_tag.0 the_tag.1
 
-  rows_same : {a f : Lexeme} {xs ys : List Lexeme} → (a ∷ xs) ≡ (f ∷ ys) → xs ≡ ys
-  rows_same e = cc
-
   no_end_in_inner : (mid : List Lexeme) (e : Lexeme) (ms : List Lexeme) → inner ≡ mid ++ (e ∷ ms) → ends_a_tag e.token ≡ true → ⊥
   no_end_in_inner mid e ms same h = let none : ends_a_tag e.token ≡ false = no_end_at mid e ms (subst NoEnds same no_ends) in both h none
     where
@@ -46,7 +43,7 @@ module _ (s : List ℕ) (tree : Statements) (front : List Lexeme) (begin : Lexem
       × (((ends_a_tag x.token ≡ true) × ((before' : Option Lexeme) × Fine s [] None inner [] before')) ⊎ TokenFine s (brackets_from [] inner) (last_or None inner) x.token x)
 
   inside_is : inner ++ (x ∷ back) ≡ the_shape.inside
-  inside_is = rows_same the_shape.starts
+  inside_is = rows_rest the_shape.starts
 
   -- the next token is the tag's end, behind fine ones, or is fine itself
   next_by : (mid : List Lexeme) → ((before : Option Lexeme) → minus_before before ≡ false → FineFrom s mid [] [] before) → Meets mid the_shape.end the_tag.0 inner x back → Holds

@@ -1,7 +1,7 @@
 -- In a UTF-8 text a token that begins between two characters also ends between two.
 use Rattle.std.proofs.Common.{◌≡◌, ℕ, ◌+◌, ◌<◌, ◌≤◌, inl, inr, Bool, true, false, List, [], ◌∷◌, ◌++◌, length, drop, Some, None, codes, rules, encode_utf8, encode_utf8_all, if◌then◌else◌, arith, refl, sym, ap, ◌∙◌, subst, append_assoc}
 use Rattle.std.specs.Str.{IsUtf8, IsCharBoundary}
-use Rattle.std.specs.Char.{is_ascii_digit}
+use Rattle.std.specs.Char.{is_ascii_digit, len_utf8}
 use Rattle.std.proofs.lemmas.Bool.{cases_lt}
 use Rattle.std.proofs.lemmas.Bool.Decides.{nat_tests}
 use Rattle.std.proofs.lemmas.Str.{IsUtf8-drop, IsUtf8-past_char, IsCharBoundary-from_drop, IsCharBoundary-past_char, IsCharBoundary-end, encode_ascii, len_utf8_ascii}
@@ -74,10 +74,11 @@ module _ (s : List ℕ) (text : IsUtf8 s) (m : ℕ) (start : IsCharBoundary s m)
       let closing = past_pieces a.pieces (34 ∷ rest) behind inside refl in
       IsCharBoundary-from_drop s n (quoted_ends s m n a).1 (past_byte 34 rest (34 ∷ rest) (omega arith) closing refl)
 
-  low_between : (c n : ℕ) → c < 128 → Occurs s m (encode_utf8 c) → n ≡ m + 1 → IsCharBoundary s n
-  low_between c n low o e =
-      let past = IsCharBoundary-past_char s (drop (m + length (encode_utf8 c)) s) m c start.0 (IsUtf8-drop s m text start) (drop-Occurs s m (encode_utf8 c) o) in
-      subst (IsCharBoundary s) (ap (λ k. m + k) (len_utf8_ascii c low) ∙ sym e) past
+  pub char_between : (c : ℕ) → Occurs s m (encode_utf8 c) → IsCharBoundary s (m + len_utf8 c)
+  char_between c o = IsCharBoundary-past_char s (drop (m + length (encode_utf8 c)) s) m c start.0 (IsUtf8-drop s m text start) (drop-Occurs s m (encode_utf8 c) o)
+
+  pub low_between : (c n : ℕ) → c < 128 → Occurs s m (encode_utf8 c) → n ≡ m + 1 → IsCharBoundary s n
+  low_between c n low o e = subst (IsCharBoundary s) (ap (λ k. m + k) (len_utf8_ascii c low) ∙ sym e) (char_between c o)
 
   inner_between : (in_path : Bool) (t : Token) (c n : ℕ) → Occurs s m (encode_utf8 c) → kind_by in_path c ≡ Some (begins_as t) → Extent s t m n → IsCharBoundary s n
   unfolding is_ident

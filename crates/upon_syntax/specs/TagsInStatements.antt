@@ -1,11 +1,11 @@
 -- Statements end with what is left of them, and where a begin stands among their tokens, a whole tag stands there.
-use Rattle.std.proofs.Common.{◌≡◌, inl, inr, ℕ, ◌<◌, ◌≤◌, List, [], ◌∷◌, ◌++◌, length, true, false, sym, ap, ◌∙◌, arith, length-append}
+use Rattle.std.proofs.Common.{◌≡◌, inl, inr, ℕ, ◌<◌, ◌≤◌, List, ◌∷◌, ◌++◌, length, true, false, sym, ap, ◌∙◌, arith, length-append}
 use Rattle.upon_types.specs.declared.types.token.Token.TheVariants.{Raw}
 use Rattle.upon_types.specs.Tree.{Statement, raw, inline_expr, include, if_else, for_loop, with, Statements, no_statements, statement_then, Else, no_else, otherwise}
 use Rattle.upon_syntax.specs.Cut.{Lexeme}
 use Rattle.upon_syntax.specs.Grammar.{IsStatement, AreStatements, IsElse, IsElseIf, IsIfAfterElse}
 use Rattle.upon_syntax.specs.Tags.{IsTag, an_inline, an_include, an_if, an_else_if, an_else, an_endif, a_for, an_endfor, a_with, an_endwith}
-use Rattle.upon_syntax.specs.Tails.{Tail, tail_same, tail_one, tail_then, longer_or_tail}
+use Rattle.upon_syntax.specs.Tails.{Tail, tail_same, tail_one, tail_then, longer_or_tail, only_one}
 use Rattle.upon_syntax.specs.TagShapes.{begins_a_tag, tag_shape}
 use Rattle.upon_syntax.specs.TagsWithin.{shape_tail, Found, in_tag_found}
 
@@ -71,12 +71,8 @@ module _ (s : List ℕ) (b : Lexeme) (more : List Lexeme) (begins : begins_a_tag
   raw_begins_nothing : (l : Lexeme) → l.token ≡ Raw → begins_a_tag l.token ≡ true → ⊥
   raw_begins_nothing l e h = let no_begin : begins_a_tag l.token ≡ false = ap begins_a_tag e in cc
 
-  one_by_length : (front rest : List Lexeme) (l : Lexeme) → (l ∷ rest) ≡ (front ++ (b ∷ more)) → length rest < length (b ∷ more) → l ≡ b
-  one_by_length [] rest l e h = cc
-  one_by_length (f ∷ front) rest l e h = let rows : rest ≡ (front ++ (b ∷ more)) = cc in let long : length rest ≡ length (front ++ (b ∷ more)) = ap length rows in absurd (omega (arith, h, long, length-append front (b ∷ more)))
-
   found_raw : (ts rest : List Lexeme) (l : Lexeme) → ts ≡ l ∷ rest → l.token ≡ Raw → Finds ts rest
-  found_raw ts rest l e is_raw t h = let same : l ≡ b = one_by_length t.0 rest l (sym e ∙ t.1) h in absurd (raw_begins_nothing l is_raw (ap (λ (x : Lexeme). begins_a_tag x.token) same ∙ begins))
+  found_raw ts rest l e is_raw t h = let same : l ≡ b = only_one b more t.0 rest l (sym e ∙ t.1) h in absurd (raw_begins_nothing l is_raw (ap (λ (x : Lexeme). begins_a_tag x.token) same ∙ begins))
 
   mutual
     found_statement : (t : Statement) (ts rest : List Lexeme) → IsStatement s t ts rest → Finds ts rest

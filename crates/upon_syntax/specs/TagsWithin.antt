@@ -7,7 +7,7 @@ use Rattle.upon_syntax.specs.Reading.{brackets_from}
 use Rattle.upon_syntax.specs.Tags.{IsTag}
 use Rattle.upon_syntax.specs.Fine.{TokenFine, Fine}
 use Rattle.upon_syntax.specs.FineAt.{last_or, fine_at}
-use Rattle.upon_syntax.specs.Tails.{Tail, tail_one, tail_then, among_or_behind}
+use Rattle.upon_syntax.specs.Tails.{Tail, tail_one, tail_then, among_or_behind, rows_rest}
 use Rattle.upon_syntax.specs.TagShapes.{begins_a_tag, ends_a_tag, TagShape, tag_shape}
 
 module _ (s : List ℕ) where
@@ -39,16 +39,13 @@ module _ (s : List ℕ) where
         | inr same ↦ begin_is_no_end b.token begins (sym (ap (λ (x : Lexeme). ends_a_tag x.token) same) ∙ g.closes)
       ]
 
-  rows_same : {a f : Lexeme} {xs ys : List Lexeme} → (a ∷ xs) ≡ (f ∷ ys) → xs ≡ ys
-  rows_same e = cc
-
   -- a begin before the tag's end is the tag's own
   only_first : (ts rest : List Lexeme) → TagShape s ts rest → (b : Lexeme) (more : List Lexeme) → Tail ts (b ∷ more) → length rest < length (b ∷ more) → begins_a_tag b.token ≡ true → ts ≡ b ∷ more
   only_first ts rest g b more (fs, e) l begins = first_or_inner fs e
     where
       first_or_inner : (fs : List Lexeme) → ts ≡ fs ++ (b ∷ more) → ts ≡ b ∷ more
       first_or_inner [] e = e
-      first_or_inner (f ∷ fs) e = let rows : (g.begin ∷ g.inside) ≡ (f ∷ (fs ++ (b ∷ more))) = sym g.starts ∙ e in absurd (no_inner_begin ts rest g fs b more (rows_same rows) l begins)
+      first_or_inner (f ∷ fs) e = let rows : (g.begin ∷ g.inside) ≡ (f ∷ (fs ++ (b ∷ more))) = sym g.starts ∙ e in absurd (no_inner_begin ts rest g fs b more (rows_rest rows) l begins)
 
   abbrev pub Found : List Lexeme → List Lexeme → Type 0
   Found us rest = (after : List Lexeme) × IsTag s us after × (length rest ≤ length after)

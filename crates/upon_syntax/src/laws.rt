@@ -1,16 +1,20 @@
 // What the written language keeps: one cut, one tree, one value a literal, and one first fault where there is no tree.
-ghost use Rattle.std.specs.Prelude.{◌≡◌, ℕ, ℤ, List, length, Bool};
+ghost use Rattle.std.specs.Prelude.{◌≡◌, ◌++◌, ℕ, ℤ, List, length, drop, Bool, false};
 ghost use Rattle.std.specs.List.{concat};
 ghost use Rattle.std.specs.Str.{IsUtf8};
 ghost use Rattle.upon_types.specs.declared.types.Span.{Span};
+ghost use Rattle.upon_types.specs.declared.types.token.Token.{Token};
 ghost use Rattle.upon_types.specs.Tree.{Statements};
 ghost use Rattle.upon_syntax.specs.Search.{Pair, HasTexts};
 ghost use Rattle.upon_syntax.specs.PlacesLieIn.{HasUtf8};
-ghost use Rattle.upon_syntax.specs.Cut.{Lexeme, outside, Cut};
+ghost use Rattle.upon_syntax.specs.Cut.{Lexeme, Mode, outside, Cut};
+ghost use Rattle.upon_syntax.specs.Reading.{ReadsTo};
 ghost use Rattle.upon_syntax.specs.CutLiesIn.{LexemesLieIn, parts};
 ghost use Rattle.upon_syntax.specs.Literal.{IsInteger, IsIndex, IsText};
 ghost use Rattle.upon_syntax.specs.Grammar.{HasTree};
 ghost use Rattle.upon_syntax.specs.FirstFault.{IsFirstFault};
+ghost use Rattle.upon_syntax.specs.CutFaults.{IsFirstCutFault};
+ghost use Rattle.upon_syntax.specs.Given.{EachGiven, shown_tokens};
 
 pub mod first;
 
@@ -67,4 +71,24 @@ pub fn one_first_fault()
 pub fn no_tree_with_fault()
     ensures { (pairs : List Pair) (s : List ℕ) (place : Span) (reason : List ℕ) (tree : Statements)
         → HasTexts pairs → IsFirstFault pairs s place reason → HasTree pairs s tree → ⊥ }
+{}
+
+/// The tokens that a lexer gives for a whole text, one by one, are its tokens with what trimming leaves of the raw parts.
+pub fn given_is_shown()
+    ensures { (pairs : List Pair) (s : List ℕ) (ls : List Lexeme) (given : List (Token × Span))
+        → HasTexts pairs → Cut pairs s outside 0 ls outside (length s)
+        → EachGiven pairs s outside false ls given → given ≡ shown_tokens s false ls }
+{}
+
+/// A text has one first fault that ends its cutting at most: at one point, with one place and one reason.
+pub fn one_first_cut_fault()
+    ensures { (pairs : List Pair) (s : List ℕ) (p q : ℕ) (place other : Span) (reason words : List ℕ)
+        → HasTexts pairs → IsFirstCutFault pairs s p place reason → IsFirstCutFault pairs s q other words
+        → (p ≡ q) × (place ≡ other) × (reason ≡ words) }
+{}
+
+/// The parts of what a text reads to, and then the rest of the text, are the text: nothing of it is lost on the way.
+pub fn read_joins()
+    ensures { (pairs : List Pair) (s : List ℕ) (ls : List Lexeme) (mode : Mode) (p : ℕ)
+        → HasTexts pairs → ReadsTo pairs s ls mode p → concat (parts s ls) ++ drop p s ≡ s }
 {}

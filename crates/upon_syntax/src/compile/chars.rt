@@ -14,6 +14,10 @@ pub enum CharClass {
     Space,
     /// What continues a name.
     Name,
+    /// What continues a number.
+    Number,
+    /// A digit.
+    Digit,
 }
 
 impl CharClass {
@@ -24,6 +28,8 @@ impl CharClass {
         match self {
             CharClass::Space => matches!(c, '\t' | '\n' | '\r' | ' '),
             CharClass::Name => unicode_ident::is_xid_continue(c),
+            CharClass::Number => c.is_ascii_alphanumeric() || matches!(c, '_' | '-' | '+' | '.'),
+            CharClass::Digit => c.is_ascii_digit(),
         }
     }
 }
@@ -56,7 +62,7 @@ pub fn is_keyword(word: &str) -> bool
     )
 }
 
-/// The character at a place of a text; none stands at its end.
+/// The character at a place of a text, in bytes; none stands at its end.
 pub fn char_at(source: &str, at: usize) -> Option<char>
     requires { IsCharBoundary source.now at }
     ensures stands { MatchOption result (at ≡ length source.now) (λ c. Occurs source.now at (encode_utf8 c)) }
@@ -65,7 +71,7 @@ pub fn char_at(source: &str, at: usize) -> Option<char>
     source[at..].chars().next()
 }
 
-/// Where the run of a class's characters at a place ends; the place itself, where none stands.
+/// Where the run of a class's characters at a place ends, in bytes; the place itself, where none stands.
 pub fn run_end(class: CharClass, source: &str, at: usize) -> usize
     requires { IsCharBoundary source.now at }
     ensures run { (result ≡ at) ⊎ IsRun (class_test class) source.now at result }

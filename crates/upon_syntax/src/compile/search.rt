@@ -1,8 +1,8 @@
 // Where delimiters stand in a text, by comparison with each delimiter of a list.
-ghost use Rattle.std.specs.Prelude.{◌≡◌, ℕ, ◌+◌, ◌<◌, ◌≤◌, ◌↔◌, length, map, IsTrue, MatchOption, IfSome};
+ghost use Rattle.std.specs.Prelude.{◌≡◌, ◌+◌, ◌<◌, ◌≤◌, ◌↔◌, length, map, IsTrue, MatchOption, IfSome};
 ghost use Rattle.std.specs.Str.{IsCharBoundary};
 ghost use Rattle.upon_types.specs.Place.{LiesIn};
-ghost use Rattle.upon_syntax.specs.Search.{Occurs, HasTexts, NoneAt, NoneFrom, IsBest, Stands, IsFirst};
+ghost use Rattle.upon_syntax.specs.Search.{Occurs, HasTexts, NoneAt, NoneFrom, Stands, IsFirst};
 ghost use Rattle.upon_syntax.specs.Entry.{pair_of};
 
 use upon_types::types::{Delimiter, Span};
