@@ -1,7 +1,13 @@
 pub mod Short
 pub mod Texts
+pub mod Conditions
+pub mod Trimming
+pub mod Delimiters
 pub mod Loops
 pub mod Includes
-pub mod Callables
+pub mod Depth
+pub mod Isolation
+pub mod Functions
+pub mod Formatters
 pub mod Sources
 pub mod Faults

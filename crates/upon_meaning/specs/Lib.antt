@@ -8,5 +8,9 @@ pub mod Evaluation
 pub mod Emission
 pub mod Meaning
 pub mod Alone
+pub mod GreaterDepth
+pub mod IncludeFinds
+pub mod ValueSource
 pub mod Includes
 pub mod Names
+pub mod Shadowing

@@ -5,11 +5,6 @@ pub data Found (A : Type 0) : Type 0 where
   found : A → Found A
   at_fault : Fault → Found A
 
--- on with what was found, if no fault was met
-abbrev pub and_then : {A B : Type 0} → Found A → (A → Found B) → Found B
-and_then (found a) go = go a
-and_then (at_fault fault) go = at_fault fault
-
 -- an answer, and the next state of the one that was asked
 pub record Reply (Q : Type 0) (A : Type 0) : Type 0 where
   pub answer : A

@@ -33,7 +33,7 @@ unfolding from_list
 from_list-entry_list no_entries = refl
 from_list-entry_list (entry_then k v es) = ap (entry_then k v) (from_list-entry_list es)
 
-entry_at-find : (key : List ℕ) (es : Entries) → entry_at key es ≡ fin.find (slice_cmp nat_cmp) key (entry_list es)
+pub entry_at-find : (key : List ℕ) (es : Entries) → entry_at key es ≡ fin.find (slice_cmp nat_cmp) key (entry_list es)
 entry_at-find key no_entries = refl
 entry_at-find key (entry_then k v es) = rw (is_eq-slice_cmp, entry_at-find key es)
 

@@ -4,11 +4,36 @@ use Rattle.upon_types.specs.Expression.{base, var, list, mapping, paren}
 use Rattle.upon_types.specs.Fault.{render}
 use Rattle.upon_types.specs.Path.{item, key_value}
 use Rattle.upon_types.specs.Tree.{for_loop}
-use Rattle.upon_types.specs.Val.{int_val}
+use Rattle.upon_types.specs.Val.{int_val, text_val}
 use Rattle.upon_meaning.proofs.Computing.{computing}
 use Rattle.upon_meaning.proofs.Examples.Short.{at, word, first, name, dot, maybe, dot_index, maybe_index, number, bases, items, statements, shows, list_of, map_of, template, engine, rendered, gives, breaks, fault_at}
 
--- each on {xs: [7], m: {k: 7}}
+-- `{{ a.5 }}` on {a: [1]}
+length_told : rendered (engine [] []) (template (codes "{{ a.5 }}") (shows 0 9 (var (first 3 (codes "a")) (dot_index 4 5 ∷ [])) ∷ [])) (map_of ((codes "a", list_of (int_val (pos 1) ∷ [])) ∷ [])) ≡ breaks [] (fault_at render (codes "index out of bounds, the length is 1") 4 6)
+unfolding computing
+length_told = refl
+
+-- `{{ n.a }}` on {n: 1}: only a map has keys, and only a list has indexes
+key_of_integer : rendered (engine [] []) (template (codes "{{ n.a }}") (shows 0 9 (var (first 3 (codes "n")) (dot 4 (codes "a") ∷ [])) ∷ [])) (map_of ((codes "n", int_val (pos 1)) ∷ [])) ≡ breaks [] (fault_at render (codes "integer does not support key-based access") 4 6)
+unfolding computing
+key_of_integer = refl
+
+-- `{{ s.0 }}` on {s: "a"}
+index_of_string : rendered (engine [] []) (template (codes "{{ s.0 }}") (shows 0 9 (var (first 3 (codes "s")) (dot_index 4 0 ∷ [])) ∷ [])) (map_of ((codes "s", text_val (codes "a")) ∷ [])) ≡ breaks [] (fault_at render (codes "string does not support integer-based access") 4 6)
+unfolding computing
+index_of_string = refl
+
+-- `{{ .a }}` on {}: the place has the operator
+operator_ahead : rendered (engine [] []) (template (codes "{{ .a }}") (shows 0 8 (var (dot 3 (codes "a")) []) ∷ [])) (map_of []) ≡ breaks [] (fault_at render (codes "not found in this scope") 3 5)
+unfolding computing
+operator_ahead = refl
+
+-- `{{ ?.a }}` on []: whatever is wrong with the first member, nothing binds it
+root_without_keys : rendered (engine [] []) (template (codes "{{ ?.a }}") (shows 0 9 (var (maybe 3 (codes "a")) []) ∷ [])) (list_of []) ≡ breaks [] (fault_at render (codes "not found in this scope") 3 6)
+unfolding computing
+root_without_keys = refl
+
+-- all that follow, on {xs: [7], m: {k: 7}}
 
 -- `{{ xs.2 }}`, `{{ xs?.2 }}`: past the end
 past_the_end : rendered (engine [] []) (template (codes "{{ xs.2 }}") (shows 0 10 (var (first 3 (codes "xs")) (dot_index 5 2 ∷ [])) ∷ [])) (map_of ((codes "xs", list_of (int_val (pos 7) ∷ [])) ∷ (codes "m", map_of ((codes "k", int_val (pos 7)) ∷ [])) ∷ [])) ≡ breaks [] (fault_at render (codes "index out of bounds, the length is 1") 5 7)

@@ -1,13 +1,16 @@
 -- Includes, and what they give.
-use Rattle.std.proofs.Common.{◌≡◌, pos, false, [], ◌∷◌, Some, None, refl, codes}
-use Rattle.upon_types.specs.Expression.{base}
+use Rattle.std.proofs.Common.{◌≡◌, pos, [], ◌∷◌, Some, None, false, refl, codes}
+use Rattle.upon_types.specs.Expression.{base, var}
 use Rattle.upon_types.specs.Fault.{render, named}
-use Rattle.upon_types.specs.Tree.{include, with, if_else, no_else}
-use Rattle.upon_types.specs.Val.{int_val, none_val}
-use Rattle.upon_meaning.specs.CallFaults.{depth_reached}
-use Rattle.upon_meaning.specs.Engine.{Template}
+use Rattle.upon_types.specs.Tree.{include, if_else, with, no_else}
+use Rattle.upon_types.specs.Val.{none_val, int_val, text_val}
 use Rattle.upon_meaning.proofs.Computing.{computing}
-use Rattle.upon_meaning.proofs.Examples.Short.{word, quoted, name, number, statements, shows, text, map_of, template, engine, rendered, rendered_to, gives, breaks, fault_at}
+use Rattle.upon_meaning.proofs.Examples.Short.{word, quoted, first, name, dot, number, statements, shows, text, map_of, template, engine, rendered, rendered_to, gives, breaks, fault_at}
+
+-- t = `a`, in `{% include "t" %}`
+text_alone : rendered (engine ((codes "t", template (codes "a") (text 0 1 ∷ [])) ∷ []) []) (template (codes "{% include \"t\" %}") (include (quoted 11 (codes "t")) None ∷ [])) none_val ≡ gives (codes "a")
+unfolding computing
+text_alone = refl
 
 -- t = `{{ n }}`, in `{% with 1 as n %}{% include "t" %}{% endwith %}`
 scopes_seen : rendered (engine ((codes "t", template (codes "{{ n }}") (shows 0 7 (name 3 (codes "n")) ∷ [])) ∷ []) []) (template (codes "{% with 1 as n %}{% include \"t\" %}{% endwith %}") (with (base (number 8 9 (pos 1))) (word 13 (codes "n")) (statements (include (quoted 28 (codes "t")) None ∷ [])) ∷ [])) none_val ≡ gives (codes "1")
@@ -24,25 +27,25 @@ unknown : rendered (engine [] []) (template (codes "{% include \"x\" %}") (inclu
 unfolding computing
 unknown = refl
 
--- s = `x{% include "s" %}`: the depth counts the template itself, and 0 acts as 1
-itself : Template
-itself = template (codes "x{% include \"s\" %}") (text 0 1 ∷ include (quoted 12 (codes "s")) None ∷ [])
+-- `{% include "zz" %}` at depth 1: that nothing has the name is told first
+unknown_before_depth : rendered_to 1 (engine [] []) (template (codes "{% include \"zz\" %}") (include (quoted 11 (codes "zz")) None ∷ [])) none_val ≡ breaks [] (fault_at render (codes "unknown template") 11 15)
+unfolding computing
+unknown_before_depth = refl
 
-depth_three : rendered_to 3 (engine ((codes "s", itself) ∷ []) []) itself none_val ≡ breaks (codes "xxx") (depth_reached 3)
-unfolding computing itself
-depth_three = refl
+-- `{% include "zz" with y %}` on {} at depth 1: the fault of the value is told first
+value_before_name : rendered_to 1 (engine [] []) (template (codes "{% include \"zz\" with y %}") (include (quoted 11 (codes "zz")) (Some (base (name 21 (codes "y")))) ∷ [])) (map_of []) ≡ breaks [] (fault_at render (codes "not found in this scope") 21 22)
+unfolding computing
+value_before_name = refl
 
-depth_one : rendered_to 1 (engine ((codes "s", itself) ∷ []) []) itself none_val ≡ breaks (codes "x") (depth_reached 1)
-unfolding computing itself
-depth_one = refl
+-- t = `{% include "zz" %}`, in `{% include "t" %}` at depth 2
+unknown_inside : rendered_to 2 (engine ((codes "t", template (codes "{% include \"zz\" %}") (include (quoted 11 (codes "zz")) None ∷ [])) ∷ []) []) (template (codes "{% include \"t\" %}") (include (quoted 11 (codes "t")) None ∷ [])) none_val ≡ breaks [] (named (codes "t") (fault_at render (codes "unknown template") 11 15))
+unfolding computing
+unknown_inside = refl
 
-depth_nought : rendered_to 0 (engine ((codes "s", itself) ∷ []) []) itself none_val ≡ breaks (codes "x") (depth_reached 0)
-unfolding computing itself
-depth_nought = refl
-
-depth_as_usual : rendered (engine ((codes "s", itself) ∷ []) []) itself none_val ≡ breaks (codes "xxxxxxxxxxxxxxxxxxxxxxxxxxxxxxxxxxxxxxxxxxxxxxxxxxxxxxxxxxxxxxxx") (depth_reached 64)
-unfolding computing itself
-depth_as_usual = refl
+-- hello = `Hello {{ user.name }}!`, goodbye = `Goodbye {{ user.name }}!`, in `{% include "hello" %}`, a new line, `{% include "goodbye" %}`
+two_stored : rendered (engine ((codes "hello", template (codes "Hello {{ user.name }}!") (text 0 6 ∷ shows 6 21 (var (first 9 (codes "user")) (dot 13 (codes "name") ∷ [])) ∷ text 21 22 ∷ [])) ∷ (codes "goodbye", template (codes "Goodbye {{ user.name }}!") (text 0 8 ∷ shows 8 23 (var (first 11 (codes "user")) (dot 15 (codes "name") ∷ [])) ∷ text 23 24 ∷ [])) ∷ []) []) (template (codes "{% include \"hello\" %}\n{% include \"goodbye\" %}") (include (quoted 11 (codes "hello")) None ∷ text 21 22 ∷ include (quoted 33 (codes "goodbye")) None ∷ [])) (map_of ((codes "user", map_of ((codes "name", text_val (codes "John Smith")) ∷ [])) ∷ [])) ≡ gives (codes "Hello John Smith!\nGoodbye John Smith!")
+unfolding computing
+two_stored = refl
 
 -- s = `{% if more %}{% include "s" %}{% include "s" %}{% endif %}y`: a branch that is not taken means nothing
 branch_not_taken : rendered (engine ((codes "s", template (codes "{% if more %}{% include \"s\" %}{% include \"s\" %}{% endif %}y") (if_else false (base (name 6 (codes "more"))) (statements (include (quoted 24 (codes "s")) None ∷ include (quoted 41 (codes "s")) None ∷ [])) no_else ∷ text 58 59 ∷ [])) ∷ []) []) (template (codes "{% include \"s\" %}") (include (quoted 11 (codes "s")) None ∷ [])) (map_of ((codes "more", none_val) ∷ [])) ≡ gives (codes "y")

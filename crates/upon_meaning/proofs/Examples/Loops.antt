@@ -1,11 +1,12 @@
 -- Loops, and what they give.
 use Rattle.std.proofs.Common.{◌≡◌, pos, [], ◌∷◌, true, refl, codes}
 use Rattle.upon_types.specs.Expression.{base, var, list, mapping}
+use Rattle.upon_types.specs.Fault.{render, format}
 use Rattle.upon_types.specs.Path.{item, key_value}
 use Rattle.upon_types.specs.Tree.{if_else, for_loop, with, no_else}
-use Rattle.upon_types.specs.Val.{int_val, text_val, none_val}
+use Rattle.upon_types.specs.Val.{none_val, int_val, text_val}
 use Rattle.upon_meaning.proofs.Computing.{computing}
-use Rattle.upon_meaning.proofs.Examples.Short.{at, word, quoted, first, name, dot, maybe, number, bases, items, statements, shows, text, list_of, map_of, template, engine, rendered, gives}
+use Rattle.upon_meaning.proofs.Examples.Short.{at, word, quoted, first, name, dot, maybe, number, bases, items, statements, shows, text, list_of, map_of, template, engine, rendered, gives, breaks, fault_at}
 
 -- `{% for i in [1, 2] %}{{ i }}{% if not loop.last %},{% endif %}{% endfor %}`
 commas : rendered (engine [] []) (template (codes "{% for i in [1, 2] %}{{ i }}{% if not loop.last %},{% endif %}{% endfor %}") (for_loop (item (word 7 (codes "i"))) (base (list (bases (number 13 14 (pos 1) ∷ number 16 17 (pos 2) ∷ [])) (at 12 18))) (statements (shows 21 28 (name 24 (codes "i")) ∷ if_else true (base (var (first 38 (codes "loop")) (dot 42 (codes "last") ∷ []))) (statements (text 50 51 ∷ [])) no_else ∷ [])) ∷ [])) none_val ≡ gives (codes "1,2")
@@ -26,3 +27,58 @@ keys_in_order = refl
 loop_bound_again : rendered (engine [] []) (template (codes "{% for x in xs %}{% with x as loop %}{{ loop }}{% endwith %}{% endfor %}") (for_loop (item (word 7 (codes "x"))) (base (name 12 (codes "xs"))) (statements (with (base (name 25 (codes "x"))) (word 30 (codes "loop")) (statements (shows 37 47 (name 40 (codes "loop")) ∷ [])) ∷ [])) ∷ [])) (map_of ((codes "xs", list_of (text_val (codes "a") ∷ text_val (codes "b") ∷ [])) ∷ [])) ≡ gives (codes "ab")
 unfolding computing
 loop_bound_again = refl
+
+-- `{% for x in xs %}{{ loop.index }}{{ x }}{% endfor %}` on {xs: ["a", "b"]}
+indexes : rendered (engine [] []) (template (codes "{% for x in xs %}{{ loop.index }}{{ x }}{% endfor %}") (for_loop (item (word 7 (codes "x"))) (base (name 12 (codes "xs"))) (statements (shows 17 33 (var (first 20 (codes "loop")) (dot 24 (codes "index") ∷ [])) ∷ shows 33 40 (name 36 (codes "x")) ∷ [])) ∷ [])) (map_of ((codes "xs", list_of (text_val (codes "a") ∷ text_val (codes "b") ∷ [])) ∷ [])) ≡ gives (codes "0a1b")
+unfolding computing
+indexes = refl
+
+-- `{% for a, a in {"k": 1} %}{{ a }}{% endfor %}`: of equal names the key is seen
+key_before_value : rendered (engine [] []) (template (codes "{% for a, a in {\"k\": 1} %}{{ a }}{% endfor %}") (for_loop (key_value (word 7 (codes "a")) (word 10 (codes "a")) (at 7 11)) (base (mapping (items ((quoted 16 (codes "k"), number 21 22 (pos 1)) ∷ [])) (at 15 23))) (statements (shows 26 33 (name 29 (codes "a")) ∷ [])) ∷ [])) (map_of []) ≡ gives (codes "k")
+unfolding computing
+key_before_value = refl
+
+-- `{% for loop in [7] %}{{ loop.last }}{% endfor %}`: the loop's state stands ahead of its own variable
+state_before_item : rendered (engine [] []) (template (codes "{% for loop in [7] %}{{ loop.last }}{% endfor %}") (for_loop (item (word 7 (codes "loop"))) (base (list (bases (number 16 17 (pos 7) ∷ [])) (at 15 18))) (statements (shows 21 36 (var (first 24 (codes "loop")) (dot 28 (codes "last") ∷ [])) ∷ [])) ∷ [])) (map_of []) ≡ gives (codes "true")
+unfolding computing
+state_before_item = refl
+
+-- `{% for x in [1] %}{{ loop?.z }}|{{ loop.index }}{% endfor %}`
+unknown_of_state : rendered (engine [] []) (template (codes "{% for x in [1] %}{{ loop?.z }}|{{ loop.index }}{% endfor %}") (for_loop (item (word 7 (codes "x"))) (base (list (bases (number 13 14 (pos 1) ∷ [])) (at 12 15))) (statements (shows 18 31 (var (first 21 (codes "loop")) (maybe 25 (codes "z") ∷ [])) ∷ text 31 32 ∷ shows 32 48 (var (first 35 (codes "loop")) (dot 39 (codes "index") ∷ [])) ∷ [])) ∷ [])) (map_of []) ≡ gives (codes "|0")
+unfolding computing
+unknown_of_state = refl
+
+-- `{% for x in 5 %}{% endfor %}`
+over_a_number : rendered (engine [] []) (template (codes "{% for x in 5 %}{% endfor %}") (for_loop (item (word 7 (codes "x"))) (base (number 12 13 (pos 5))) (statements []) ∷ [])) (map_of []) ≡ breaks [] (fault_at render (codes "expected iterable, but expression evaluated to integer") 12 13)
+unfolding computing
+over_a_number = refl
+
+-- `{% for a, b in [1] %}{% endfor %}`
+two_names_for_an_item : rendered (engine [] []) (template (codes "{% for a, b in [1] %}{% endfor %}") (for_loop (key_value (word 7 (codes "a")) (word 10 (codes "b")) (at 7 11)) (base (list (bases (number 16 17 (pos 1) ∷ [])) (at 15 18))) (statements []) ∷ [])) (map_of []) ≡ breaks [] (fault_at render (codes "cannot unpack list item into two variables") 7 11)
+unfolding computing
+two_names_for_an_item = refl
+
+-- `{% for x in {"k": 1} %}{% endfor %}`
+one_name_for_an_entry : rendered (engine [] []) (template (codes "{% for x in {\"k\": 1} %}{% endfor %}") (for_loop (item (word 7 (codes "x"))) (base (mapping (items ((quoted 13 (codes "k"), number 18 19 (pos 1)) ∷ [])) (at 12 20))) (statements []) ∷ [])) (map_of []) ≡ breaks [] (fault_at render (codes "cannot unpack map item into one variable") 7 8)
+unfolding computing
+one_name_for_an_entry = refl
+
+-- `{% for k, v in {"b": 1} %}{{ k.x }}{% endfor %}`
+member_of_a_key : rendered (engine [] []) (template (codes "{% for k, v in {\"b\": 1} %}{{ k.x }}{% endfor %}") (for_loop (key_value (word 7 (codes "k")) (word 10 (codes "v")) (at 7 11)) (base (mapping (items ((quoted 16 (codes "b"), number 21 22 (pos 1)) ∷ [])) (at 15 23))) (statements (shows 26 35 (var (first 29 (codes "k")) (dot 30 (codes "x") ∷ [])) ∷ [])) ∷ [])) (map_of []) ≡ breaks [] (fault_at render (codes "cannot index into string") 30 32)
+unfolding computing
+member_of_a_key = refl
+
+-- `{% for x in [1] %}{{ loop.index.y }}{% endfor %}`
+member_of_the_index : rendered (engine [] []) (template (codes "{% for x in [1] %}{{ loop.index.y }}{% endfor %}") (for_loop (item (word 7 (codes "x"))) (base (list (bases (number 13 14 (pos 1) ∷ [])) (at 12 15))) (statements (shows 18 36 (var (first 21 (codes "loop")) (dot 25 (codes "index") ∷ dot 31 (codes "y") ∷ [])) ∷ [])) ∷ [])) (map_of []) ≡ breaks [] (fault_at render (codes "cannot index into integer") 31 33)
+unfolding computing
+member_of_the_index = refl
+
+-- `{% for x in [1] %}{{ loop.z }}{% endfor %}`
+no_such_state : rendered (engine [] []) (template (codes "{% for x in [1] %}{{ loop.z }}{% endfor %}") (for_loop (item (word 7 (codes "x"))) (base (list (bases (number 13 14 (pos 1) ∷ [])) (at 12 15))) (statements (shows 18 30 (var (first 21 (codes "loop")) (dot 25 (codes "z") ∷ [])) ∷ [])) ∷ [])) (map_of []) ≡ breaks [] (fault_at render (codes "not found in map") 25 27)
+unfolding computing
+no_such_state = refl
+
+-- `{% for x in [1] %}{{ loop }}{% endfor %}`: the state alone is a map
+state_alone : rendered (engine [] []) (template (codes "{% for x in [1] %}{{ loop }}{% endfor %}") (for_loop (item (word 7 (codes "x"))) (base (list (bases (number 13 14 (pos 1) ∷ [])) (at 12 15))) (statements (shows 18 28 (name 21 (codes "loop")) ∷ [])) ∷ [])) (map_of []) ≡ breaks [] (fault_at format (codes "expression evaluated to unformattable type map") 21 25)
+unfolding computing
+state_alone = refl

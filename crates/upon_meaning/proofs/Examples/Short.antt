@@ -113,12 +113,15 @@ Seen = List ℕ × Option Fault
 abbrev pub seen : {Q : Type 0} → ℕ → Outcome Q → Seen
 seen limit o = (o.text, told limit o.end)
 
--- a template without a name, on a context: with the engine's depth, and with another
+-- a template on a context: with the engine's depth, with another, and under a name
 abbrev pub rendered : Engine → Template → Val → Seen
 rendered e t v = seen e.depth (alone (rendering_of e no_source None) t None (context v) no_states)
 
 abbrev pub rendered_to : ℕ → Engine → Template → Val → Seen
 rendered_to depth e t v = seen depth (alone (rendering_of e no_source (Some depth)) t None (context v) no_states)
+
+abbrev pub rendered_as : List ℕ → Engine → Template → Val → Seen
+rendered_as name e t v = seen e.depth (alone (rendering_of e no_source None) t (Some name) (context v) no_states)
 
 abbrev pub gives : List ℕ → Seen
 gives text = (text, None)

@@ -1,9 +1,10 @@
 -- Renderings with a value source or a template source, and what they give.
-use Rattle.std.proofs.Common.{◌≡◌, ℕ, ◌+◌, List, [], ◌∷◌, Option, Some, None, true, false, refl, codes}
-use Rattle.upon_types.specs.Expression.{var}
-use Rattle.upon_types.specs.Fault.{render}
-use Rattle.upon_types.specs.Tree.{include}
-use Rattle.upon_types.specs.Val.{Val, text_val, none_val}
+use Rattle.std.proofs.Common.{◌≡◌, ℕ, ◌+◌, pos, List, [], ◌∷◌, Option, Some, None, true, false, refl, codes}
+use Rattle.upon_types.specs.Expression.{base, var, list}
+use Rattle.upon_types.specs.Fault.{render, named}
+use Rattle.upon_types.specs.Path.{item}
+use Rattle.upon_types.specs.Tree.{include, for_loop}
+use Rattle.upon_types.specs.Val.{Val, none_val, int_val, text_val}
 use Rattle.upon_render.specs.Environment.{context, value_source}
 use Rattle.upon_render.specs.Found.{Reply, reply}
 use Rattle.upon_render.specs.Source.{Said, says, refuses, Member, key}
@@ -11,7 +12,7 @@ use Rattle.upon_meaning.specs.Alone.{alone}
 use Rattle.upon_meaning.specs.Engine.{Template, rendering_of, rendering_by}
 use Rattle.upon_meaning.specs.Outcome.{good, fails, states}
 use Rattle.upon_meaning.proofs.Computing.{computing}
-use Rattle.upon_meaning.proofs.Examples.Short.{quoted, first, dot, maybe, shows, text, map_of, template, held, engine, no_source, fault_at}
+use Rattle.upon_meaning.proofs.Examples.Short.{at, word, quoted, first, name, dot, maybe, number, bases, statements, shows, text, map_of, template, held, engine, no_source, fault_at}
 
 -- a value source that keeps the paths that it was asked for, and refuses
 keeps : List (List Member) → List Member → Reply (List (List Member)) (Said Val)
@@ -21,6 +22,20 @@ keeps asked path = reply (refuses (codes "no user")) (path ∷ asked)
 asked_once : alone (rendering_of {T = Unit {0}} (engine [] []) keeps None) (template (codes "{{ user?.name }}") (shows 0 16 (var (first 3 (codes "user")) (maybe 7 (codes "name") ∷ [])) ∷ [])) None value_source (states [] tt) ≡ record { text = []; end = fails (fault_at render (codes "no user") 3 13); next = states ((record { is_optional = false; access = key (codes "user") } ∷ record { is_optional = true; access = key (codes "name") } ∷ []) ∷ []) tt }
 unfolding computing keeps
 asked_once = refl
+
+-- a value source that answers 1, 2 and so on in turn; its state is how often it was asked
+in_turn : ℕ → List Member → Reply ℕ (Said Val)
+in_turn asked path = reply (says (int_val (pos (asked + 1)))) (asked + 1)
+
+-- `{{ a }}{% for a in [9] %}{{ a }}{% endfor %}{{ a }}`: it is asked twice, as the loop binds the name
+asked_twice : alone (rendering_of {T = Unit {0}} (engine [] []) in_turn None) (template (codes "{{ a }}{% for a in [9] %}{{ a }}{% endfor %}{{ a }}") (shows 0 7 (name 3 (codes "a")) ∷ for_loop (item (word 14 (codes "a"))) (base (list (bases (number 20 21 (pos 9) ∷ [])) (at 19 22))) (statements (shows 25 32 (name 28 (codes "a")) ∷ [])) ∷ shows 44 51 (name 47 (codes "a")) ∷ [])) None value_source (states 0 tt) ≡ record { text = codes "192"; end = good; next = states 2 tt }
+unfolding computing in_turn
+asked_twice = refl
+
+-- t = `{{ a }}`, in `{% include "t" with 5 %}`: it is never asked
+never_asked : alone (rendering_of {T = Unit {0}} (engine ((codes "t", template (codes "{{ a }}") (shows 0 7 (name 3 (codes "a")) ∷ [])) ∷ []) []) in_turn None) (template (codes "{% include \"t\" with 5 %}") (include (quoted 11 (codes "t")) (Some (base (number 20 21 (pos 5)))) ∷ [])) None value_source (states 0 tt) ≡ record { text = []; end = fails (named (codes "t") (fault_at render (codes "not found in this scope") 3 4)); next = states 0 tt }
+unfolding computing in_turn
+never_asked = refl
 
 -- a template source over two templates, which counts what it is asked
 hello : Template

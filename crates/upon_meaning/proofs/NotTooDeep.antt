@@ -1,0 +1,95 @@
+-- Outcomes that do not end because includes stand too deep, and what keeps them so.
+use Rattle.std.proofs.Common.{◌≢◌, ℕ, ◌+◌, List, [], ◌∷◌, length, Option, Some, None, Bool, true, false}
+use Rattle.upon_types.specs.declared.types.Span.{Span}
+use Rattle.upon_types.specs.Expression.{Expression, base, filtered, Base, var, literal, list, mapping, paren, call}
+use Rattle.upon_types.specs.Path.{Word}
+use Rattle.upon_types.specs.Val.{Val}
+use Rattle.upon_render.specs.Environment.{Binding, Environment, turn}
+use Rattle.upon_render.specs.Found.{Found, found, at_fault, Reply}
+use Rattle.upon_meaning.specs.Answers.{FormatEnd, well, refused, Formatter, Callable, formatter, function}
+use Rattle.upon_meaning.specs.Emission.{end_of, shown_or_fault, formatted_by, emitted, emit_applied, emit_value, emit, emit_base}
+use Rattle.upon_meaning.specs.Engine.{Calls}
+use Rattle.upon_meaning.specs.Evaluation.{Evaluated, values_of, answered, evaluated_then, evaluate, evaluate_base, evaluate_arguments}
+use Rattle.upon_meaning.specs.Meaning.{Body, choose, each, each_of, on_value}
+use Rattle.upon_meaning.specs.Outcome.{End, good, fails, too_deep, Outcome, States, go_on, then_do, named_end}
+
+abbrev pub NotTooDeep : End → Type 0
+NotTooDeep good = Unit {0}
+NotTooDeep (fails f) = Unit {0}
+NotTooDeep too_deep = ⊥
+
+pub is_not_too_deep : (end : End) → NotTooDeep end → end ≢ too_deep
+is_not_too_deep good h e = cc
+is_not_too_deep (fails f) h e = cc
+is_not_too_deep too_deep h e = h
+
+pub named_not_too_deep : (name : Option (List ℕ)) (end : End) → NotTooDeep end → NotTooDeep (named_end name end)
+named_not_too_deep name good h = tt
+named_not_too_deep name (fails f) h = tt
+named_not_too_deep name too_deep h = h
+
+module _ {Q : Type 0} where
+  by_go_on : (text : List ℕ) (end : End) (q : Q) (go : Q → Outcome Q) → NotTooDeep end → ((q : Q) → NotTooDeep (go q).end) → NotTooDeep (go_on text end q go).end
+  by_go_on text good q go h k = k q
+  by_go_on text (fails f) q go h k = tt
+  by_go_on text too_deep q go h k = h
+
+  pub then_not_too_deep : (o : Outcome Q) (go : Q → Outcome Q) → NotTooDeep o.end → ((q : Q) → NotTooDeep (go q).end) → NotTooDeep (then_do o go).end
+  then_not_too_deep o go h k = by_go_on o.text o.end o.next go h k
+
+  each_not_too_deep : (body : Body Q) → ((env : Environment) (q : Q) → NotTooDeep (body env q).end) → (count index : ℕ) (items : List (List Binding)) (env : Environment) (q : Q) → NotTooDeep (each body count index items env q).end
+  each_not_too_deep body h count index [] env q = tt
+  each_not_too_deep body h count index (bs ∷ items) env q = then_not_too_deep (body (turn index count bs env) q) _ (h (turn index count bs env) q) (each_not_too_deep body h count (index + 1) items env)
+
+  pub each_of_not_too_deep : (body : Body Q) → ((env : Environment) (q : Q) → NotTooDeep (body env q).end) → (name : Option (List ℕ)) (x : Found (List (List Binding))) (env : Environment) (q : Q) → NotTooDeep (each_of body name x env q).end
+  each_of_not_too_deep body h name (found items) env q = each_not_too_deep body h (length items) 0 items env q
+  each_of_not_too_deep body h name (at_fault f) env q = tt
+
+  pub choose_not_too_deep : (test : Bool) (f g : Q → Outcome Q) → ((q : Q) → NotTooDeep (f q).end) → ((q : Q) → NotTooDeep (g q).end) → (q : Q) → NotTooDeep (choose test f g q).end
+  choose_not_too_deep true f g h k q = h q
+  choose_not_too_deep false f g h k q = k q
+
+module _ {V T : Type 0} where
+  pub value_not_too_deep : (name : Option (List ℕ)) (x : Found Evaluated) (s : States V T) (go : Val → States V T → Outcome (States V T)) → ((v : Val) (s : States V T) → NotTooDeep (go v s).end) → NotTooDeep (on_value name x s go).end
+  value_not_too_deep name (found o) s go h = h o.value s
+  value_not_too_deep name (at_fault f) s go h = tt
+
+-- what an expression writes ends well or with a fault
+format_not_too_deep : (end : FormatEnd) (at : Span) → NotTooDeep (end_of end at)
+format_not_too_deep well at = tt
+format_not_too_deep (refused message) at = tt
+
+module _ {V : Type 0} where
+  shown_not_too_deep : {A : Type 0} (x : Found A) (q : V) (go : A → V → Outcome V) → ((a : A) (q : V) → NotTooDeep (go a q).end) → NotTooDeep (shown_or_fault x q go).end
+  shown_not_too_deep (found a) q go h = h a q
+  shown_not_too_deep (at_fault f) q go h = tt
+
+  formatted_not_too_deep : (f : Formatter) (name : Word) (given : List Evaluated) (q : V) → NotTooDeep (formatted_by f name given q).end
+  formatted_not_too_deep f name [] q = tt
+  formatted_not_too_deep f name (o ∷ []) q = format_not_too_deep (f o.value).end name.span
+  formatted_not_too_deep f name (o ∷ p ∷ given) q = tt
+
+  emitted_not_too_deep : (default : Formatter) (name : Word) (whole : Span) (given : List Evaluated) (callable : Option Callable) (q : V) → NotTooDeep (emitted default name whole given callable q).end
+  emitted_not_too_deep default name whole given None q = tt
+  emitted_not_too_deep default name whole given (Some (formatter f)) q = formatted_not_too_deep f name given q
+  emitted_not_too_deep default name whole given (Some (function f)) q = shown_not_too_deep (answered name name.span given (f (values_of given))) q _ (λ v q'. format_not_too_deep (default v).end whole)
+
+  applied_not_too_deep : (calls : Calls V) (name : Word) (whole : Span) (r : Reply V (Found (List Evaluated))) → NotTooDeep (emit_applied calls name whole r).end
+  applied_not_too_deep calls name whole r = shown_not_too_deep r.answer r.next _ (λ os q. emitted_not_too_deep calls.default_formatter name whole os (calls.callables name.text) q)
+
+  emit_value_not_too_deep : (calls : Calls V) (r : Reply V (Found Evaluated)) → NotTooDeep (emit_value calls r).end
+  emit_value_not_too_deep calls r = shown_not_too_deep r.answer r.next _ (λ o q. format_not_too_deep (calls.default_formatter o.value).end o.place)
+
+module _ {V : Type 0} (calls : Calls V) where
+  mutual
+    pub emit_not_too_deep : (e : Expression) (env : Environment) (q : V) → NotTooDeep (emit calls e env q).end
+    emit_not_too_deep (base b) env q = emit_base_not_too_deep b env q
+    emit_not_too_deep (filtered receiver name args span) env q = applied_not_too_deep calls name span (evaluated_then (evaluate calls receiver env q) (evaluate_arguments calls args env))
+
+    emit_base_not_too_deep : (b : Base) (env : Environment) (q : V) → NotTooDeep (emit_base calls b env q).end
+    emit_base_not_too_deep (paren e span) env q = emit_not_too_deep e env q
+    emit_base_not_too_deep (call name args span) env q = applied_not_too_deep calls name span (evaluate_arguments calls args env q)
+    emit_base_not_too_deep (var first rest) env q = emit_value_not_too_deep calls (evaluate_base calls (var first rest) env q)
+    emit_base_not_too_deep (literal v span) env q = emit_value_not_too_deep calls (evaluate_base calls (literal v span) env q)
+    emit_base_not_too_deep (list bases span) env q = emit_value_not_too_deep calls (evaluate_base calls (list bases span) env q)
+    emit_base_not_too_deep (mapping items span) env q = emit_value_not_too_deep calls (evaluate_base calls (mapping items span) env q)

@@ -1,0 +1,134 @@
+-- Over a context an expression comes to what it comes to where there is no value source, and the source's state stays.
+use Rattle.std.proofs.Common.{◌≡◌, List, [], ◌∷◌, Option, Some, None, refl, ap, ◌∙◌}
+use Rattle.upon_types.specs.declared.types.Span.{Span}
+use Rattle.upon_types.specs.Expression.{Expression, base, filtered, Base, var, literal, list, mapping, paren, call, Bases, no_bases, base_then, Items, no_items, item_then, Arguments, no_arguments, arguments}
+use Rattle.upon_types.specs.Path.{Word, Step, path_span}
+use Rattle.upon_types.specs.Val.{Val, list_val, map_val, Entries, no_entries}
+use Rattle.upon_types.specs.View.{vals_of}
+use Rattle.upon_render.specs.Environment.{Binding, Environment, context}
+use Rattle.upon_render.specs.Found.{Found, found, at_fault, Reply, reply, on_found, with_found}
+use Rattle.upon_render.specs.Lookup.{bindings_walk, or_root, lookup}
+use Rattle.upon_render.specs.Source.{refuses, Source}
+use Rattle.upon_meaning.specs.Answers.{Formatter, Callable, formatter, function}
+use Rattle.upon_meaning.specs.Emission.{shown, shown_or_fault, emit_found, formatted_by, emitted, emit_applied, emit_value, emit, emit_base}
+use Rattle.upon_meaning.specs.Engine.{Calls}
+use Rattle.upon_meaning.specs.Entries.{with_entry}
+use Rattle.upon_meaning.specs.Evaluation.{Evaluated, evaluated, values_of, answered, called, placed, ahead, evaluated_then, as_list, as_map, applied, evaluate, evaluate_base, evaluate_bases, evaluate_items, evaluate_arguments}
+use Rattle.upon_meaning.specs.Outcome.{Outcome}
+
+-- the environment of bindings over a context
+abbrev pub above : List Binding → Val → Environment
+above bindings v = record { bindings = bindings; root = context v }
+
+-- the same callables and default formatter, without a value source
+abbrev pub sourceless : {V : Type 0} → Calls V → Calls (Unit {0})
+sourceless calls = record { callables = calls.callables; default_formatter = calls.default_formatter; ask = λ q path. reply (refuses []) q }
+
+-- what came out without a value source, beside the state of one that was not asked
+abbrev pub keep : {V A : Type 0} → V → Reply (Unit {0}) A → Reply V A
+keep q r = reply r.answer q
+
+abbrev pub keep_end : {V : Type 0} → V → Outcome (Unit {0}) → Outcome V
+keep_end q o = record { text = o.text; end = o.end; next = q }
+
+module _ {V : Type 0} (q : V) where
+  by_found : {A B : Type 0} (x : Found A) (u : Unit {0}) (go : A → V → Reply V (Found B)) (pure : A → Unit {0} → Reply (Unit {0}) (Found B)) → ((a : A) (u : Unit {0}) → go a q ≡ keep q (pure a u)) → on_found x q go ≡ keep q (on_found x u pure)
+  by_found (found a) u go pure h = h a u
+  by_found (at_fault f) u go pure h = refl
+
+  found_keeps : {A B : Type 0} (r : Reply V (Found A)) (o : Reply (Unit {0}) (Found A)) (go : A → V → Reply V (Found B)) (pure : A → Unit {0} → Reply (Unit {0}) (Found B)) → r ≡ keep q o → ((a : A) (u : Unit {0}) → go a q ≡ keep q (pure a u)) → with_found r go ≡ keep q (with_found o pure)
+  found_keeps r o go pure e h = ap (λ r. with_found r go) e ∙ by_found o.answer o.next go pure h
+
+  lookup_keeps : (x : Found (Option Val)) (ask : Source V) (silent : Source (Unit {0})) (v : Val) (first : Step) (rest : List Step) (u : Unit {0}) → or_root x ask (context v) first rest q ≡ keep q (or_root x silent (context v) first rest u)
+  lookup_keeps (found (Some w)) ask silent v first rest u = refl
+  lookup_keeps (found None) ask silent v first rest u = refl
+  lookup_keeps (at_fault f) ask silent v first rest u = refl
+
+  placed_keeps : (r : Reply V (Found Val)) (o : Reply (Unit {0}) (Found Val)) (at : Span) → r ≡ keep q o → placed r at ≡ keep q (placed o at)
+  placed_keeps r o at e = found_keeps r o (λ v p. reply (found (evaluated v at)) p) (λ v p. reply (found (evaluated v at)) p) e (λ v u. refl)
+
+  ahead_keeps : (x : Evaluated) (r : Reply V (Found (List Evaluated))) (o : Reply (Unit {0}) (Found (List Evaluated))) → r ≡ keep q o → ahead x r ≡ keep q (ahead x o)
+  ahead_keeps x r o e = found_keeps r o (λ os p. reply (found (x ∷ os)) p) (λ os p. reply (found (x ∷ os)) p) e (λ v u. refl)
+
+  evaluated_then_keeps : (r : Reply V (Found Evaluated)) (o : Reply (Unit {0}) (Found Evaluated)) (others : V → Reply V (Found (List Evaluated))) (pure : Unit {0} → Reply (Unit {0}) (Found (List Evaluated))) → r ≡ keep q o → ((u : Unit {0}) → others q ≡ keep q (pure u)) → evaluated_then r others ≡ keep q (evaluated_then o pure)
+  evaluated_then_keeps r o others pure e h = found_keeps r o (λ x p. ahead x (others p)) (λ x p. ahead x (pure p)) e (λ x u. ahead_keeps x (others q) (pure u) (h u))
+
+  as_list_keeps : (r : Reply V (Found (List Evaluated))) (o : Reply (Unit {0}) (Found (List Evaluated))) (at : Span) → r ≡ keep q o → as_list r at ≡ keep q (as_list o at)
+  as_list_keeps r o at e = found_keeps r o (λ os p. reply (found (evaluated (list_val (vals_of (values_of os))) at)) p) (λ os p. reply (found (evaluated (list_val (vals_of (values_of os))) at)) p) e (λ os u. refl)
+
+  as_map_keeps : (r : Reply V (Found Entries)) (o : Reply (Unit {0}) (Found Entries)) (at : Span) → r ≡ keep q o → as_map r at ≡ keep q (as_map o at)
+  as_map_keeps r o at e = found_keeps r o (λ es p. reply (found (evaluated (map_val es) at)) p) (λ es p. reply (found (evaluated (map_val es) at)) p) e (λ es u. refl)
+
+  applied_keeps : (calls : Calls V) (name : Word) (whole : Span) (r : Reply V (Found (List Evaluated))) (o : Reply (Unit {0}) (Found (List Evaluated))) → r ≡ keep q o → applied calls name whole r ≡ keep q (applied (sourceless calls) name whole o)
+  applied_keeps calls name whole r o e =
+      found_keeps r o (λ os p. placed (reply (called name whole os (calls.callables name.text)) p) whole) (λ os p. placed (reply (called name whole os (calls.callables name.text)) p) whole) e (λ os u. placed_keeps (reply (called name whole os (calls.callables name.text)) q) (reply (called name whole os (calls.callables name.text)) u) whole refl)
+
+module _ {V : Type 0} (calls : Calls V) (bindings : List Binding) (v : Val) (q : V) where
+  mutual
+    pub evaluate_keeps : (e : Expression) (u : Unit {0}) → evaluate calls e (above bindings v) q ≡ keep q (evaluate (sourceless calls) e (above bindings v) u)
+    evaluate_keeps (base b) u = base_keeps b u
+    evaluate_keeps (filtered receiver name args span) u =
+        applied_keeps q calls name span (evaluated_then (evaluate calls receiver (above bindings v) q) (evaluate_arguments calls args (above bindings v))) (evaluated_then (evaluate (sourceless calls) receiver (above bindings v) u) (evaluate_arguments (sourceless calls) args (above bindings v))) (evaluated_then_keeps q (evaluate calls receiver (above bindings v) q) (evaluate (sourceless calls) receiver (above bindings v) u) (evaluate_arguments calls args (above bindings v)) (evaluate_arguments (sourceless calls) args (above bindings v)) (evaluate_keeps receiver u) (arguments_keep args))
+
+    base_keeps : (b : Base) (u : Unit {0}) → evaluate_base calls b (above bindings v) q ≡ keep q (evaluate_base (sourceless calls) b (above bindings v) u)
+    base_keeps (var first rest) u = placed_keeps q (lookup calls.ask (above bindings v) first rest q) (lookup (sourceless calls).ask (above bindings v) first rest u) (path_span first rest) (lookup_keeps q (bindings_walk bindings first rest) calls.ask (sourceless calls).ask v first rest u)
+    base_keeps (literal w span) u = refl
+    base_keeps (list bases span) u = as_list_keeps q (evaluate_bases calls bases (above bindings v) q) (evaluate_bases (sourceless calls) bases (above bindings v) u) span (bases_keep bases u)
+    base_keeps (mapping items span) u = as_map_keeps q (evaluate_items calls items no_entries (above bindings v) q) (evaluate_items (sourceless calls) items no_entries (above bindings v) u) span (items_keep items no_entries u)
+    base_keeps (paren e span) u = evaluate_keeps e u
+    base_keeps (call name args span) u = applied_keeps q calls name span (evaluate_arguments calls args (above bindings v) q) (evaluate_arguments (sourceless calls) args (above bindings v) u) (arguments_keep args u)
+
+    bases_keep : (bs : Bases) (u : Unit {0}) → evaluate_bases calls bs (above bindings v) q ≡ keep q (evaluate_bases (sourceless calls) bs (above bindings v) u)
+    bases_keep no_bases u = refl
+    bases_keep (base_then b bs) u = evaluated_then_keeps q (evaluate_base calls b (above bindings v) q) (evaluate_base (sourceless calls) b (above bindings v) u) (evaluate_bases calls bs (above bindings v)) (evaluate_bases (sourceless calls) bs (above bindings v)) (base_keeps b u) (bases_keep bs)
+
+    items_keep : (is : Items) (es : Entries) (u : Unit {0}) → evaluate_items calls is es (above bindings v) q ≡ keep q (evaluate_items (sourceless calls) is es (above bindings v) u)
+    items_keep no_items es u = refl
+    items_keep (item_then key b is) es u = found_keeps q (evaluate_base calls b (above bindings v) q) (evaluate_base (sourceless calls) b (above bindings v) u) (λ o p. evaluate_items calls is (with_entry key.text o.value es) (above bindings v) p) (λ o p. evaluate_items (sourceless calls) is (with_entry key.text o.value es) (above bindings v) p) (base_keeps b u) (λ o u'. items_keep is (with_entry key.text o.value es) u')
+
+    arguments_keep : (args : Arguments) (u : Unit {0}) → evaluate_arguments calls args (above bindings v) q ≡ keep q (evaluate_arguments (sourceless calls) args (above bindings v) u)
+    arguments_keep no_arguments u = refl
+    arguments_keep (arguments bs span) u = bases_keep bs u
+
+-- what an expression writes
+module _ {V : Type 0} (q : V) where
+  by_shown : {A : Type 0} (x : Found A) (u : Unit {0}) (go : A → V → Outcome V) (pure : A → Unit {0} → Outcome (Unit {0})) → ((a : A) (u : Unit {0}) → go a q ≡ keep_end q (pure a u)) → shown_or_fault x q go ≡ keep_end q (shown_or_fault x u pure)
+  by_shown (found a) u go pure h = h a u
+  by_shown (at_fault f) u go pure h = refl
+
+  emit_found_keeps : {A : Type 0} (r : Reply V (Found A)) (o : Reply (Unit {0}) (Found A)) (go : A → V → Outcome V) (pure : A → Unit {0} → Outcome (Unit {0})) → r ≡ keep q o → ((a : A) (u : Unit {0}) → go a q ≡ keep_end q (pure a u)) → emit_found r go ≡ keep_end q (emit_found o pure)
+  emit_found_keeps r o go pure e h = ap (λ r. emit_found r go) e ∙ by_shown o.answer o.next go pure h
+
+  formatted_keeps : (f : Formatter) (name : Word) (given : List Evaluated) (u : Unit {0}) → formatted_by f name given q ≡ keep_end q (formatted_by f name given u)
+  formatted_keeps f name [] u = refl
+  formatted_keeps f name (o ∷ []) u = refl
+  formatted_keeps f name (o ∷ p ∷ given) u = refl
+
+  emitted_keeps : (default : Formatter) (name : Word) (whole : Span) (given : List Evaluated) (callable : Option Callable) (u : Unit {0}) → emitted default name whole given callable q ≡ keep_end q (emitted default name whole given callable u)
+  emitted_keeps default name whole given None u = refl
+  emitted_keeps default name whole given (Some (formatter f)) u = formatted_keeps f name given u
+  emitted_keeps default name whole given (Some (function f)) u = by_shown (answered name name.span given (f (values_of given))) u (λ v p. shown (default v) whole p) (λ v p. shown (default v) whole p) (λ v u'. refl)
+
+  emit_applied_keeps : (calls : Calls V) (name : Word) (whole : Span) (r : Reply V (Found (List Evaluated))) (o : Reply (Unit {0}) (Found (List Evaluated))) → r ≡ keep q o → emit_applied calls name whole r ≡ keep_end q (emit_applied (sourceless calls) name whole o)
+  emit_applied_keeps calls name whole r o e = emit_found_keeps r o (λ os p. emitted calls.default_formatter name whole os (calls.callables name.text) p) (λ os p. emitted calls.default_formatter name whole os (calls.callables name.text) p) e (λ os u. emitted_keeps calls.default_formatter name whole os (calls.callables name.text) u)
+
+  emit_value_keeps : (calls : Calls V) (r : Reply V (Found Evaluated)) (o : Reply (Unit {0}) (Found Evaluated)) → r ≡ keep q o → emit_value calls r ≡ keep_end q (emit_value (sourceless calls) o)
+  emit_value_keeps calls r o e = emit_found_keeps r o (λ x p. shown (calls.default_formatter x.value) x.place p) (λ x p. shown (calls.default_formatter x.value) x.place p) e (λ x u. refl)
+
+module _ {V : Type 0} (calls : Calls V) (bindings : List Binding) (v : Val) (q : V) where
+  emit_plain_keeps : (b : Base) (u : Unit {0}) → emit_value calls (evaluate_base calls b (above bindings v) q) ≡ keep_end q (emit_value (sourceless calls) (evaluate_base (sourceless calls) b (above bindings v) u))
+  emit_plain_keeps b u = emit_value_keeps q calls (evaluate_base calls b (above bindings v) q) (evaluate_base (sourceless calls) b (above bindings v) u) (base_keeps calls bindings v q b u)
+
+  mutual
+    pub emit_keeps : (e : Expression) (u : Unit {0}) → emit calls e (above bindings v) q ≡ keep_end q (emit (sourceless calls) e (above bindings v) u)
+    emit_keeps (base b) u = emit_base_keeps b u
+    emit_keeps (filtered receiver name args span) u =
+        emit_applied_keeps q calls name span (evaluated_then (evaluate calls receiver (above bindings v) q) (evaluate_arguments calls args (above bindings v))) (evaluated_then (evaluate (sourceless calls) receiver (above bindings v) u) (evaluate_arguments (sourceless calls) args (above bindings v))) (evaluated_then_keeps q (evaluate calls receiver (above bindings v) q) (evaluate (sourceless calls) receiver (above bindings v) u) (evaluate_arguments calls args (above bindings v)) (evaluate_arguments (sourceless calls) args (above bindings v)) (evaluate_keeps calls bindings v q receiver u) (arguments_keep calls bindings v q args))
+
+    emit_base_keeps : (b : Base) (u : Unit {0}) → emit_base calls b (above bindings v) q ≡ keep_end q (emit_base (sourceless calls) b (above bindings v) u)
+    emit_base_keeps (paren e span) u = emit_keeps e u
+    emit_base_keeps (call name args span) u = emit_applied_keeps q calls name span (evaluate_arguments calls args (above bindings v) q) (evaluate_arguments (sourceless calls) args (above bindings v) u) (arguments_keep calls bindings v q args u)
+    emit_base_keeps (var first rest) u = emit_plain_keeps (var first rest) u
+    emit_base_keeps (literal w span) u = emit_plain_keeps (literal w span) u
+    emit_base_keeps (list bases span) u = emit_plain_keeps (list bases span) u
+    emit_base_keeps (mapping items span) u = emit_plain_keeps (mapping items span) u
