@@ -141,19 +141,13 @@ impl<'a> Lexer<'a> {
         ensures wrong_place { IfErr result (λ wrong. LiesIn (text_of self.now) wrong.place) }
     {
         if let Some((kind, span)) = self.searcher.starts_with(self.source, self.at) {
-            return match self.edge(kind, span) {
-                Ok(found) => Ok(Some(found)),
-                Err(wrong) => Err(wrong),
-            };
+            return self.edge(kind, span).map(Some);
         }
         let Some(first) = char_at(self.source, self.at) else {
             return Ok(None);
         };
         match self.tag {
-            Some(tag) if tag.sort != Sort::Comment => match self.inner(first, tag) {
-                Ok(found) => Ok(Some(found)),
-                Err(wrong) => Err(wrong),
-            },
+            Some(tag) if tag.sort != Sort::Comment => self.inner(first, tag).map(Some),
             _ => Ok(Some(self.raw())),
         }
     }
@@ -280,14 +274,13 @@ impl<'a> Lexer<'a> {
         ensures raw { IsRaw (delimiters_of self.now) (text_of self.now) self.now.at result.span.n }
         ensures place { LiesIn (text_of self.now) result.span }
     {
-        let end = match self.searcher.find_at(self.source, self.at) {
-            Some((_, next)) => next.m,
-            None => self.source.len(),
-        };
         Found {
             token: Token::Raw,
             hyphen: false,
-            span: Span { m: self.at, n: end },
+            span: Span {
+                m: self.at,
+                n: self.searcher.raw_end(self.source, self.at),
+            },
         }
     }
 

@@ -84,23 +84,9 @@ impl<'a> Parser<'a> {
             Some((Delimiter::BeginExpr, begin)) => self.parse_tag(begin),
             Some(_) => Ok(None),
             None => {
-                let end = self.raw_end(at);
+                let end = self.searcher.raw_end(self.source, at);
                 Ok(Some((Stmt::Raw(Span { m: at, n: end }), end)))
             }
-        }
-    }
-
-    // Where the raw part that begins at a place ends.
-    fn raw_end(&self, at: usize) -> usize
-        requires inside { at < length (source_of self.now) }
-        requires boundary { IsCharBoundary (source_of self.now) at }
-        requires bare { NoneAt (syntax_of self.now) (source_of self.now) at }
-        ensures raw { IsRaw (syntax_of self.now) (source_of self.now) at result }
-        ensures place { LiesIn (source_of self.now) (record { m = at; n = result }) }
-    {
-        match self.searcher.find_at(self.source, at) {
-            Some((_, next)) => next.m,
-            None => self.source.len(),
         }
     }
 

@@ -3,6 +3,7 @@ ghost use Rattle.std.specs.Prelude.{◌≡◌, ◌+◌, ◌<◌, ◌≤◌, ◌�
 ghost use Rattle.std.specs.Str.{IsCharBoundary};
 ghost use Rattle.upon_types.specs.Place.{LiesIn};
 ghost use Rattle.upon_syntax.specs.Search.{Occurs, HasTexts, NoneAt, NoneFrom, Stands, IsFirst};
+ghost use Rattle.upon_syntax.specs.Raw.{IsRaw};
 ghost use Rattle.upon_syntax.specs.Entry.{pair_of};
 
 use upon_types::types::{Delimiter, Span};
@@ -117,6 +118,21 @@ impl Searcher {
         match self.best_at(source, at) {
             Some((kind, end)) => Some((kind, Span { m: at, n: end })),
             None => None,
+        }
+    }
+
+    /// Where the raw part at a place ends, in bytes: at the next delimiter, or where the text does. The place is a
+    /// character boundary short of the text's end, and no delimiter stands there.
+    pub(crate) fn raw_end(&self, source: &str, at: usize) -> usize
+        requires inside { at < length source.now }
+        requires boundary { IsCharBoundary source.now at }
+        requires bare { NoneAt (pairs_of self.now) source.now at }
+        ensures raw { IsRaw (pairs_of self.now) source.now at result }
+        ensures place { LiesIn source.now (record { m = at; n = result }) }
+    {
+        match self.find_at(source, at) {
+            Some((_, next)) => next.m,
+            None => source.len(),
         }
     }
 
