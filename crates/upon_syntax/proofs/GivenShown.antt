@@ -19,11 +19,6 @@ begins expression = refl
 begins block = refl
 begins comment = refl
 
-ends_begin_none : (sort : Sort) → is_begin (end_token sort) ≡ false
-ends_begin_none expression = refl
-ends_begin_none block = refl
-ends_begin_none comment = refl
-
 module _ (pairs : List Pair) (s : List ℕ) (texts : HasTexts pairs) where
   one_hyphen : (a b : Sort) (h k : Bool) (p m n : ℕ) → Begins pairs s a h p m → Begins pairs s b k p n → h ≡ k
   one_hyphen a b h k p m n x y = let e = one_stands pairs s x.kind y.kind p m n x.stands y.stands in sym x.of_hyphen ∙ ap has_hyphen e.0 ∙ y.of_hyphen

@@ -7,10 +7,12 @@ use Rattle.upon_types.specs.declared.types.token.Token.TheVariants.{Whitespace}
 use Rattle.upon_types.specs.declared.error.Error.{Error}
 use Rattle.upon_syntax.specs.Search.{Pair}
 use Rattle.upon_syntax.specs.Words.{is_tag_space, IsRun}
-use Rattle.upon_syntax.specs.Delimiters.{Sort, expression, block, comment, begin_token, end_token}
+use Rattle.upon_syntax.specs.Delimiters.{comment, begin_token, end_token}
 use Rattle.upon_syntax.specs.Cut.{Lexeme, Mode, outside, in_tag, in_comment, Step, Cut, mode_after}
 use Rattle.upon_syntax.specs.OneRun.{run_first}
 use Rattle.upon_syntax.specs.Tokens.{is_space}
+use Rattle.upon_syntax.specs.InsideTag.{end_is_no_space}
+use Rattle.upon_syntax.specs.NextToken.{begin_is_no_space}
 use Rattle.upon_syntax.specs.Lexing.{Left, HasRead, Lexes, LexesBehindSpace, IsNoSpace}
 
 -- the last step of a cut
@@ -28,23 +30,16 @@ module _ (pairs : List Pair) (s : List ℕ) where
       let rest = last_step (mode_after mode k.token) mode' k.span.n n ks l h.2 in
       record { before = rest.before; from = rest.from; cut = (h.0, h.1, rest.cut); step = rest.step; to = rest.to }
 
-  begin_is_no_space : (sort : Sort) → Whitespace ≡ begin_token sort → ⊥
-  begin_is_no_space expression e = cc
-  begin_is_no_space block e = cc
-  begin_is_no_space comment e = cc
-
-  end_is_no_space : (sort : Sort) → Whitespace ≡ end_token sort → ⊥
-  end_is_no_space expression e = cc
-  end_is_no_space block e = cc
-  end_is_no_space comment e = cc
+  differ : (t : Token) → Whitespace ≡ t → is_space t ≡ false → ⊥
+  differ t e none = let spaced = ap is_space e in cc
 
   space_run : (mode : Mode) (hyphen : Bool) (m n : ℕ) → Step pairs s mode Whitespace hyphen m n → IsRun is_tag_space s m n
   space_run outside hyphen m n (inl raw) = let is = raw.0 in absurd (cc)
-  space_run outside hyphen m n (inr begin) = absurd (begin_is_no_space begin.0 begin.1)
-  space_run (in_tag sort path) hyphen m n (inl end) = absurd (end_is_no_space sort end.0)
+  space_run outside hyphen m n (inr begin) = absurd (differ (begin_token begin.0) begin.1 (begin_is_no_space begin.0))
+  space_run (in_tag sort path) hyphen m n (inl end) = absurd (differ (end_token sort) end.0 (end_is_no_space sort))
   space_run (in_tag sort path) hyphen m n (inr inner) = inner.1.extent
   space_run in_comment hyphen m n (inl raw) = let is = raw.0 in absurd (cc)
-  space_run in_comment hyphen m n (inr end) = absurd (end_is_no_space comment end.0)
+  space_run in_comment hyphen m n (inr end) = absurd (differ (end_token comment) end.0 (end_is_no_space comment))
 
   is_whitespace : (t : Token) → is_space t ≡ true → t ≡ Whitespace
   is_whitespace Whitespace h = refl

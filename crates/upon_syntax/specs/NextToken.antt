@@ -38,7 +38,7 @@ first_kept s a l ls raw space comments =
     let spaced : without_spaces (l ∷ others) ≡ l ∷ without_spaces others = kept_without (is_space l.token) l (without_spaces others) (without_spaces others) space in
     (without_comments (without_spaces others), ap significant shown ∙ ap without_comments spaced ∙ kept_without (begins_comment l.token) l (without_comments (without_spaces others)) (comment_from l (without_spaces others)) comments)
 
-begin_is_no_space : (sort : Sort) → is_space (begin_token sort) ≡ false
+pub begin_is_no_space : (sort : Sort) → is_space (begin_token sort) ≡ false
 begin_is_no_space expression = refl
 begin_is_no_space block = refl
 begin_is_no_space comment = refl
