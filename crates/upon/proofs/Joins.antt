@@ -7,7 +7,7 @@ use Rattle.upon_types.specs.declared.error.Error.{Error}
 use Rattle.upon_types.specs.First.{statement_of, statements_of}
 use Rattle.upon_types.specs.Fault.{Fault}
 use Rattle.upon_types.specs.Val.{Val}
-use Rattle.upon_syntax.specs.EachLiesIn.{EachLiesIn, StatementLiesIn}
+use Rattle.upon_language.specs.EachLiesIn.{EachLiesIn, StatementLiesIn}
 use Rattle.upon.specs.Meaning.{End, good, fails, Outcome, written, after, go_on, then_do, statement_means, statements_mean}
 use Rattle.upon.specs.Rendered.{EndsWith}
 

@@ -3,11 +3,11 @@ use Rattle.std.proofs.Common.{◌≡◌, ℕ, List, [], sym, ap, ◌∙◌, subs
 use Rattle.std.proofs.Math.Logic.{∥∥₁_elim}
 use Rattle.std.specs.Str.{IsUtf8}
 use Rattle.upon_types.specs.FirstTree.{Statements, Statements-one_path}
-use Rattle.upon_syntax.specs.FirstGrammar.{HasTree}
-use Rattle.upon_syntax.specs.Searcher.{default_pairs}
-use Rattle.upon_syntax.specs.EachLiesIn.{EachLiesIn, EachLiesIn-prop}
-use Rattle.upon_syntax.specs.DefaultTexts.{default_texts, lies_in_default}
-use Rattle.upon_syntax.specs.OneTree.{one_tree}
+use Rattle.upon_language.specs.FirstGrammar.{HasTree}
+use Rattle.upon_lexer.specs.Searcher.{default_pairs}
+use Rattle.upon_language.specs.EachLiesIn.{EachLiesIn, EachLiesIn-prop}
+use Rattle.upon_syntax.proofs.DefaultTexts.{default_texts, lies_in_default}
+use Rattle.upon_language.proofs.OneTree.{one_tree}
 use Rattle.upon_types.specs.Val.{Val}
 use Rattle.upon_types.specs.declared.error.Error.{Error}
 use Rattle.upon.specs.Meaning.{Outcome, written, after, statements_mean, alone}

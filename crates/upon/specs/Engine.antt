@@ -5,8 +5,8 @@ use Rattle.upon_types.specs.First.{tree_of}
 use Rattle.upon_types.specs.FirstTree.{Statements}
 use Rattle.upon_types.specs.Val.{Val}
 use Rattle.upon_types.specs.View.{view}
-use Rattle.upon_syntax.specs.Search.{Pair}
-use Rattle.upon_syntax.specs.Searcher.{pairs_of, default_pairs}
+use Rattle.upon_language.specs.Search.{Pair}
+use Rattle.upon_lexer.specs.Searcher.{pairs_of, default_pairs}
 use Rattle.upon.specs.declared.Engine.{Engine}
 use Rattle.upon.specs.declared.Template.{Template}
 use Rattle.upon.specs.declared.render.Renderer.{Renderer}

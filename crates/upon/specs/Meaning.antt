@@ -3,7 +3,7 @@ use Rattle.std.specs.Prelude.{ℕ, List, [], ◌++◌, Option, Some, None, Bool,
 use Rattle.std.specs.Fmt.{signed_decimal}
 use Rattle.upon_types.specs.declared.types.Span.{Span}
 use Rattle.upon_types.specs.Place.{part}
-use Rattle.upon_types.specs.Fault.{Fault, render, format, made}
+use Rattle.upon_types.specs.Fault.{Fault, render, format, made, shown_in}
 use Rattle.upon_types.specs.Val.{Val, none_val, bool_val, int_val, text_val, list_val, map_val, kind_word, key_of}
 use Rattle.upon_types.specs.FirstTree.{Statement, raw, inline_expr, Statements, no_statements, statement_then}
 
@@ -21,9 +21,9 @@ pub record Outcome : Type 0 where
 abbrev pub written : List ℕ → Outcome
 written text = record { text = text; end = good }
 
--- a fault before any text
-abbrev pub fault : Fault → Outcome
-fault f = record { text = []; end = fails f }
+-- a fault of a source, before any text
+abbrev pub fault : List ℕ → Fault → Outcome
+fault source f = record { text = []; end = fails (shown_in source f) }
 
 -- an outcome with a text before it
 abbrev pub after : List ℕ → Outcome → Outcome
@@ -56,19 +56,19 @@ not_found at = made render (Some (codes "not found in this scope")) (Some at)
 abbrev pub unformattable : Val → Span → Fault
 unformattable v at = made format (Some (codes "expression evaluated to unformattable type " ++ kind_word v)) (Some at)
 
-abbrev pub formatted : Val → Span → Option (List ℕ) → Outcome
-formatted v at (Some text) = written text
-formatted v at None = fault (unformattable v at)
+abbrev pub formatted : List ℕ → Val → Span → Option (List ℕ) → Outcome
+formatted source v at (Some text) = written text
+formatted source v at None = fault source (unformattable v at)
 
 -- what is shown for the value of a name, where it has one
-abbrev pub emitted : Span → Option Val → Outcome
-emitted at (Some v) = formatted v at (default_text v)
-emitted at None = fault (not_found at)
+abbrev pub emitted : List ℕ → Span → Option Val → Outcome
+emitted source at (Some v) = formatted source v at (default_text v)
+emitted source at None = fault source (not_found at)
 
 -- a raw statement gives the source's text at its place; a name is looked up in the context, a map
 abbrev pub statement_means : List ℕ → Statement → Val → Outcome
 statement_means source (raw span) context = written (part source span)
-statement_means source (inline_expr name at span) context = emitted at (key_of name context)
+statement_means source (inline_expr name at span) context = emitted source at (key_of name context)
 
 -- the statements' texts, joined up to the first fault
 abbrev pub statements_mean : List ℕ → Statements → Val → Outcome

@@ -8,9 +8,9 @@ ghost use Rattle.upon_types.specs.Error.{fault_of};
 ghost use Rattle.upon_types.specs.Fault.{syntax, OrMemory};
 ghost use Rattle.upon_types.specs.FirstTree.{Statements};
 ghost use Rattle.upon_types.specs.View.{view};
-ghost use Rattle.upon_syntax.specs.FirstGrammar.{HasTree};
+ghost use Rattle.upon_language.specs.FirstGrammar.{HasTree};
 ghost use Rattle.upon_syntax.specs.Parsed.{unsupported};
-ghost use Rattle.upon_syntax.specs.Searcher.{default_pairs, pairs_of};
+ghost use Rattle.upon_lexer.specs.Searcher.{default_pairs, pairs_of};
 
 pub mod program;
 pub mod render;
@@ -75,7 +75,7 @@ impl<'e> Engine<'e> {
             → (tree : Statements)
             → HasTree (engine_syntax self.now) (cow_str_bytes source.entry) tree
             → ⊥) }
-        ensures fault { IfErr result (λ e. OrMemory unsupported (fault_of e)) }
+        ensures fault { IfErr result (λ e. OrMemory (unsupported (cow_str_bytes source.entry)) (fault_of e)) }
     {
         let parser = Parser::new(self.alloc, &self.searcher, source.as_str());
         let tree = parser.parse_template()?;

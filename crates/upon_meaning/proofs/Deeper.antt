@@ -1,5 +1,5 @@
 -- An outcome beside the one of a greater depth, and what keeps the two so.
-use Rattle.std.proofs.Common.{◌≡◌, ℕ, ◌+◌, List, [], ◌∷◌, ◌++◌, length, Option, Bool, true, false, refl, sym, ap, ◌∙◌, append_assoc, append-nil, subst}
+use Rattle.std.proofs.Common.{◌≡◌, ℕ, ◌+◌, List, [], ◌∷◌, ◌++◌, length, Bool, true, false, refl, sym, ap, ◌∙◌, append_assoc, append-nil, subst}
 use Rattle.upon_types.specs.Path.{Word}
 use Rattle.upon_types.specs.Val.{Val}
 use Rattle.upon_render.specs.Environment.{Binding, Environment, turn}
@@ -9,7 +9,7 @@ use Rattle.upon_meaning.specs.Alone.{on_template}
 use Rattle.upon_meaning.specs.Engine.{Template}
 use Rattle.upon_meaning.specs.Evaluation.{Evaluated}
 use Rattle.upon_meaning.specs.GreaterDepth.{GoesOn}
-use Rattle.upon_meaning.specs.Meaning.{Body, choose, each, each_of, on_value}
+use Rattle.upon_meaning.specs.Meaning.{Running, Body, choose, each, each_of, on_value}
 use Rattle.upon_meaning.specs.Outcome.{End, good, fails, too_deep, Outcome, States, after, go_on, then_do, stopped}
 
 abbrev pub IsBeginning : List ℕ → List ℕ → Type 0
@@ -69,19 +69,19 @@ module _ {Q : Type 0} where
   deeper_each f g h count index [] env q = refl
   deeper_each f g h count index (bs ∷ items) env q = deeper_then (f (turn index count bs env) q) (g (turn index count bs env) q) _ _ (h (turn index count bs env) q) (deeper_each f g h count (index + 1) items env)
 
-  pub deeper_each_of : (f g : Body Q) → ((env : Environment) (q : Q) → Deeper (f env q) (g env q)) → (name : Option (List ℕ)) (x : Found (List (List Binding))) (env : Environment) (q : Q) → Deeper (each_of f name x env q) (each_of g name x env q)
-  deeper_each_of f g h name (found items) env q = deeper_each f g h (length items) 0 items env q
-  deeper_each_of f g h name (at_fault x) env q = refl
+  pub deeper_each_of : (f g : Body Q) → ((env : Environment) (q : Q) → Deeper (f env q) (g env q)) → (from : Running) (x : Found (List (List Binding))) (env : Environment) (q : Q) → Deeper (each_of f from x env q) (each_of g from x env q)
+  deeper_each_of f g h from (found items) env q = deeper_each f g h (length items) 0 items env q
+  deeper_each_of f g h from (at_fault x) env q = refl
 
   pub deeper_choose : (test : Bool) (f f' g g' : Q → Outcome Q) → ((q : Q) → Deeper (f q) (g q)) → ((q : Q) → Deeper (f' q) (g' q)) → (q : Q) → Deeper (choose test f f' q) (choose test g g' q)
   deeper_choose true f f' g g' h k q = h q
   deeper_choose false f f' g g' h k q = k q
 
-  pub deeper_template : (name : Option (List ℕ)) (word : Word) (x : Said Template) (q : Q) (f g : Template → Q → Outcome Q) → ((t : Template) (q : Q) → Deeper (f t q) (g t q)) → Deeper (on_template name word x q f) (on_template name word x q g)
-  deeper_template name word (says t) q f g h = h t q
-  deeper_template name word (refuses x) q f g h = refl
+  pub deeper_template : (from : Running) (word : Word) (x : Said Template) (q : Q) (f g : Template → Q → Outcome Q) → ((t : Template) (q : Q) → Deeper (f t q) (g t q)) → Deeper (on_template from word x q f) (on_template from word x q g)
+  deeper_template from word (says t) q f g h = h t q
+  deeper_template from word (refuses x) q f g h = refl
 
 module _ {V T : Type 0} where
-  pub deeper_value : (name : Option (List ℕ)) (x : Found Evaluated) (s : States V T) (f g : Val → States V T → Outcome (States V T)) → ((v : Val) (s : States V T) → Deeper (f v s) (g v s)) → Deeper (on_value name x s f) (on_value name x s g)
-  deeper_value name (found o) s f g h = h o.value s
-  deeper_value name (at_fault x) s f g h = refl
+  pub deeper_value : (from : Running) (x : Found Evaluated) (s : States V T) (f g : Val → States V T → Outcome (States V T)) → ((v : Val) (s : States V T) → Deeper (f v s) (g v s)) → Deeper (on_value from x s f) (on_value from x s g)
+  deeper_value from (found o) s f g h = h o.value s
+  deeper_value from (at_fault x) s f g h = refl

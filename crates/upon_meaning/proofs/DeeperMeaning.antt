@@ -14,16 +14,16 @@ use Rattle.upon_meaning.specs.Meaning.{Running, Inclusion, condition, in_templat
 use Rattle.upon_meaning.specs.Outcome.{States}
 use Rattle.upon_meaning.proofs.Deeper.{Deeper, deeper_same, goes_on_of_deeper, stopped_deeper, deeper_then, deeper_each_of, deeper_choose, deeper_template, deeper_value}
 
-module _ {V T : Type 0} (calls : Calls V) (run : Running) (i j : Inclusion V T) (h : (name : Option (List ℕ)) (word : Word) (env : Environment) (s : States V T) → Deeper (i name word env s) (j name word env s)) where
+module _ {V T : Type 0} (calls : Calls V) (run : Running) (i j : Inclusion V T) (h : (from : Running) (word : Word) (env : Environment) (s : States V T) → Deeper (i from word env s) (j from word env s)) where
   mutual
     pub deeper_statement : (t : Statement) (env : Environment) (s : States V T) → Deeper (statement_means calls i run t env s) (statement_means calls j run t env s)
     deeper_statement (raw span) env s = refl
-    deeper_statement (inline_expr e span) env s = deeper_same (in_template run.name s.templates (emit calls e env s.values))
-    deeper_statement (include word None) env s = h run.name word env s
-    deeper_statement (include word (Some e)) env s = deeper_value run.name (evaluate calls e env s.values).answer _ _ _ (λ v s'. h run.name word (alone_over v) s')
-    deeper_statement (if_else n e a b) env s = deeper_value run.name (evaluate calls e env s.values).answer _ _ _ (λ v s'. deeper_choose (condition n v) _ _ _ _ (deeper_statements a env) (deeper_else b env) s')
-    deeper_statement (for_loop names e body) env s = deeper_value run.name (evaluate calls e env s.values).answer _ _ _ (λ v s'. deeper_each_of (statements_mean calls i run body) (statements_mean calls j run body) (deeper_statements body) run.name (items_of names v (expression_span e)) env s')
-    deeper_statement (with e word body) env s = deeper_value run.name (evaluate calls e env s.values).answer _ _ _ (λ v s'. deeper_statements body (with_name word v env) s')
+    deeper_statement (inline_expr e span) env s = deeper_same (in_template run s.templates (emit calls e env s.values))
+    deeper_statement (include word None) env s = h run word env s
+    deeper_statement (include word (Some e)) env s = deeper_value run (evaluate calls e env s.values).answer _ _ _ (λ v s'. h run word (alone_over v) s')
+    deeper_statement (if_else n e a b) env s = deeper_value run (evaluate calls e env s.values).answer _ _ _ (λ v s'. deeper_choose (condition n v) _ _ _ _ (deeper_statements a env) (deeper_else b env) s')
+    deeper_statement (for_loop names e body) env s = deeper_value run (evaluate calls e env s.values).answer _ _ _ (λ v s'. deeper_each_of (statements_mean calls i run body) (statements_mean calls j run body) (deeper_statements body) run (items_of names v (expression_span e)) env s')
+    deeper_statement (with e word body) env s = deeper_value run (evaluate calls e env s.values).answer _ _ _ (λ v s'. deeper_statements body (with_name word v env) s')
 
     pub deeper_statements : (ts : Statements) (env : Environment) (s : States V T) → Deeper (statements_mean calls i run ts env s) (statements_mean calls j run ts env s)
     deeper_statements no_statements env s = refl
@@ -34,11 +34,11 @@ module _ {V T : Type 0} (calls : Calls V) (run : Running) (i j : Inclusion V T) 
     deeper_else (otherwise body) env s = deeper_statements body env s
 
 module _ {V T : Type 0} (calls : Calls V) (resolve : Resolver T) where
-  pub deeper_included : (a b : ℕ) → a ≤ b → (name : Option (List ℕ)) (word : Word) (env : Environment) (s : States V T) → Deeper (included calls resolve a name word env s) (included calls resolve b name word env s)
-  deeper_included zero zero le name word env s = deeper_same (included calls resolve zero name word env s)
-  deeper_included zero (suc b) le name word env s = deeper_template name word (resolve s.templates word.text).answer _ _ _ (λ t s'. stopped_deeper s' (statements_mean calls (included calls resolve b) (running t (Some word.text)) t.tree env s'))
-  deeper_included (suc a) zero le name word env s = absurd (omega (arith, le))
-  deeper_included (suc a) (suc b) le name word env s = deeper_template name word (resolve s.templates word.text).answer _ _ _ (λ t s'. deeper_statements calls (running t (Some word.text)) (included calls resolve a) (included calls resolve b) (deeper_included a b (omega (arith, le))) t.tree env s')
+  pub deeper_included : (a b : ℕ) → a ≤ b → (from : Running) (word : Word) (env : Environment) (s : States V T) → Deeper (included calls resolve a from word env s) (included calls resolve b from word env s)
+  deeper_included zero zero le from word env s = deeper_same (included calls resolve zero from word env s)
+  deeper_included zero (suc b) le from word env s = deeper_template from word (resolve s.templates word.text).answer _ _ _ (λ t s'. stopped_deeper s' (statements_mean calls (included calls resolve b) (running t (Some word.text)) t.tree env s'))
+  deeper_included (suc a) zero le from word env s = absurd (omega (arith, le))
+  deeper_included (suc a) (suc b) le from word env s = deeper_template from word (resolve s.templates word.text).answer _ _ _ (λ t s'. deeper_statements calls (running t (Some word.text)) (included calls resolve a) (included calls resolve b) (deeper_included a b (omega (arith, le))) t.tree env s')
 
   -- a template in any environment
   pub deeper_template_in : (a b : ℕ) → a ≤ b → (t : Template) (name : Option (List ℕ)) (env : Environment) (s : States V T) → Deeper (statements_mean calls (included calls resolve a) (running t name) t.tree env s) (statements_mean calls (included calls resolve b) (running t name) t.tree env s)

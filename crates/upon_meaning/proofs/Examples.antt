@@ -11,3 +11,4 @@ pub mod Functions
 pub mod Formatters
 pub mod Sources
 pub mod Faults
+pub mod Pictures

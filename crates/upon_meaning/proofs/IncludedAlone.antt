@@ -18,8 +18,8 @@ left_of_depth left = omega arith
 module _ {V T : Type 0} where
   pub included_alone : (calls : Calls V) (resolve : Resolver T) (running : Running) (left : ℕ) (word : Word) (e : Expression) (env : Environment) (s : States V T) (v : Val) (t : Template) (next : States V T) → IncludeFinds calls resolve word e env s v t next → statement_means calls (included calls resolve (suc left)) running (include word (Some e)) env s ≡ alone_within calls resolve left t (Some word.text) (context v) next
   included_alone calls resolve running left word e env s v t next finds =
-      ap (λ r. with_value running.name s.templates r (λ v s'. included calls resolve (suc left) running.name word (alone_over v) s')) finds.value
-      ∙ ap (λ r. with_template running.name word next.values r (λ t s'. alone_within calls resolve left t (Some word.text) (context v) s')) finds.template
+      ap (λ r. with_value running s.templates r (λ v s'. included calls resolve (suc left) running word (alone_over v) s')) finds.value
+      ∙ ap (λ r. with_template running word next.values r (λ t s'. alone_within calls resolve left t (Some word.text) (context v) s')) finds.template
 
   pub included_of_depth : (rendering : Rendering V T) (running : Running) (left : ℕ) (word : Word) (e : Expression) (env : Environment) (s : States V T) (v : Val) (t : Template) (next : States V T) → IncludeFinds rendering.calls rendering.resolve word e env s v t next → statement_means rendering.calls (included rendering.calls rendering.resolve (suc left)) running (include word (Some e)) env s ≡ alone (record rendering { limit = suc left }) t (Some word.text) (context v) next
   included_of_depth rendering running left word e env s v t next finds =

@@ -18,6 +18,6 @@ module _ {V T : Type 0} (calls : Calls V) (include_means : Inclusion V T) (runni
   pub negated_condition : (e : Expression) (a b : Statements) (env : Environment) (s : States V T) → statement_means calls include_means running (if_else true e a (otherwise b)) env s ≡ statement_means calls include_means running (if_else false e b (otherwise a)) env s
   negated_condition e a b env s = by (evaluate calls e env s.values).answer (evaluate calls e env s.values).next
     where
-      by : (f : Found Evaluated) (q : V) → on_value running.name f (states q s.templates) (λ v s'. choose (condition true v) (statements_mean calls include_means running a env) (statements_mean calls include_means running b env) s') ≡ on_value running.name f (states q s.templates) (λ v s'. choose (condition false v) (statements_mean calls include_means running b env) (statements_mean calls include_means running a env) s')
+      by : (f : Found Evaluated) (q : V) → on_value running f (states q s.templates) (λ v s'. choose (condition true v) (statements_mean calls include_means running a env) (statements_mean calls include_means running b env) s') ≡ on_value running f (states q s.templates) (λ v s'. choose (condition false v) (statements_mean calls include_means running b env) (statements_mean calls include_means running a env) s')
       by (found o) q = ap (λ (f : States V T → Outcome (States V T)). f (states q s.templates)) (choose_negated o.value (statements_mean calls include_means running a env) (statements_mean calls include_means running b env))
       by (at_fault f) q = refl

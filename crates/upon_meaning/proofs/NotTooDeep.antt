@@ -10,8 +10,8 @@ use Rattle.upon_meaning.specs.Answers.{FormatEnd, well, refused, Formatter, Call
 use Rattle.upon_meaning.specs.Emission.{end_of, shown_or_fault, formatted_by, emitted, emit_applied, emit_value, emit, emit_base}
 use Rattle.upon_meaning.specs.Engine.{Calls}
 use Rattle.upon_meaning.specs.Evaluation.{Evaluated, values_of, answered, evaluated_then, evaluate, evaluate_base, evaluate_arguments}
-use Rattle.upon_meaning.specs.Meaning.{Body, choose, each, each_of, on_value}
-use Rattle.upon_meaning.specs.Outcome.{End, good, fails, too_deep, Outcome, States, go_on, then_do, named_end}
+use Rattle.upon_meaning.specs.Meaning.{Running, ends_in, Body, choose, each, each_of, on_value}
+use Rattle.upon_meaning.specs.Outcome.{End, good, fails, too_deep, Outcome, States, go_on, then_do}
 
 abbrev pub NotTooDeep : End → Type 0
 NotTooDeep good = Unit {0}
@@ -23,10 +23,10 @@ is_not_too_deep good h e = cc
 is_not_too_deep (fails f) h e = cc
 is_not_too_deep too_deep h e = h
 
-pub named_not_too_deep : (name : Option (List ℕ)) (end : End) → NotTooDeep end → NotTooDeep (named_end name end)
-named_not_too_deep name good h = tt
-named_not_too_deep name (fails f) h = tt
-named_not_too_deep name too_deep h = h
+pub ends_not_too_deep : (from : Running) (end : End) → NotTooDeep end → NotTooDeep (ends_in from end)
+ends_not_too_deep from good h = tt
+ends_not_too_deep from (fails f) h = tt
+ends_not_too_deep from too_deep h = h
 
 module _ {Q : Type 0} where
   by_go_on : (text : List ℕ) (end : End) (q : Q) (go : Q → Outcome Q) → NotTooDeep end → ((q : Q) → NotTooDeep (go q).end) → NotTooDeep (go_on text end q go).end
@@ -41,18 +41,18 @@ module _ {Q : Type 0} where
   each_not_too_deep body h count index [] env q = tt
   each_not_too_deep body h count index (bs ∷ items) env q = then_not_too_deep (body (turn index count bs env) q) _ (h (turn index count bs env) q) (each_not_too_deep body h count (index + 1) items env)
 
-  pub each_of_not_too_deep : (body : Body Q) → ((env : Environment) (q : Q) → NotTooDeep (body env q).end) → (name : Option (List ℕ)) (x : Found (List (List Binding))) (env : Environment) (q : Q) → NotTooDeep (each_of body name x env q).end
-  each_of_not_too_deep body h name (found items) env q = each_not_too_deep body h (length items) 0 items env q
-  each_of_not_too_deep body h name (at_fault f) env q = tt
+  pub each_of_not_too_deep : (body : Body Q) → ((env : Environment) (q : Q) → NotTooDeep (body env q).end) → (from : Running) (x : Found (List (List Binding))) (env : Environment) (q : Q) → NotTooDeep (each_of body from x env q).end
+  each_of_not_too_deep body h from (found items) env q = each_not_too_deep body h (length items) 0 items env q
+  each_of_not_too_deep body h from (at_fault f) env q = tt
 
   pub choose_not_too_deep : (test : Bool) (f g : Q → Outcome Q) → ((q : Q) → NotTooDeep (f q).end) → ((q : Q) → NotTooDeep (g q).end) → (q : Q) → NotTooDeep (choose test f g q).end
   choose_not_too_deep true f g h k q = h q
   choose_not_too_deep false f g h k q = k q
 
 module _ {V T : Type 0} where
-  pub value_not_too_deep : (name : Option (List ℕ)) (x : Found Evaluated) (s : States V T) (go : Val → States V T → Outcome (States V T)) → ((v : Val) (s : States V T) → NotTooDeep (go v s).end) → NotTooDeep (on_value name x s go).end
-  value_not_too_deep name (found o) s go h = h o.value s
-  value_not_too_deep name (at_fault f) s go h = tt
+  pub value_not_too_deep : (from : Running) (x : Found Evaluated) (s : States V T) (go : Val → States V T → Outcome (States V T)) → ((v : Val) (s : States V T) → NotTooDeep (go v s).end) → NotTooDeep (on_value from x s go).end
+  value_not_too_deep from (found o) s go h = h o.value s
+  value_not_too_deep from (at_fault f) s go h = tt
 
 -- what an expression writes ends well or with a fault
 format_not_too_deep : (end : FormatEnd) (at : Span) → NotTooDeep (end_of end at)

@@ -13,22 +13,22 @@ use Rattle.upon_meaning.specs.Evaluation.{evaluate}
 use Rattle.upon_meaning.specs.Includes.{StatementIncludes, Includes, ElseIncludes, IsNumbered}
 use Rattle.upon_meaning.specs.Meaning.{Running, Inclusion, condition, statement_means, statements_mean, else_means}
 use Rattle.upon_meaning.specs.Outcome.{too_deep, Outcome, States}
-use Rattle.upon_meaning.proofs.NotTooDeep.{NotTooDeep, is_not_too_deep, named_not_too_deep, then_not_too_deep, each_of_not_too_deep, choose_not_too_deep, value_not_too_deep, emit_not_too_deep}
+use Rattle.upon_meaning.proofs.NotTooDeep.{NotTooDeep, is_not_too_deep, ends_not_too_deep, then_not_too_deep, each_of_not_too_deep, choose_not_too_deep, value_not_too_deep, emit_not_too_deep}
 
 -- statements whose includes do not stand too deep
 module _ {V T : Type 0} (calls : Calls V) (i : Inclusion V T) (run : Running) where
   abbrev Goes : Word → Type 0
-  Goes word = (env : Environment) (s : States V T) → NotTooDeep (i run.name word env s).end
+  Goes word = (env : Environment) (s : States V T) → NotTooDeep (i run word env s).end
 
   mutual
     statement_goes : (t : Statement) → ((word : Word) → StatementIncludes word.text t → Goes word) → (env : Environment) (s : States V T) → NotTooDeep (statement_means calls i run t env s).end
     statement_goes (raw span) h env s = tt
-    statement_goes (inline_expr e span) h env s = named_not_too_deep run.name (emit calls e env s.values).end (emit_not_too_deep calls e env s.values)
+    statement_goes (inline_expr e span) h env s = ends_not_too_deep run (emit calls e env s.values).end (emit_not_too_deep calls e env s.values)
     statement_goes (include word None) h env s = h word refl env s
-    statement_goes (include word (Some e)) h env s = value_not_too_deep run.name (evaluate calls e env s.values).answer _ _ (λ v s'. h word refl (alone_over v) s')
-    statement_goes (if_else n e a b) h env s = value_not_too_deep run.name (evaluate calls e env s.values).answer _ _ (λ v s'. choose_not_too_deep (condition n v) _ _ (statements_go a (λ word is. h word (inl is)) env) (else_goes b (λ word is. h word (inr is)) env) s')
-    statement_goes (for_loop names e body) h env s = value_not_too_deep run.name (evaluate calls e env s.values).answer _ _ (λ v s'. each_of_not_too_deep (statements_mean calls i run body) (statements_go body h) run.name (items_of names v (expression_span e)) env s')
-    statement_goes (with e word body) h env s = value_not_too_deep run.name (evaluate calls e env s.values).answer _ _ (λ v s'. statements_go body h (with_name word v env) s')
+    statement_goes (include word (Some e)) h env s = value_not_too_deep run (evaluate calls e env s.values).answer _ _ (λ v s'. h word refl (alone_over v) s')
+    statement_goes (if_else n e a b) h env s = value_not_too_deep run (evaluate calls e env s.values).answer _ _ (λ v s'. choose_not_too_deep (condition n v) _ _ (statements_go a (λ word is. h word (inl is)) env) (else_goes b (λ word is. h word (inr is)) env) s')
+    statement_goes (for_loop names e body) h env s = value_not_too_deep run (evaluate calls e env s.values).answer _ _ (λ v s'. each_of_not_too_deep (statements_mean calls i run body) (statements_go body h) run (items_of names v (expression_span e)) env s')
+    statement_goes (with e word body) h env s = value_not_too_deep run (evaluate calls e env s.values).answer _ _ (λ v s'. statements_go body h (with_name word v env) s')
 
     pub statements_go : (ts : Statements) → ((word : Word) → Includes word.text ts → Goes word) → (env : Environment) (s : States V T) → NotTooDeep (statements_mean calls i run ts env s).end
     statements_go no_statements h env s = tt
@@ -42,19 +42,19 @@ module _ {V T : Type 0} (calls : Calls V) (i : Inclusion V T) (run : Running) wh
 numbered_inside : (table : Table) (number : List ℕ → ℕ) (tree : Statements) (k : ℕ) (name : List ℕ) (t : Template) → IsNumbered table number tree k → Includes name tree → table name ≡ Some t → IsNumbered table number t.tree (number name)
 numbered_inside table number tree k name t is includes holds = record { itself = is.reached name t ([], includes) holds; reached = λ other u reaches. is.reached other u (name ∷ reaches.0, (includes, (t, holds, reaches.1))) }
 
-held_not_too_deep : {Q : Type 0} (name : Option (List ℕ)) (word : Word) (x : Option Template) (q : Q) (go : Template → Q → Outcome Q) → ((t : Template) → x ≡ Some t → NotTooDeep (go t q).end) → NotTooDeep (on_template name word (held x) q go).end
-held_not_too_deep name word None q go h = tt
-held_not_too_deep name word (Some t) q go h = h t refl
+held_not_too_deep : {Q : Type 0} (from : Running) (word : Word) (x : Option Template) (q : Q) (go : Template → Q → Outcome Q) → ((t : Template) → x ≡ Some t → NotTooDeep (go t q).end) → NotTooDeep (on_template from word (held x) q go).end
+held_not_too_deep from word None q go h = tt
+held_not_too_deep from word (Some t) q go h = h t refl
 
 module _ {V T : Type 0} (calls : Calls V) (table : Table) (number : List ℕ → ℕ) where
   -- an include of a numbered tree, where at least as many includes are left as its number says
-  included_goes : (left k : ℕ) (tree : Statements) → IsNumbered table number tree k → k ≤ left → (name : Option (List ℕ)) (word : Word) → Includes word.text tree → (env : Environment) (s : States V T) → NotTooDeep (included calls (from_table table) left name word env s).end
-  included_goes zero k tree is le name word includes env s = held_not_too_deep name word (table word.text) s _ (λ t holds. absurd (omega (arith, is.itself word.text t includes holds, le)))
-  included_goes (suc left) k tree is le name word includes env s =
-      held_not_too_deep name word (table word.text) s _ (λ t holds. statements_go calls (included calls (from_table table) left) (running t (Some word.text)) t.tree (included_goes left (number word.text) t.tree (numbered_inside table number tree k word.text t is includes holds) (omega (arith, is.itself word.text t includes holds, le)) (Some word.text)) env s)
+  included_goes : (left k : ℕ) (tree : Statements) → IsNumbered table number tree k → k ≤ left → (from : Running) (word : Word) → Includes word.text tree → (env : Environment) (s : States V T) → NotTooDeep (included calls (from_table table) left from word env s).end
+  included_goes zero k tree is le from word includes env s = held_not_too_deep from word (table word.text) s _ (λ t holds. absurd (omega (arith, is.itself word.text t includes holds, le)))
+  included_goes (suc left) k tree is le from word includes env s =
+      held_not_too_deep from word (table word.text) s _ (λ t holds. statements_go calls (included calls (from_table table) left) (running t (Some word.text)) t.tree (included_goes left (number word.text) t.tree (numbered_inside table number tree k word.text t is includes holds) (omega (arith, is.itself word.text t includes holds, le)) (running t (Some word.text))) env s)
 
   pub numbered_goes : (left k : ℕ) (tree : Statements) → IsNumbered table number tree k → k ≤ left → (run : Running) (env : Environment) (s : States V T) → NotTooDeep (statements_mean calls (included calls (from_table table) left) run tree env s).end
-  numbered_goes left k tree is le run env s = statements_go calls (included calls (from_table table) left) run tree (included_goes left k tree is le run.name) env s
+  numbered_goes left k tree is le run env s = statements_go calls (included calls (from_table table) left) run tree (included_goes left k tree is le run) env s
 
 left_for_number : (k limit : ℕ) → k < limit → k ≤ includes_left limit
 left_for_number k limit above = omega (arith, above)

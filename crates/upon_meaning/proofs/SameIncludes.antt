@@ -1,5 +1,5 @@
 -- What an include means stays the same where the names that are read are found alike, and the names of includes are answered alike.
-use Rattle.std.proofs.Common.{◌≡◌, ℕ, zero, suc, List, Option, Some, refl, ◌∙◌}
+use Rattle.std.proofs.Common.{◌≡◌, ℕ, zero, suc, List, Some, refl, ◌∙◌}
 use Rattle.upon_types.specs.Path.{Word}
 use Rattle.upon_render.specs.Environment.{Environment}
 use Rattle.upon_render.specs.Source.{Said, says, refuses}
@@ -20,21 +20,21 @@ Closed {T} resolve names included_names =
     → Within (λ n. StatementsRead n t.tree) names × Within (λ n. Includes n t.tree) included_names
 
 module _ {V T : Type 0} (calls : Calls V) (names included_names : List ℕ → Type 0) (resolve resolve' : Resolver T) (closed : Closed resolve names included_names) (agree : (q : T) (name : List ℕ) → included_names name → resolve q name ≡ resolve' q name) where
-  on_answer : (name : Option (List ℕ)) (word : Word) (answer : Said Template) (go go' : Template → States V T → Outcome (States V T)) (s : States V T) → ((t : Template) → answer ≡ says t → go t s ≡ go' t s) → on_template name word answer s go ≡ on_template name word answer s go'
-  on_answer name word (says t) go go' s same = same t refl
-  on_answer name word (refuses text) go go' s same = refl
+  on_answer : (from : Running) (word : Word) (answer : Said Template) (go go' : Template → States V T → Outcome (States V T)) (s : States V T) → ((t : Template) → answer ≡ says t → go t s ≡ go' t s) → on_template from word answer s go ≡ on_template from word answer s go'
+  on_answer from word (says t) go go' s same = same t refl
+  on_answer from word (refuses text) go go' s same = refl
 
-  pub same_included : (left : ℕ) (name : Option (List ℕ)) (word : Word) → included_names word.text → (env env' : Environment) → FoundAlike calls.ask names env env' → (s : States V T) → included calls resolve left name word env s ≡ included calls resolve' left name word env' s
-  same_included zero name word is env env' alike s = λ i. with_template name word s.values (agree s.templates word.text is i) (λ t s'. stopped s')
-  same_included (suc left) name word is env env' alike s =
+  pub same_included : (left : ℕ) (from : Running) (word : Word) → included_names word.text → (env env' : Environment) → FoundAlike calls.ask names env env' → (s : States V T) → included calls resolve left from word env s ≡ included calls resolve' left from word env' s
+  same_included zero from word is env env' alike s = λ i. with_template from word s.values (agree s.templates word.text is i) (λ t s'. stopped s')
+  same_included (suc left) from word is env env' alike s =
       let go : Template → States V T → Outcome (States V T) = λ t s'. statements_mean calls (included calls resolve left) (running t (Some word.text)) t.tree env s' in
       let go' : Template → States V T → Outcome (States V T) = λ t s'. statements_mean calls (included calls resolve' left) (running t (Some word.text)) t.tree env' s' in
       let r = resolve s.templates word.text in
-      on_answer name word r.answer go go' (states s.values r.next)
+      on_answer from word r.answer go go' (states s.values r.next)
       (λ t e.
       let inside = closed s.templates word.text t is e in
       same_statements calls (running t (Some word.text)) names included_names (included calls resolve left) (included calls resolve' left) (same_included left) t.tree inside.0 inside.1 env env' alike (states s.values r.next))
-      ∙ (λ i. with_template name word s.values (agree s.templates word.text is i) go')
+      ∙ (λ i. with_template from word s.values (agree s.templates word.text is i) go')
 
 -- where all paths are found alike, a body and what it includes mean the same
 pub alike_body : {V T : Type 0} (calls : Calls V) (resolve : Resolver T) (left : ℕ) (runs : Running) (body : Statements) (env env' : Environment) → FoundAlike calls.ask Any env env' → (s : States V T) → statements_mean calls (included calls resolve left) runs body env s ≡ statements_mean calls (included calls resolve left) runs body env' s

@@ -1,5 +1,5 @@
 -- What a tree means stays the same where the names that it reads are found alike, and its includes mean the same.
-use Rattle.std.proofs.Common.{◌≡◌, ℕ, ◌+◌, List, [], ◌∷◌, length, Option, Some, None, inl, inr, refl, codes}
+use Rattle.std.proofs.Common.{◌≡◌, ℕ, ◌+◌, List, [], ◌∷◌, length, Some, None, inl, inr, refl, codes}
 use Rattle.upon_types.specs.Expression.{Expression, base, filtered, Base, var, literal, list, mapping, paren, call, Bases, no_bases, base_then, Items, no_items, item_then, Arguments, no_arguments, arguments, expression_span}
 use Rattle.upon_types.specs.Path.{Word, Selector, by_index, by_key, path_span}
 use Rattle.upon_types.specs.Tree.{Statement, raw, inline_expr, include, if_else, for_loop, with, Statements, no_statements, statement_then, Else, no_else, otherwise}
@@ -76,7 +76,7 @@ module _ {V T : Type 0} (calls : Calls V) (running : Running) (names included_na
   abbrev SameBody : (Environment → States V T → Outcome (States V T)) → (Environment → States V T → Outcome (States V T)) → Type 0
   SameBody body body' = (env env' : Environment) → Alike env env' → (s : States V T) → body env s ≡ body' env' s
 
-  module _ (body body' : Environment → States V T → Outcome (States V T)) (same : SameBody body body') (name : Option (List ℕ)) (env env' : Environment) (alike : Alike env env') where
+  module _ (body body' : Environment → States V T → Outcome (States V T)) (same : SameBody body body') (from : Running) (env env' : Environment) (alike : Alike env env') where
     same_each : (count index : ℕ) (items : List (List Binding)) (s : States V T) → each body count index items env s ≡ each body' count index items env' s
     same_each count index [] s = refl
     same_each count index (bs ∷ items) s =
@@ -85,27 +85,27 @@ module _ {V T : Type 0} (calls : Calls V) (running : Running) (names included_na
         (alike_bind calls.ask names (binding (codes "loop") (loop_state index count)) (bind_all bs env) (bind_all bs env') (alike_bind_all calls.ask names bs env env' alike)) s i)
         (λ s'. same_each count (index + 1) items s' i)
 
-    same_each_of : (items : Found (List (List Binding))) (s : States V T) → each_of body name items env s ≡ each_of body' name items env' s
+    same_each_of : (items : Found (List (List Binding))) (s : States V T) → each_of body from items env s ≡ each_of body' from items env' s
     same_each_of (found items) s = same_each (length items) 0 items s
     same_each_of (at_fault f) s = refl
 
-  module _ (same_include : (name : Option (List ℕ)) (word : Word) → included_names word.text → SameBody (inc name word) (inc' name word)) where
+  module _ (same_include : (from : Running) (word : Word) → included_names word.text → SameBody (inc from word) (inc' from word)) where
     mutual
       pub same_statement : (t : Statement) → Within (λ name. StatementReads name t) names → Within (λ name. StatementIncludes name t) included_names → SameBody (statement_means calls inc running t) (statement_means calls inc' running t)
       same_statement (raw span) h k env env' alike s = refl
-      same_statement (inline_expr e span) h k env env' alike s = λ i. in_template running.name s.templates (same_text calls names env env' alike e h s.values i)
-      same_statement (include word None) h k env env' alike s = same_include running.name word (k word.text refl) env env' alike s
+      same_statement (inline_expr e span) h k env env' alike s = λ i. in_template running s.templates (same_text calls names env env' alike e h s.values i)
+      same_statement (include word None) h k env env' alike s = same_include running word (k word.text refl) env env' alike s
       same_statement (include word (Some e)) h k env env' alike s =
-          λ i. with_value running.name s.templates (same_value calls names env env' alike e h s.values i)
-          (λ v s'. same_include running.name word (k word.text refl) (alone_over v) (alone_over v) (λ first rest q known. refl) s' i)
+          λ i. with_value running s.templates (same_value calls names env env' alike e h s.values i)
+          (λ v s'. same_include running word (k word.text refl) (alone_over v) (alone_over v) (λ first rest q known. refl) s' i)
       same_statement (if_else negated e body other) h k env env' alike s =
-          λ i. with_value running.name s.templates (same_value calls names env env' alike e (λ n r. h n (inl r)) s.values i)
+          λ i. with_value running s.templates (same_value calls names env env' alike e (λ n r. h n (inl r)) s.values i)
           (λ v s'. choose {A = States V T → Outcome (States V T)} (condition negated v) (λ z. same_statements body (λ n r. h n (inr (inl r))) (λ n r. k n (inl r)) env env' alike z i) (λ z. same_else other (λ n r. h n (inr (inr r))) (λ n r. k n (inr r)) env env' alike z i) s')
       same_statement (for_loop loop_names e body) h k env env' alike s =
-          λ i. with_value running.name s.templates (same_value calls names env env' alike e (λ n r. h n (inl r)) s.values i)
-          (λ v s'. same_each_of (statements_mean calls inc running body) (statements_mean calls inc' running body) (same_statements body (λ n r. h n (inr r)) k) running.name env env' alike (items_of loop_names v (expression_span e)) s' i)
+          λ i. with_value running s.templates (same_value calls names env env' alike e (λ n r. h n (inl r)) s.values i)
+          (λ v s'. same_each_of (statements_mean calls inc running body) (statements_mean calls inc' running body) (same_statements body (λ n r. h n (inr r)) k) running env env' alike (items_of loop_names v (expression_span e)) s' i)
       same_statement (with e word body) h k env env' alike s =
-          λ i. with_value running.name s.templates (same_value calls names env env' alike e (λ n r. h n (inl r)) s.values i)
+          λ i. with_value running s.templates (same_value calls names env env' alike e (λ n r. h n (inl r)) s.values i)
           (λ v s'. same_statements body (λ n r. h n (inr r)) k (with_name word v env) (with_name word v env') (alike_bind calls.ask names (binding word.text (plain v)) env env' alike) s' i)
 
       pub same_statements : (ts : Statements) → Within (λ name. StatementsRead name ts) names → Within (λ name. Includes name ts) included_names → SameBody (statements_mean calls inc running ts) (statements_mean calls inc' running ts)

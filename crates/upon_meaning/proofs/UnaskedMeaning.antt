@@ -41,16 +41,16 @@ module _ {V T : Type 0} (q : V) where
   choose_keeps true f g pure other h k s = h s
   choose_keeps false f g pure other h k s = k s
 
-  by_value : (name : Option (List ℕ)) (x : Found Evaluated) (s : Sourceless T) (f : Val → States V T → Outcome (States V T)) (pure : Val → Sourceless T → Outcome (Sourceless T)) → ((w : Val) → Keeps (f w) (pure w)) → on_value name x (states q s.templates) f ≡ keep_values q (on_value name x s pure)
-  by_value name (found o) s f pure h = h o.value s
-  by_value name (at_fault x) s f pure h = refl
+  by_value : (from : Running) (x : Found Evaluated) (s : Sourceless T) (f : Val → States V T → Outcome (States V T)) (pure : Val → Sourceless T → Outcome (Sourceless T)) → ((w : Val) → Keeps (f w) (pure w)) → on_value from x (states q s.templates) f ≡ keep_values q (on_value from x s pure)
+  by_value from (found o) s f pure h = h o.value s
+  by_value from (at_fault x) s f pure h = refl
 
-  value_keeps : (name : Option (List ℕ)) (templates : T) (r : Reply V (Found Evaluated)) (o : Reply (Unit {0}) (Found Evaluated)) (f : Val → States V T → Outcome (States V T)) (pure : Val → Sourceless T → Outcome (Sourceless T)) → r ≡ keep q o → ((w : Val) → Keeps (f w) (pure w)) → with_value name templates r f ≡ keep_values q (with_value name templates o pure)
-  value_keeps name templates r o f pure e h = ap (λ r. with_value name templates r f) e ∙ by_value name o.answer (states o.next templates) f pure h
+  value_keeps : (from : Running) (templates : T) (r : Reply V (Found Evaluated)) (o : Reply (Unit {0}) (Found Evaluated)) (f : Val → States V T → Outcome (States V T)) (pure : Val → Sourceless T → Outcome (Sourceless T)) → r ≡ keep q o → ((w : Val) → Keeps (f w) (pure w)) → with_value from templates r f ≡ keep_values q (with_value from templates o pure)
+  value_keeps from templates r o f pure e h = ap (λ r. with_value from templates r f) e ∙ by_value from o.answer (states o.next templates) f pure h
 
-  template_keeps : (name : Option (List ℕ)) (word : Word) (x : Said Template) (s : Sourceless T) (f : Template → States V T → Outcome (States V T)) (pure : Template → Sourceless T → Outcome (Sourceless T)) → ((t : Template) → Keeps (f t) (pure t)) → on_template name word x (states q s.templates) f ≡ keep_values q (on_template name word x s pure)
-  template_keeps name word (says t) s f pure h = h t s
-  template_keeps name word (refuses x) s f pure h = refl
+  template_keeps : (from : Running) (word : Word) (x : Said Template) (s : Sourceless T) (f : Template → States V T → Outcome (States V T)) (pure : Template → Sourceless T → Outcome (Sourceless T)) → ((t : Template) → Keeps (f t) (pure t)) → on_template from word x (states q s.templates) f ≡ keep_values q (on_template from word x s pure)
+  template_keeps from word (says t) s f pure h = h t s
+  template_keeps from word (refuses x) s f pure h = refl
 
   module _ (v : Val) where
     -- two bodies that give the same under any bindings over the context
@@ -62,25 +62,25 @@ module _ {V T : Type 0} (q : V) where
     each_keeps body pure h count index (bs ∷ items) bindings s =
         let inner : List Binding = binding (codes "loop") (loop_state index count) ∷ (bs ++ bindings) in then_keeps (body (above inner v) (states q s.templates)) (pure (above inner v) s) _ _ (h inner s) (each_keeps body pure h count (index + 1) items bindings)
 
-    each_of_keeps : (body : Body (States V T)) (pure : Body (Sourceless T)) → BodyKeeps body pure → (name : Option (List ℕ)) (x : Found (List (List Binding))) (bindings : List Binding) → Keeps (each_of body name x (above bindings v)) (each_of pure name x (above bindings v))
-    each_of_keeps body pure h name (found items) bindings s = each_keeps body pure h (length items) 0 items bindings s
-    each_of_keeps body pure h name (at_fault x) bindings s = refl
+    each_of_keeps : (body : Body (States V T)) (pure : Body (Sourceless T)) → BodyKeeps body pure → (from : Running) (x : Found (List (List Binding))) (bindings : List Binding) → Keeps (each_of body from x (above bindings v)) (each_of pure from x (above bindings v))
+    each_of_keeps body pure h from (found items) bindings s = each_keeps body pure h (length items) 0 items bindings s
+    each_of_keeps body pure h from (at_fault x) bindings s = refl
 
 -- includes that give the same over any context
 abbrev InclusionKeeps : {V T : Type 0} → V → Inclusion V T → Inclusion (Unit {0}) T → Type 0
-InclusionKeeps q i pure = (name : Option (List ℕ)) (word : Word) (v : Val) → BodyKeeps q v (i name word) (pure name word)
+InclusionKeeps q i pure = (from : Running) (word : Word) (v : Val) → BodyKeeps q v (i from word) (pure from word)
 
 module _ {V T : Type 0} (calls : Calls V) (i : Inclusion V T) (pure : Inclusion (Unit {0}) T) (q : V) (same : InclusionKeeps q i pure) (run : Running) (v : Val) where
   mutual
     statement_keeps : (t : Statement) (bindings : List Binding) (s : Sourceless T) → statement_means calls i run t (above bindings v) (states q s.templates) ≡ keep_values q (statement_means (sourceless calls) pure run t (above bindings v) s)
     statement_keeps (raw span) bindings s = refl
-    statement_keeps (inline_expr e span) bindings s = ap (in_template run.name s.templates) (emit_keeps calls bindings v q e s.values)
-    statement_keeps (include word None) bindings s = same run.name word v bindings s
-    statement_keeps (include word (Some e)) bindings s = value_keeps q run.name s.templates _ _ _ _ (evaluate_keeps calls bindings v q e s.values) (λ w. same run.name word w [])
-    statement_keeps (if_else n e a b) bindings s = value_keeps q run.name s.templates _ _ _ _ (evaluate_keeps calls bindings v q e s.values) (λ w. choose_keeps q (condition n w) _ _ _ _ (statements_keep a bindings) (else_keeps b bindings))
+    statement_keeps (inline_expr e span) bindings s = ap (in_template run s.templates) (emit_keeps calls bindings v q e s.values)
+    statement_keeps (include word None) bindings s = same run word v bindings s
+    statement_keeps (include word (Some e)) bindings s = value_keeps q run s.templates _ _ _ _ (evaluate_keeps calls bindings v q e s.values) (λ w. same run word w [])
+    statement_keeps (if_else n e a b) bindings s = value_keeps q run s.templates _ _ _ _ (evaluate_keeps calls bindings v q e s.values) (λ w. choose_keeps q (condition n w) _ _ _ _ (statements_keep a bindings) (else_keeps b bindings))
     statement_keeps (for_loop names e body) bindings s =
-        value_keeps q run.name s.templates _ _ _ _ (evaluate_keeps calls bindings v q e s.values) (λ w. each_of_keeps q v (statements_mean calls i run body) (statements_mean (sourceless calls) pure run body) (statements_keep body) run.name (items_of names w (expression_span e)) bindings)
-    statement_keeps (with e word body) bindings s = value_keeps q run.name s.templates _ _ _ _ (evaluate_keeps calls bindings v q e s.values) (λ w. statements_keep body (binding word.text (plain w) ∷ bindings))
+        value_keeps q run s.templates _ _ _ _ (evaluate_keeps calls bindings v q e s.values) (λ w. each_of_keeps q v (statements_mean calls i run body) (statements_mean (sourceless calls) pure run body) (statements_keep body) run (items_of names w (expression_span e)) bindings)
+    statement_keeps (with e word body) bindings s = value_keeps q run s.templates _ _ _ _ (evaluate_keeps calls bindings v q e s.values) (λ w. statements_keep body (binding word.text (plain w) ∷ bindings))
 
     statements_keep : (ts : Statements) (bindings : List Binding) (s : Sourceless T) → statements_mean calls i run ts (above bindings v) (states q s.templates) ≡ keep_values q (statements_mean (sourceless calls) pure run ts (above bindings v) s)
     statements_keep no_statements bindings s = refl
@@ -92,8 +92,8 @@ module _ {V T : Type 0} (calls : Calls V) (i : Inclusion V T) (pure : Inclusion 
 
 module _ {V T : Type 0} (calls : Calls V) (resolve : Resolver T) where
   included_keeps : (left : ℕ) (q : V) → InclusionKeeps q (included calls resolve left) (included (sourceless calls) resolve left)
-  included_keeps zero q name word v bindings s = template_keeps q name word (resolve s.templates word.text).answer (states s.values (resolve s.templates word.text).next) _ _ (λ t s'. refl)
-  included_keeps (suc left) q name word v bindings s = template_keeps q name word (resolve s.templates word.text).answer (states s.values (resolve s.templates word.text).next) _ _ (λ t. statements_keep calls (included calls resolve left) (included (sourceless calls) resolve left) q (included_keeps left q) (running t (Some word.text)) v t.tree bindings)
+  included_keeps zero q from word v bindings s = template_keeps q from word (resolve s.templates word.text).answer (states s.values (resolve s.templates word.text).next) _ _ (λ t s'. refl)
+  included_keeps (suc left) q from word v bindings s = template_keeps q from word (resolve s.templates word.text).answer (states s.values (resolve s.templates word.text).next) _ _ (λ t. statements_keep calls (included calls resolve left) (included (sourceless calls) resolve left) q (included_keeps left q) (running t (Some word.text)) v t.tree bindings)
 
   -- a template under any bindings over a context
   pub template_in_keeps : (left : ℕ) (t : Template) (name : Option (List ℕ)) (bindings : List Binding) (v : Val) (s : States V T) → statements_mean calls (included calls resolve left) (running t name) t.tree (above bindings v) s ≡ keep_values s.values (statements_mean (sourceless calls) (included (sourceless calls) resolve left) (running t name) t.tree (above bindings v) (states tt s.templates))

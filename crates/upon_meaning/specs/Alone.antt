@@ -8,27 +8,27 @@ use Rattle.upon_render.specs.LookupFaults.{wrong}
 use Rattle.upon_render.specs.Source.{Said, says, refuses}
 use Rattle.upon_meaning.specs.CallFaults.{depth_reached}
 use Rattle.upon_meaning.specs.Engine.{Template, Calls, Resolver, Rendering}
-use Rattle.upon_meaning.specs.Meaning.{Running, Inclusion, statements_mean}
-use Rattle.upon_meaning.specs.Outcome.{End, good, fails, too_deep, Outcome, States, states, fault, stopped, named_as}
+use Rattle.upon_meaning.specs.Meaning.{Running, told_in, Inclusion, statements_mean}
+use Rattle.upon_meaning.specs.Outcome.{End, good, fails, too_deep, Outcome, States, states, fault, stopped}
 
 abbrev pub running : Template → Option (List ℕ) → Running
 running t name = record { source = t.source; name = name }
 
 -- a name that is not answered is a fault of the template that runs, at the include's string
-abbrev pub on_template : {Q : Type 0} → Option (List ℕ) → Word → Said Template → Q → (Template → Q → Outcome Q) → Outcome Q
-on_template name word (says t) q go = go t q
-on_template name word (refuses text) q go = fault (named_as name (wrong text word.span)) q
+abbrev pub on_template : {Q : Type 0} → Running → Word → Said Template → Q → (Template → Q → Outcome Q) → Outcome Q
+on_template from word (says t) q go = go t q
+on_template from word (refuses text) q go = fault (told_in from (wrong text word.span)) q
 
-abbrev pub with_template : {V T : Type 0} → Option (List ℕ) → Word → V → Reply T (Said Template) → (Template → States V T → Outcome (States V T)) → Outcome (States V T)
-with_template name word values r go = on_template name word r.answer (states values r.next) go
+abbrev pub with_template : {V T : Type 0} → Running → Word → V → Reply T (Said Template) → (Template → States V T → Outcome (States V T)) → Outcome (States V T)
+with_template from word values r go = on_template from word r.answer (states values r.next) go
 
 module _ {V T : Type 0} (calls : Calls V) (resolve : Resolver T) where
   -- The name is answered first; then it is tested whether one more include may stand inside those that run. The template that is
   -- included runs in the environment that it is given, under its own text and the include's name.
   abbrev pub included : ℕ → Inclusion V T
-  included zero name word env s = with_template name word s.values (resolve s.templates word.text) (λ t s'. stopped s')
-  included (suc left) name word env s =
-      with_template name word s.values (resolve s.templates word.text) (λ t s'. statements_mean calls (included left) (running t (Some word.text)) t.tree env s')
+  included zero from word env s = with_template from word s.values (resolve s.templates word.text) (λ t s'. stopped s')
+  included (suc left) from word env s =
+      with_template from word s.values (resolve s.templates word.text) (λ t s'. statements_mean calls (included left) (running t (Some word.text)) t.tree env s')
 
   -- a template by itself over a root, where so many includes may stand one inside another
   abbrev pub alone_within : ℕ → Template → Option (List ℕ) → Root → States V T → Outcome (States V T)

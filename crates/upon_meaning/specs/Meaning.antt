@@ -2,6 +2,7 @@
 use Rattle.std.specs.Prelude.{ℕ, ◌+◌, List, [], ◌∷◌, length, not, Option, Some, None, Bool, true, false}
 use Rattle.upon_types.specs.declared.types.Span.{Span}
 use Rattle.upon_types.specs.Expression.{expression_span}
+use Rattle.upon_types.specs.Fault.{Fault, shown_in}
 use Rattle.upon_types.specs.Path.{Word, LoopNames}
 use Rattle.upon_types.specs.Place.{part}
 use Rattle.upon_types.specs.Tree.{Statement, raw, inline_expr, include, if_else, for_loop, with, Statements, no_statements, statement_then, Else, no_else, otherwise}
@@ -13,32 +14,41 @@ use Rattle.upon_render.specs.Truth.{truth}
 use Rattle.upon_meaning.specs.Emission.{emit}
 use Rattle.upon_meaning.specs.Engine.{Calls}
 use Rattle.upon_meaning.specs.Evaluation.{Evaluated, evaluate}
-use Rattle.upon_meaning.specs.Outcome.{Outcome, States, states, written, fault, then_do, named_as, named_end}
+use Rattle.upon_meaning.specs.Outcome.{End, good, fails, too_deep, Outcome, States, states, written, fault, then_do}
 
 -- the template that runs: its text, and its name where it has one
 pub record Running : Type 0 where
   pub source : List ℕ
   pub name : Option (List ℕ)
 
--- what an include of a name gives in an environment, where the template of this name runs, if it has one
+-- a fault bears the running template's name and shows its text; that includes stand too deep is told without either
+abbrev pub told_in : Running → Fault → Fault
+told_in running f = record (shown_in running.source f) { name = running.name }
+
+abbrev pub ends_in : Running → End → End
+ends_in running good = good
+ends_in running (fails f) = fails (told_in running f)
+ends_in running too_deep = too_deep
+
+-- what an include of a name gives in an environment, where this template runs
 abbrev pub Inclusion : Type 0 → Type 0 → Type 0
-Inclusion V T = Option (List ℕ) → Word → Environment → States V T → Outcome (States V T)
+Inclusion V T = Running → Word → Environment → States V T → Outcome (States V T)
 
 -- what a body gives in an environment
 abbrev pub Body : Type 0 → Type 0
 Body Q = Environment → Q → Outcome Q
 
--- what an expression writes, in the template of this name; the template source is not asked
-abbrev pub in_template : {V T : Type 0} → Option (List ℕ) → T → Outcome V → Outcome (States V T)
-in_template name templates o = record { text = o.text; end = named_end name o.end; next = states o.next templates }
+-- what an expression writes, in the template that runs; the template source is not asked
+abbrev pub in_template : {V T : Type 0} → Running → T → Outcome V → Outcome (States V T)
+in_template running templates o = record { text = o.text; end = ends_in running o.end; next = states o.next templates }
 
--- on with a value, or its fault in the template of this name
-abbrev pub on_value : {V T : Type 0} → Option (List ℕ) → Found Evaluated → States V T → (Val → States V T → Outcome (States V T)) → Outcome (States V T)
-on_value name (found o) s go = go o.value s
-on_value name (at_fault f) s go = fault (named_as name f) s
+-- on with a value, or its fault in the template that runs
+abbrev pub on_value : {V T : Type 0} → Running → Found Evaluated → States V T → (Val → States V T → Outcome (States V T)) → Outcome (States V T)
+on_value running (found o) s go = go o.value s
+on_value running (at_fault f) s go = fault (told_in running f) s
 
-abbrev pub with_value : {V T : Type 0} → Option (List ℕ) → T → Reply V (Found Evaluated) → (Val → States V T → Outcome (States V T)) → Outcome (States V T)
-with_value name templates r go = on_value name r.answer (states r.next templates) go
+abbrev pub with_value : {V T : Type 0} → Running → T → Reply V (Found Evaluated) → (Val → States V T → Outcome (States V T)) → Outcome (States V T)
+with_value running templates r go = on_value running r.answer (states r.next templates) go
 
 -- one of two, and then on
 abbrev pub choose : {A : Type 0} → Bool → A → A → A
@@ -54,28 +64,28 @@ abbrev pub each : {Q : Type 0} → Body Q → ℕ → ℕ → List (List Binding
 each body count index [] env q = written [] q
 each body count index (bs ∷ items) env q = then_do (body (turn index count bs env) q) (λ q'. each body count (index + 1) items env q')
 
-abbrev pub each_of : {Q : Type 0} → Body Q → Option (List ℕ) → Found (List (List Binding)) → Environment → Q → Outcome Q
-each_of body name (found items) env q = each body (length items) 0 items env q
-each_of body name (at_fault f) env q = fault (named_as name f) q
+abbrev pub each_of : {Q : Type 0} → Body Q → Running → Found (List (List Binding)) → Environment → Q → Outcome Q
+each_of body running (found items) env q = each body (length items) 0 items env q
+each_of body running (at_fault f) env q = fault (told_in running f) q
 
 -- a loop over a value, whose expression stands here
-abbrev pub over : {Q : Type 0} → Body Q → Option (List ℕ) → LoopNames → Span → Environment → Val → Q → Outcome Q
-over body name names at env v q = each_of body name (items_of names v at) env q
+abbrev pub over : {Q : Type 0} → Body Q → Running → LoopNames → Span → Environment → Val → Q → Outcome Q
+over body running names at env v q = each_of body running (items_of names v at) env q
 
 module _ {V T : Type 0} (calls : Calls V) (include_means : Inclusion V T) (running : Running) where
   abbrev mutual
     pub statement_means : Statement → Body (States V T)
     statement_means (raw span) env s = written (part running.source span) s
-    statement_means (inline_expr e span) env s = in_template running.name s.templates (emit calls e env s.values)
-    statement_means (include word None) env s = include_means running.name word env s
+    statement_means (inline_expr e span) env s = in_template running s.templates (emit calls e env s.values)
+    statement_means (include word None) env s = include_means running word env s
     statement_means (include word (Some e)) env s =
-        with_value running.name s.templates (evaluate calls e env s.values) (λ v s'. include_means running.name word (alone_over v) s')
+        with_value running s.templates (evaluate calls e env s.values) (λ v s'. include_means running word (alone_over v) s')
     statement_means (if_else negated e body other) env s =
-        with_value running.name s.templates (evaluate calls e env s.values) (λ v s'. choose (condition negated v) (statements_mean body env) (else_means other env) s')
+        with_value running s.templates (evaluate calls e env s.values) (λ v s'. choose (condition negated v) (statements_mean body env) (else_means other env) s')
     statement_means (for_loop names e body) env s =
-        with_value running.name s.templates (evaluate calls e env s.values) (λ v s'. over (statements_mean body) running.name names (expression_span e) env v s')
+        with_value running s.templates (evaluate calls e env s.values) (λ v s'. over (statements_mean body) running names (expression_span e) env v s')
     statement_means (with e word body) env s =
-        with_value running.name s.templates (evaluate calls e env s.values) (λ v s'. statements_mean body (with_name word v env) s')
+        with_value running s.templates (evaluate calls e env s.values) (λ v s'. statements_mean body (with_name word v env) s')
 
     -- joined up to the first fault
     pub statements_mean : Statements → Body (States V T)

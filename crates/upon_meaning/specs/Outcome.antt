@@ -1,5 +1,5 @@
 -- What comes out of a part of a template: a text, how it ends, and the next state of what was asked.
-use Rattle.std.specs.Prelude.{ℕ, List, [], ◌++◌, Option}
+use Rattle.std.specs.Prelude.{ℕ, List, [], ◌++◌}
 use Rattle.upon_types.specs.Fault.{Fault}
 
 -- well, with a fault, or where an include would stand too deep inside others
@@ -45,12 +45,3 @@ go_on text too_deep q go = record { text = text; end = too_deep; next = q }
 -- one outcome and then another, up to the first fault
 abbrev pub then_do : {Q : Type 0} → Outcome Q → (Q → Outcome Q) → Outcome Q
 then_do first second = go_on first.text first.end first.next second
-
--- a fault bears the running template's name; that includes stand too deep is told without one
-abbrev pub named_as : Option (List ℕ) → Fault → Fault
-named_as name f = record f { name = name }
-
-abbrev pub named_end : Option (List ℕ) → End → End
-named_end name good = good
-named_end name (fails f) = fails (named_as name f)
-named_end name too_deep = too_deep

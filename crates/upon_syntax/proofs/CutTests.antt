@@ -1,8 +1,8 @@
 -- Whether a text is cut into given tokens, as a test that computes.
 use Rattle.std.proofs.Common.{◌≡◌, ◌⊎◌, inl, inr, ℕ, zero, suc, ◌+◌, ◌==◌, ◌&&◌, ◌||◌, nat_lt, nat_le, List, length, Bool, true, false, Option, Some, None, refl, subst, arith, if◌then◌else◌}
 use Rattle.upon_types.specs.declared.types.Delimiter.{Delimiter}
-use Rattle.upon_syntax.specs.Search.{Pair, text_at, kind_at, NoneFrom, Stands}
-use Rattle.upon_syntax.specs.Raw.{IsRaw}
+use Rattle.upon_language.specs.Search.{Pair, text_at, kind_at, NoneFrom, Stands}
+use Rattle.upon_language.specs.Raw.{IsRaw}
 use Rattle.upon_syntax.proofs.Tests.{left_true, right_true, each_below, each_below_passes, none_test, none_tested, best_test, best_tested}
 
 pub same_number : (a b : ℕ) → (a == b) ≡ true → a ≡ b

@@ -1,11 +1,11 @@
 -- Whether a text has a given tree, as a test that computes.
 use Rattle.std.proofs.Common.{◌≡◌, ℕ, ◌&&◌, List, [], ◌∷◌, Bool, true, false, Some, None, refl}
 use Rattle.upon_types.specs.Tree.{Statements}
-use Rattle.upon_syntax.specs.Search.{Pair}
-use Rattle.upon_syntax.specs.Cut.{Lexeme, outside}
-use Rattle.upon_syntax.specs.Shown.{shown_lexemes}
-use Rattle.upon_syntax.specs.Tokens.{significant}
-use Rattle.upon_syntax.specs.Grammar.{HasTree}
+use Rattle.upon_language.specs.Search.{Pair}
+use Rattle.upon_language.specs.Cut.{Lexeme, outside}
+use Rattle.upon_language.specs.Shown.{shown_lexemes}
+use Rattle.upon_language.specs.Tokens.{significant}
+use Rattle.upon_language.specs.Grammar.{HasTree}
 use Rattle.upon_syntax.proofs.Tests.{left_true, right_true}
 use Rattle.upon_syntax.proofs.WholeCut.{cut_test, cut_tested}
 use Rattle.upon_syntax.proofs.ReadTokens.{Left}

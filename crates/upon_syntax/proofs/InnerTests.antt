@@ -7,10 +7,10 @@ use Rattle.unicode_ident.specs.Ident.{is_xid_continue}
 use Rattle.upon_types.specs.declared.types.token.Token.{Token}
 use Rattle.upon_types.specs.declared.types.token.Token.TheVariants.{Raw, BeginExpr, EndExpr, BeginBlock, EndBlock, BeginComment, EndComment, OpenBracket, CloseBracket, OpenBrace, CloseBrace, OpenParen, CloseParen, Dot, QuestionDot, Pipe, Comma, Colon, Plus, Minus, Whitespace, Keyword, Ident, Index, Number, String}
 use Rattle.upon_types.specs.Place.{part}
-use Rattle.upon_syntax.specs.Search.{Pair, Occurs}
-use Rattle.upon_syntax.specs.Words.{EachPasses, IsRun, is_tag_space, is_keyword}
-use Rattle.upon_syntax.specs.Inside.{kind_by, continues_number, Piece, plain, escaped, is_piece, EachIsPiece, quoted, IsQuoted, Extent, begins_as, IsInner}
-use Rattle.upon_syntax.specs.OneRun.{one_char, char_has_bytes}
+use Rattle.upon_language.specs.Search.{Pair, Occurs}
+use Rattle.upon_language.specs.Words.{EachPasses, IsRun, is_tag_space, is_keyword}
+use Rattle.upon_language.specs.Inside.{kind_by, continues_number, Piece, plain, escaped, is_piece, EachIsPiece, quoted, IsQuoted, Extent, begins_as, IsInner}
+use Rattle.upon_language.specs.OneRun.{one_char, char_has_bytes}
 use Rattle.upon_syntax.proofs.Tests.{left_true, right_true, occurs_test, occurs_tested, none_test, none_tested}
 use Rattle.upon_syntax.proofs.TokenTests.{is_token, is_token_tested}
 use Rattle.upon_syntax.proofs.CutTests.{same_number}

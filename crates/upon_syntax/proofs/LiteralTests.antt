@@ -5,7 +5,7 @@ use Rattle.std.proofs.lemmas.Bool.Decides.{Decides-int_eq}
 use Rattle.std.proofs.lemmas.Slice.Eq.{bytes_eq-Decides}
 use Rattle.std.specs.Int.{w64}
 use Rattle.std.specs.Ordering.{int_eq}
-use Rattle.upon_syntax.specs.Literal.{sum_of_digits, digits_in, based, signed, IsInteger, IsIndex, text_of_pieces, IsText}
+use Rattle.upon_language.specs.Literal.{sum_of_digits, digits_in, based, signed, IsInteger, IsIndex, text_of_pieces, IsText}
 use Rattle.upon_syntax.proofs.Tests.{left_true, right_true, occurs_tested}
 use Rattle.upon_syntax.proofs.CutTests.{same_number}
 use Rattle.upon_syntax.proofs.InnerTests.{each_piece, quoted_by, pieces_between}

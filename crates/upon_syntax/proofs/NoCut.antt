@@ -3,15 +3,15 @@ use Rattle.std.proofs.Common.{◌≡◌, inl, inr, ℕ, ◌==◌, ◌&&◌, ◌|
 use Rattle.std.proofs.lemmas.Bool.{ltb-true}
 use Rattle.upon_types.specs.declared.types.Delimiter.{Delimiter}
 use Rattle.upon_types.specs.Tree.{Statements}
-use Rattle.upon_syntax.specs.Searcher.{default_pairs}
-use Rattle.upon_syntax.specs.Reading.{ReadsTo}
-use Rattle.upon_syntax.specs.Search.{Pair, HasTexts, Stands}
-use Rattle.upon_syntax.specs.Delimiters.{Sort, expression, block, comment, begun, ended}
-use Rattle.upon_syntax.specs.Cut.{Lexeme, Mode, outside, in_tag, in_comment, mode_after, Cut}
-use Rattle.upon_syntax.specs.Grammar.{HasTree}
-use Rattle.upon_syntax.specs.OneDelimiter.{one_stands, not_bare}
-use Rattle.upon_syntax.specs.OneRaw.{raw_is_no_delimiter}
-use Rattle.upon_syntax.specs.OneCut.{NoStep, no_cut_inside, no_cut}
+use Rattle.upon_lexer.specs.Searcher.{default_pairs}
+use Rattle.upon_language.specs.Reading.{ReadsTo}
+use Rattle.upon_language.specs.Search.{Pair, HasTexts, Stands}
+use Rattle.upon_language.specs.Delimiters.{Sort, expression, block, comment, begun, ended}
+use Rattle.upon_language.specs.Cut.{Lexeme, Mode, outside, in_tag, in_comment, mode_after, Cut}
+use Rattle.upon_language.specs.Grammar.{HasTree}
+use Rattle.upon_language.proofs.OneDelimiter.{one_stands, not_bare}
+use Rattle.upon_language.proofs.OneRaw.{raw_is_no_delimiter}
+use Rattle.upon_language.proofs.OneCut.{NoStep, no_cut_inside, no_cut}
 use Rattle.upon_syntax.proofs.Tests.{left_true, right_true}
 use Rattle.upon_syntax.proofs.CutTests.{same_number, stands_test, stands_tested}
 use Rattle.upon_syntax.proofs.TokenTests.{is_sort}

@@ -10,11 +10,11 @@ use Rattle.upon_types.specs.Val.{Val, none_val, bool_val, int_val, text_val, lis
 use Rattle.upon_types.specs.Path.{Step}
 use Rattle.upon_types.specs.Expression.{Expression, base, filtered, Base, var, literal, list, mapping, paren, call}
 use Rattle.upon_types.specs.Tree.{Statement, raw, inline_expr, include, if_else, for_loop, with, no_statements, statement_then}
-use Rattle.upon_syntax.specs.Cut.{Lexeme}
-use Rattle.upon_syntax.specs.Literal.{IsInteger}
-use Rattle.upon_syntax.specs.Tokens.{Goes}
-use Rattle.upon_syntax.specs.Expressions.{op_token, sign_token, IsBareName, IsStep, IsLiteral, IsBase, IsExpression}
-use Rattle.upon_syntax.specs.Grammar.{IsStatement}
+use Rattle.upon_language.specs.Cut.{Lexeme}
+use Rattle.upon_language.specs.Literal.{IsInteger}
+use Rattle.upon_language.specs.Tokens.{Goes}
+use Rattle.upon_language.specs.Expressions.{op_token, sign_token, IsBareName, IsStep, IsLiteral, IsBase, IsExpression}
+use Rattle.upon_language.specs.Grammar.{IsStatement}
 use Rattle.upon_syntax.proofs.NoTree.{NothingReads, first_goes, first_is, by_block}
 
 -- the text of the token stands for an integer

@@ -3,12 +3,12 @@ use Rattle.std.proofs.Common.{◌≡◌, ℕ, inl, inr, true, List, sym, ap, ◌
 use Rattle.upon_types.specs.declared.types.Span.{Span}
 use Rattle.upon_types.specs.declared.types.Delimiter.TheVariants.{BeginExpr, EndExpr}
 use Rattle.upon_types.specs.Place.{part}
-use Rattle.upon_syntax.specs.Search.{Pair, Stands}
-use Rattle.upon_syntax.specs.Words.{is_keyword}
-use Rattle.upon_syntax.specs.FirstGrammar.{IsSpace, IsGap, IsName}
-use Rattle.upon_syntax.specs.FirstGrammar.{IsTag}
-use Rattle.upon_syntax.specs.OneDelimiter.{one_stands, not_bare}
-use Rattle.upon_syntax.specs.OneTag.{space_is_no_name, one_name}
+use Rattle.upon_language.specs.Search.{Pair, Stands}
+use Rattle.upon_language.specs.Words.{is_keyword}
+use Rattle.upon_language.specs.FirstGrammar.{IsSpace, IsGap, IsName}
+use Rattle.upon_language.specs.FirstGrammar.{IsTag}
+use Rattle.upon_language.proofs.OneDelimiter.{one_stands, not_bare}
+use Rattle.upon_language.proofs.OneTag.{space_is_no_name, one_name}
 
 module _ (pairs : List Pair) (s : List ℕ) where
   -- the longest gap before a name ends where the name begins

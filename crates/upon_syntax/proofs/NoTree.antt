@@ -4,12 +4,12 @@ use Rattle.upon_types.specs.declared.types.Span.{Span}
 use Rattle.upon_types.specs.declared.types.token.Token.{Token}
 use Rattle.upon_types.specs.declared.types.token.Token.TheVariants.{Raw, BeginExpr, BeginBlock}
 use Rattle.upon_types.specs.Tree.{Statement, raw, inline_expr, include, if_else, for_loop, with, Statements, no_statements, statement_then}
-use Rattle.upon_syntax.specs.Search.{Pair, HasTexts}
-use Rattle.upon_syntax.specs.Cut.{Lexeme, outside}
-use Rattle.upon_syntax.specs.Shown.{shown_lexemes}
-use Rattle.upon_syntax.specs.Tokens.{significant, Goes}
-use Rattle.upon_syntax.specs.Grammar.{BeginsBlock, IsStatement, AreStatements, HasTree}
-use Rattle.upon_syntax.specs.OneCut.{one_cut}
+use Rattle.upon_language.specs.Search.{Pair, HasTexts}
+use Rattle.upon_language.specs.Cut.{Lexeme, outside}
+use Rattle.upon_language.specs.Shown.{shown_lexemes}
+use Rattle.upon_language.specs.Tokens.{significant, Goes}
+use Rattle.upon_language.specs.Grammar.{BeginsBlock, IsStatement, AreStatements, HasTree}
+use Rattle.upon_language.proofs.OneCut.{one_cut}
 use Rattle.upon_syntax.proofs.WholeCut.{cut_test, cut_tested}
 
 -- no tree reads from the tokens

@@ -4,8 +4,8 @@ use Rattle.upon_types.specs.declared.types.Span.{Span}
 use Rattle.upon_types.specs.declared.types.token.Token.TheVariants.{OpenBracket, CloseBracket, OpenBrace, CloseBrace, OpenParen, CloseParen, Pipe, Comma, Colon}
 use Rattle.upon_types.specs.Path.{Step}
 use Rattle.upon_types.specs.Expression.{Expression, base, filtered, Base, var, literal, list, mapping, paren, call, Bases, no_bases, base_then, Items, no_items, item_then, Arguments, no_arguments, arguments, expression_span}
-use Rattle.upon_syntax.specs.Cut.{Lexeme}
-use Rattle.upon_syntax.specs.Expressions.{IsBareName, IsStep, last_end, filter_end, IsBase, IsListBody, IsListTail, IsMapBody, IsMapTail, IsCallBody, IsArgs, IsMoreArgs, IsExpression, IsFilterArgs}
+use Rattle.upon_language.specs.Cut.{Lexeme}
+use Rattle.upon_language.specs.Expressions.{IsBareName, IsStep, last_end, filter_end, IsBase, IsListBody, IsListTail, IsMapBody, IsMapTail, IsCallBody, IsArgs, IsMoreArgs, IsExpression, IsFilterArgs}
 use Rattle.upon_syntax.proofs.CutTests.{same_number}
 use Rattle.upon_syntax.proofs.ReadTokens.{Left, then_read, when, or_read, both_read, read_when, one_read, first_span, same_span, one_span, read_by, goes_read, by_read, read_name, read_text, name_read, text_read}
 use Rattle.upon_syntax.proofs.ReadParts.{read_step, step_read, read_bare, bare_read, read_steps, steps_read, read_literal, literal_read, read_opens, read_closes, read_closes_list, opens_read, closes_read, closes_list_read}

@@ -8,9 +8,9 @@ use Rattle.upon_types.specs.declared.types.ast.path.AccessOp.TheVariants.{Direct
 use Rattle.upon_types.specs.Place.{part}
 use Rattle.upon_types.specs.Val.{Val, none_val, bool_val, int_val, text_val, list_val, map_val}
 use Rattle.upon_types.specs.Path.{Selector, by_index, by_key, Step, selector_span}
-use Rattle.upon_syntax.specs.Cut.{Lexeme}
-use Rattle.upon_syntax.specs.Tokens.{from_to}
-use Rattle.upon_syntax.specs.Expressions.{op_token, sign_token, IsAccess, IsStep, IsBareName, IsSteps, IsUnsigned, IsSigned, IsLiteral, Opens, Closes, ClosesList}
+use Rattle.upon_language.specs.Cut.{Lexeme}
+use Rattle.upon_language.specs.Tokens.{from_to}
+use Rattle.upon_language.specs.Expressions.{op_token, sign_token, IsAccess, IsStep, IsBareName, IsSteps, IsUnsigned, IsSigned, IsLiteral, Opens, Closes, ClosesList}
 use Rattle.upon_syntax.proofs.Tests.{left_true, right_true}
 use Rattle.upon_syntax.proofs.CutTests.{same_number}
 use Rattle.upon_syntax.proofs.LiteralTests.{integer_test, integer_tested, index_test, index_tested}

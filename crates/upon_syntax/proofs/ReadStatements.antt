@@ -5,9 +5,9 @@ use Rattle.upon_types.specs.declared.types.token.Token.TheVariants.{Raw, BeginEx
 use Rattle.upon_types.specs.Path.{Word, LoopNames, item, key_value}
 use Rattle.upon_types.specs.Expression.{Expression}
 use Rattle.upon_types.specs.Tree.{Statement, raw, inline_expr, include, if_else, for_loop, with, Statements, no_statements, statement_then, Else, no_else, otherwise}
-use Rattle.upon_syntax.specs.Cut.{Lexeme}
-use Rattle.upon_syntax.specs.Tokens.{from_to}
-use Rattle.upon_syntax.specs.Grammar.{BeginsBlock, IsWordTag, IsCondition, IsIfTag, IsElseIfTag, AreLoopNames, IsForTag, IsWithTag, IsIncludeContext, IsStatement, AreStatements, IsElse, IsElseIf, IsIfAfterElse}
+use Rattle.upon_language.specs.Cut.{Lexeme}
+use Rattle.upon_language.specs.Tokens.{from_to}
+use Rattle.upon_language.specs.Grammar.{BeginsBlock, IsWordTag, IsCondition, IsIfTag, IsElseIfTag, AreLoopNames, IsForTag, IsWithTag, IsIncludeContext, IsStatement, AreStatements, IsElse, IsElseIf, IsIfAfterElse}
 use Rattle.upon_syntax.proofs.ReadTokens.{Left, then_read, when, or_read, both_read, read_when, one_read, first_span, same_span, one_span, read_by, read_at, goes_read, by_read, at_read, read_keyword, keyword_read, read_name, read_text, name_read, text_read}
 use Rattle.upon_syntax.proofs.ReadExpressions.{read_expression, expression_read}
 

@@ -5,8 +5,8 @@ use Rattle.upon_types.specs.declared.types.token.Token.{Token}
 use Rattle.upon_types.specs.declared.types.token.Token.TheVariants.{Keyword, Ident, String}
 use Rattle.upon_types.specs.Place.{part}
 use Rattle.upon_types.specs.Path.{Word}
-use Rattle.upon_syntax.specs.Cut.{Lexeme}
-use Rattle.upon_syntax.specs.Tokens.{Goes, GoesBy, GoesWord, GoesKeyword, GoesName, GoesText}
+use Rattle.upon_language.specs.Cut.{Lexeme}
+use Rattle.upon_language.specs.Tokens.{Goes, GoesBy, GoesWord, GoesKeyword, GoesName, GoesText}
 use Rattle.upon_syntax.proofs.Tests.{left_true, right_true}
 use Rattle.upon_syntax.proofs.TokenTests.{same_token, one_token}
 use Rattle.upon_syntax.proofs.CutTests.{same_number}

@@ -3,9 +3,9 @@ use Rattle.std.proofs.Common.{ℕ, ◌<◌, List, [], ◌∷◌, ◌++◌, lengt
 use Rattle.upon_types.specs.declared.types.first.Stmt.{Stmt}
 use Rattle.upon_types.specs.FirstTree.{Statement, Statements, no_statements, statement_then}
 use Rattle.upon_types.specs.First.{statement_of, statements_of}
-use Rattle.upon_syntax.specs.Search.{Pair, HasTexts}
-use Rattle.upon_syntax.specs.FirstGrammar.{IsStatement, Reads}
-use Rattle.upon_syntax.specs.OneTree.{one_statement, ends_there}
+use Rattle.upon_language.specs.Search.{Pair, HasTexts}
+use Rattle.upon_language.specs.FirstGrammar.{IsStatement, Reads}
+use Rattle.upon_language.proofs.OneTree.{one_statement, ends_there}
 
 module _ (pairs : List Pair) (s : List ℕ) where
   pub reads_more : (m n k : ℕ) (ts : List Stmt) (t : Stmt) → Reads pairs s m (statements_of ts) n → IsStatement pairs s (statement_of t) (record { m = n; n = k }) → Reads pairs s m (statements_of (ts ++ t ∷ [])) k

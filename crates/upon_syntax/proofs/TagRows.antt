@@ -10,11 +10,11 @@ use Rattle.upon_types.specs.Val.{Val, none_val, bool_val, int_val, text_val, lis
 use Rattle.upon_types.specs.Path.{Step, by_index}
 use Rattle.upon_types.specs.Expression.{Expression, base, filtered, Base, var, literal, list, mapping, paren, call, no_bases}
 use Rattle.upon_types.specs.Tree.{inline_expr}
-use Rattle.upon_syntax.specs.Cut.{Lexeme}
-use Rattle.upon_syntax.specs.Tokens.{Goes}
-use Rattle.upon_syntax.specs.Expressions.{op_token, sign_token, IsBareName, IsStep, IsLiteral, IsBase, IsExpression}
-use Rattle.upon_syntax.specs.Tags.{IsTag, an_inline, an_include, an_if, an_else_if, an_else, an_endif, a_for, an_endfor, a_with, an_endwith, Symbol, symbol_of, symbols_of, BeginsTag}
-use Rattle.upon_syntax.specs.Wanted.{plain_symbol}
+use Rattle.upon_language.specs.Cut.{Lexeme}
+use Rattle.upon_language.specs.Tokens.{Goes}
+use Rattle.upon_language.specs.Expressions.{op_token, sign_token, IsBareName, IsStep, IsLiteral, IsBase, IsExpression}
+use Rattle.upon_language.specs.Tags.{IsTag, an_inline, an_include, an_if, an_else_if, an_else, an_endif, a_for, an_endfor, a_with, an_endwith, Symbol, symbol_of, symbols_of, BeginsTag}
+use Rattle.upon_language.specs.Wanted.{plain_symbol}
 use Rattle.upon_syntax.proofs.ReadStatements.{read_statements, statements_read}
 use Rattle.upon_syntax.proofs.NoTree.{first_goes, first_is, by_block}
 use Rattle.upon_syntax.proofs.Examples.Short.{at, bare, step, quote, lex, number, one}

@@ -2,7 +2,7 @@
 use Rattle.std.proofs.Common.{◌≡◌, ℕ, zero, suc, ◌<◌, ◌≤◌, ◌&&◌, ◌||◌, not, nat_lt, nat_le, List, length, take, drop, Bool, true, false, refl, subst, arith}
 use Rattle.std.specs.Str.{bytes_eq}
 use Rattle.std.proofs.lemmas.Slice.Eq.{bytes_eq-Decides}
-use Rattle.upon_syntax.specs.Search.{Pair, text_at, Occurs, NoneAt, IsBest}
+use Rattle.upon_language.specs.Search.{Pair, text_at, Occurs, NoneAt, IsBest}
 
 pub left_true : (a b : Bool) → (a && b) ≡ true → a ≡ true
 left_true true b h = refl

@@ -2,7 +2,7 @@
 use Rattle.std.proofs.Common.{◌≡◌, ℕ, ◌==◌, List, [], ◌∷◌, Bool, true, false, Option, Some, None, refl, sym, ap, ◌∙◌, arith, slice_index_or}
 use Rattle.upon_types.specs.declared.types.token.Token.{Token}
 use Rattle.upon_types.specs.declared.types.token.Token.TheVariants.{Raw, BeginExpr, EndExpr, BeginBlock, EndBlock, BeginComment, EndComment, OpenBracket, CloseBracket, OpenBrace, CloseBrace, OpenParen, CloseParen, Dot, QuestionDot, Pipe, Comma, Colon, Plus, Minus, Whitespace, Keyword, Ident, Index, Number, String}
-use Rattle.upon_syntax.specs.Delimiters.{Sort, expression, block, comment}
+use Rattle.upon_language.specs.Delimiters.{Sort, expression, block, comment}
 
 abbrev tokens : List Token
 tokens = Raw ∷ BeginExpr ∷ EndExpr ∷ BeginBlock ∷ EndBlock ∷ BeginComment ∷ EndComment ∷ OpenBracket ∷ CloseBracket ∷ OpenBrace ∷ CloseBrace ∷ OpenParen ∷ CloseParen ∷ Dot ∷ QuestionDot ∷ Pipe ∷ Comma ∷ Colon ∷ Plus ∷ Minus ∷ Whitespace ∷ Keyword ∷ Ident ∷ Index ∷ Number ∷ String ∷ []

@@ -3,9 +3,9 @@ use Rattle.std.proofs.Common.{◌≡◌, inl, inr, ℕ, ◌==◌, ◌&&◌, not,
 use Rattle.upon_types.specs.declared.types.Delimiter.{Delimiter}
 use Rattle.upon_types.specs.declared.types.token.Token.{Token}
 use Rattle.upon_types.specs.declared.types.token.Token.TheVariants.{Raw, BeginExpr, BeginBlock, BeginComment, EndComment}
-use Rattle.upon_syntax.specs.Search.{Pair}
-use Rattle.upon_syntax.specs.Delimiters.{Sort, expression, block, comment, begun, ended, has_hyphen, end_token}
-use Rattle.upon_syntax.specs.Cut.{Lexeme, Mode, outside, in_tag, in_comment, Begins, Ends, IsRawToken, Step, mode_after, Cut}
+use Rattle.upon_language.specs.Search.{Pair}
+use Rattle.upon_language.specs.Delimiters.{Sort, expression, block, comment, begun, ended, has_hyphen, end_token}
+use Rattle.upon_language.specs.Cut.{Lexeme, Mode, outside, in_tag, in_comment, Begins, Ends, IsRawToken, Step, mode_after, Cut}
 use Rattle.upon_syntax.proofs.Tests.{left_true, right_true}
 use Rattle.upon_syntax.proofs.TokenTests.{is_sort, is_sort_tested, same_bool, one_bool, same_token, one_token}
 use Rattle.upon_syntax.proofs.CutTests.{same_number, stands_test, stands_tested, raw_test, raw_tested}

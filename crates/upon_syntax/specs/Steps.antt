@@ -5,9 +5,9 @@ use Rattle.upon_types.specs.declared.types.first.Stmt.{Stmt}
 use Rattle.upon_types.specs.Place.{part}
 use Rattle.upon_types.specs.FirstTree.{Statement}
 use Rattle.upon_types.specs.First.{statement_of}
-use Rattle.upon_syntax.specs.Search.{Pair}
-use Rattle.upon_syntax.specs.FirstGrammar.{IsName}
-use Rattle.upon_syntax.specs.FirstGrammar.{IsTag, IsStatement}
+use Rattle.upon_language.specs.Search.{Pair}
+use Rattle.upon_language.specs.FirstGrammar.{IsName}
+use Rattle.upon_language.specs.FirstGrammar.{IsTag, IsStatement}
 
 abbrev pub FindsStatement : List Pair → List ℕ → ℕ → Option (Stmt × ℕ) → Type 0
 FindsStatement pairs s m found = MatchOption found

@@ -1,10 +1,4 @@
 // The steps from a template's text to its tree.
-mod brackets;
-mod chars;
-mod inner;
-pub mod lex;
-mod marks;
 pub mod parse;
-pub mod search;
-mod tags;
-mod trim;
+
+pub use upon_lexer::compile::{lex, search};

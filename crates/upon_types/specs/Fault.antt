@@ -1,5 +1,6 @@
--- A fault: its kind, the template's name, what is wrong, and where.
-use Rattle.std.specs.Prelude.{◌≡◌, ◌⊎◌, ℕ, List, ◌++◌, Option, Some, None, codes}
+-- A fault: its kind, the template's name, what is wrong, where, and the picture of that place.
+use Rattle.std.specs.Prelude.{◌≡◌, ◌⊎◌, ℕ, List, ◌++◌, Option, Some, None, option_map, codes}
+use Rattle.upon_types.specs.Picture.{Picture, picture}
 use Rattle.upon_types.specs.declared.types.Span.{Span}
 
 pub data Kind : Type 0 where
@@ -17,10 +18,20 @@ pub record Fault : Type 0 where
   pub name : Option (List ℕ)
   pub reason : Option (List ℕ)
   pub place : Option Span
+  pub shown : Option Picture
 
--- a fault without a name
+-- a fault without a name and without a picture
 abbrev pub made : Kind → Option (List ℕ) → Option Span → Fault
-made kind reason place = record { kind = kind; name = None; reason = reason; place = place }
+made kind reason place = record { kind = kind; name = None; reason = reason; place = place; shown = None }
+
+-- the same fault with the picture of its place in a source
+abbrev pub shown_in : List ℕ → Fault → Fault
+shown_in source fault = record fault { shown = option_map (picture source) fault.place }
+
+-- a fault without a name, at a place in a source, where they are given
+abbrev pub made_at : Kind → Option (List ℕ) → Option (List ℕ × Span) → Fault
+made_at kind reason None = made kind reason None
+made_at kind reason (Some at) = shown_in at.0 (made kind reason (Some at.1))
 
 -- a fault that tells its kind alone
 abbrev pub plain : Kind → Fault

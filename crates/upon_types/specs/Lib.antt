@@ -2,7 +2,9 @@ pub mod Place
 pub mod Sets
 pub mod FirstTree
 pub mod First
+pub mod Picture
 pub mod Fault
+pub mod Pretty
 pub mod Error
 pub mod Val
 pub mod Path

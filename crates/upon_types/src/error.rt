@@ -1,13 +1,19 @@
-// Faults, and the one line that tells each.
+// Faults, and the texts that tell each.
 ghost use Rattle.std.specs.Prelude.{◌≡◌, ◌⊎◌, Some, None, IsSome, IfOk, option_map, string_bytes, ◌↔◌};
 ghost use Rattle.std.specs.Option.{ForSome};
 ghost use Rattle.upon_types.specs.Place.{LiesIn};
-ghost use Rattle.upon_types.specs.Fault.{io, format, line, plain, out_of_memory, made, named, OrMemory};
-ghost use Rattle.upon_types.specs.Error.{fault_of, kind_of};
+ghost use Rattle.upon_types.specs.Fault.{io, format, line, plain, out_of_memory, made_at, named, OrMemory};
+ghost use Rattle.upon_types.specs.Error.{fault_of, kind_of, picture_of};
+ghost use Rattle.upon_types.specs.Picture.{picture};
+ghost use Rattle.upon_types.specs.Pretty.{pretty};
 
 use crate::types::Span;
+use excerpt::Excerpt;
 use std::alloc::{AllocError, Global};
 use std::{fmt, io};
+
+mod excerpt;
+mod pretty;
 
 /// What kind of fault an error tells.
 #[derive(Debug, Drop)]
@@ -35,6 +41,7 @@ pub struct Error {
     name: Option<String>,
     reason: Option<String>,
     place: Option<Span>,
+    excerpt: Option<Excerpt>,
 }
 
 /// What a call gives that can end with an [`Error`].
@@ -51,22 +58,43 @@ impl Error {
     ) -> Error
         requires { ForSome at (λ place. LiesIn place.0.now place.1) }
         ensures { OrMemory
-            (made
+            (made_at
             (kind_of kind)
             (option_map (λ r. r.now) reason.entry)
-            (option_map (λ place. place.1) at.entry))
+            (option_map (λ place. (place.0.now, place.1)) at.entry))
             (fault_of result) }
     {
-        let place = match at {
-            Some((_, span)) => Some(span),
-            None => None,
-        };
         match copied(alloc, reason) {
-            Ok(reason) => Error {
+            Ok(reason) => Error::at(alloc, kind, reason, at),
+            Err(e) => e.into(),
+        }
+    }
+
+    fn at(alloc: Global, kind: ErrorKind, reason: Option<String>, at: Option<(&str, Span)>) -> Error
+        requires { ForSome at (λ place. LiesIn place.0.now place.1) }
+        ensures { OrMemory
+            (made_at
+            (kind_of kind)
+            (option_map string_bytes reason)
+            (option_map (λ place. (place.0.now, place.1)) at.entry))
+            (fault_of result) }
+    {
+        let Some((source, place)) = at else {
+            return Error {
                 kind,
                 name: None,
                 reason,
-                place,
+                place: None,
+                excerpt: None,
+            };
+        };
+        match Excerpt::of(alloc, source, place) {
+            Ok(excerpt) => Error {
+                kind,
+                name: None,
+                reason,
+                place: Some(place),
+                excerpt: Some(excerpt),
             },
             Err(e) => e.into(),
         }
@@ -113,6 +141,18 @@ impl Error {
         self.place
     }
 
+    /// The text that tells the fault, with the line of the source in which it lies.
+    pub fn pretty(&self, alloc: Global) -> std::result::Result<String, AllocError>
+        ensures { IfOk result (λ text. string_bytes text ≡ pretty (fault_of self.now)) }
+    {
+        match (&self.reason, &self.excerpt) {
+            (Some(reason), Some(excerpt)) => {
+                pretty::with_excerpt(alloc, &self.kind, self.template_name(), reason, excerpt)
+            }
+            _ => self.to_string(alloc),
+        }
+    }
+
     /// The writer's error, where that is the fault.
     pub fn io_error(&self) -> Option<&io::Error>
         ensures { IsSome result ↔ ((fault_of self.now).kind ≡ io) }
@@ -151,6 +191,7 @@ impl From<AllocError> for Error {
             name: None,
             reason: None,
             place: None,
+            excerpt: None,
         }
     }
 }
@@ -164,6 +205,7 @@ impl From<io::Error> for Error {
             name: None,
             reason: None,
             place: None,
+            excerpt: None,
         }
     }
 }
@@ -177,6 +219,7 @@ impl From<fmt::Error> for Error {
             name: None,
             reason: None,
             place: None,
+            excerpt: None,
         }
     }
 }

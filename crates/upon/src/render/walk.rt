@@ -3,7 +3,7 @@ ghost use Rattle.std.specs.Prelude.{None, string_bytes};
 ghost use Rattle.upon_types.specs.First.{statement_of, statements_of};
 ghost use Rattle.upon_types.specs.Place.{LiesIn};
 ghost use Rattle.upon_types.specs.View.{view};
-ghost use Rattle.upon_syntax.specs.EachLiesIn.{EachLiesIn, StatementLiesIn};
+ghost use Rattle.upon_language.specs.EachLiesIn.{EachLiesIn, StatementLiesIn};
 ghost use Rattle.upon.specs.Meaning.{statement_means, statements_mean, emitted, formatted, default_text};
 ghost use Rattle.upon.specs.Rendered.{Writes, EndsWith};
 
@@ -68,7 +68,7 @@ fn render_stmt(
 // A name that nothing binds.
 fn not_found(alloc: Global, source: &str, at: Span) -> Error
     requires { LiesIn source.now at }
-    ensures { EndsWith (emitted at None).end result }
+    ensures { EndsWith (emitted source.now at None).end result }
 {
     Error::from_parts(
         alloc,
@@ -88,7 +88,7 @@ fn write_value(
 ) -> Result<()>
     requires { LiesIn source.now at }
     ensures { Writes
-        (formatted (view value.now) at (default_text (view value.now)))
+        (formatted source.now (view value.now) at (default_text (view value.now)))
         (string_bytes text.old)
         (string_bytes text.new)
         result }
@@ -106,7 +106,7 @@ fn write_value(
 // A value that has no text.
 fn unformattable(alloc: Global, source: &str, at: Span, value: &Value) -> Error
     requires { LiesIn source.now at }
-    ensures { EndsWith (formatted (view value.now) at None).end result }
+    ensures { EndsWith (formatted source.now (view value.now) at None).end result }
 {
     let kind = value.human();
     match format!(in alloc; "expression evaluated to unformattable type {kind}") {

@@ -1,5 +1,5 @@
 -- Short names that let the templates of the examples read well. A part is written with the place where it begins.
-use Rattle.std.specs.Prelude.{ℕ, ◌+◌, ℤ, List, [], ◌∷◌, length, Option, Some, None, bytes_eq, if◌then◌else◌}
+use Rattle.std.specs.Prelude.{ℕ, ◌+◌, ℤ, List, [], ◌∷◌, length, Option, Some, None, option_map, bytes_eq, if◌then◌else◌}
 use Rattle.upon_types.specs.declared.types.Span.{Span}
 use Rattle.upon_types.specs.declared.types.ast.path.AccessOp.TheVariants.{Direct, Optional}
 use Rattle.upon_types.specs.Expression.{base, Base, var, literal, Bases, no_bases, base_then, Items, no_items, item_then}
@@ -106,12 +106,15 @@ no_source q path = reply (refuses []) q
 abbrev pub no_states : States (Unit {0}) (Unit {0})
 no_states = states tt tt
 
--- the text of a rendering, and its fault where there is one
+-- the text of a rendering, and its fault where there is one, without the picture of its place
 abbrev pub Seen : Type 0
 Seen = List ℕ × Option Fault
 
+abbrev pub without_picture : Fault → Fault
+without_picture f = record f { shown = None }
+
 abbrev pub seen : {Q : Type 0} → ℕ → Outcome Q → Seen
-seen limit o = (o.text, told limit o.end)
+seen limit o = (o.text, option_map without_picture (told limit o.end))
 
 -- a template on a context: with the engine's depth, with another, and under a name
 abbrev pub rendered : Engine → Template → Val → Seen

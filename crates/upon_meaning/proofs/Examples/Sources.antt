@@ -1,7 +1,7 @@
 -- Renderings with a value source or a template source, and what they give.
 use Rattle.std.proofs.Common.{◌≡◌, ℕ, ◌+◌, pos, List, [], ◌∷◌, Option, Some, None, true, false, refl, codes}
 use Rattle.upon_types.specs.Expression.{base, var, list}
-use Rattle.upon_types.specs.Fault.{render, named}
+use Rattle.upon_types.specs.Fault.{render, named, shown_in}
 use Rattle.upon_types.specs.Path.{item}
 use Rattle.upon_types.specs.Tree.{include, for_loop}
 use Rattle.upon_types.specs.Val.{Val, none_val, int_val, text_val}
@@ -19,7 +19,7 @@ keeps : List (List Member) → List Member → Reply (List (List Member)) (Said 
 keeps asked path = reply (refuses (codes "no user")) (path ∷ asked)
 
 -- `{{ user?.name }}`: the whole path is asked for, once
-asked_once : alone (rendering_of {T = Unit {0}} (engine [] []) keeps None) (template (codes "{{ user?.name }}") (shows 0 16 (var (first 3 (codes "user")) (maybe 7 (codes "name") ∷ [])) ∷ [])) None value_source (states [] tt) ≡ record { text = []; end = fails (fault_at render (codes "no user") 3 13); next = states ((record { is_optional = false; access = key (codes "user") } ∷ record { is_optional = true; access = key (codes "name") } ∷ []) ∷ []) tt }
+asked_once : alone (rendering_of {T = Unit {0}} (engine [] []) keeps None) (template (codes "{{ user?.name }}") (shows 0 16 (var (first 3 (codes "user")) (maybe 7 (codes "name") ∷ [])) ∷ [])) None value_source (states [] tt) ≡ record { text = []; end = fails (shown_in (codes "{{ user?.name }}") (fault_at render (codes "no user") 3 13)); next = states ((record { is_optional = false; access = key (codes "user") } ∷ record { is_optional = true; access = key (codes "name") } ∷ []) ∷ []) tt }
 unfolding computing keeps
 asked_once = refl
 
@@ -33,7 +33,7 @@ unfolding computing in_turn
 asked_twice = refl
 
 -- t = `{{ a }}`, in `{% include "t" with 5 %}`: it is never asked
-never_asked : alone (rendering_of {T = Unit {0}} (engine ((codes "t", template (codes "{{ a }}") (shows 0 7 (name 3 (codes "a")) ∷ [])) ∷ []) []) in_turn None) (template (codes "{% include \"t\" with 5 %}") (include (quoted 11 (codes "t")) (Some (base (number 20 21 (pos 5)))) ∷ [])) None value_source (states 0 tt) ≡ record { text = []; end = fails (named (codes "t") (fault_at render (codes "not found in this scope") 3 4)); next = states 0 tt }
+never_asked : alone (rendering_of {T = Unit {0}} (engine ((codes "t", template (codes "{{ a }}") (shows 0 7 (name 3 (codes "a")) ∷ [])) ∷ []) []) in_turn None) (template (codes "{% include \"t\" with 5 %}") (include (quoted 11 (codes "t")) (Some (base (number 20 21 (pos 5)))) ∷ [])) None value_source (states 0 tt) ≡ record { text = []; end = fails (named (codes "t") (shown_in (codes "{{ a }}") (fault_at render (codes "not found in this scope") 3 4))); next = states 0 tt }
 unfolding computing in_turn
 never_asked = refl
 
@@ -57,6 +57,6 @@ unfolding computing hello goodbye answered counts
 two_included = refl
 
 -- `{% include "x" %}`
-not_answered : alone (rendering_by (engine [] []) no_source counts None) (template (codes "{% include \"x\" %}") (include (quoted 11 (codes "x")) None ∷ [])) None (context none_val) (states tt 0) ≡ record { text = []; end = fails (fault_at render (codes "template not found") 11 14); next = states tt 1 }
+not_answered : alone (rendering_by (engine [] []) no_source counts None) (template (codes "{% include \"x\" %}") (include (quoted 11 (codes "x")) None ∷ [])) None (context none_val) (states tt 0) ≡ record { text = []; end = fails (shown_in (codes "{% include \"x\" %}") (fault_at render (codes "template not found") 11 14)); next = states tt 1 }
 unfolding computing answered counts
 not_answered = refl

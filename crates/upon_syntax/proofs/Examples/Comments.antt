@@ -3,8 +3,8 @@ use Rattle.std.proofs.Common.{[], ◌∷◌, refl, codes}
 use Rattle.upon_syntax.proofs.Computing.{computing}
 use Rattle.upon_types.specs.declared.types.token.Token.TheVariants.{Raw, BeginComment, EndComment}
 use Rattle.upon_types.specs.Tree.{raw, no_statements}
-use Rattle.upon_syntax.specs.Searcher.{default_pairs}
-use Rattle.upon_syntax.specs.Grammar.{HasTree}
+use Rattle.upon_lexer.specs.Searcher.{default_pairs}
+use Rattle.upon_language.specs.Grammar.{HasTree}
 use Rattle.upon_syntax.proofs.HasTreeTests.{has_tree_tested}
 use Rattle.upon_syntax.proofs.Examples.Short.{at, lex, trimming, two}
 

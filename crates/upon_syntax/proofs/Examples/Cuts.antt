@@ -3,8 +3,8 @@ use Rattle.std.proofs.Common.{ℕ, [], ◌∷◌, false, refl, codes}
 use Rattle.upon_syntax.proofs.Computing.{computing}
 use Rattle.upon_types.specs.declared.types.token.Token.TheVariants.{Raw, BeginExpr, EndExpr, Whitespace, Ident}
 use Rattle.upon_types.specs.declared.types.token.Token.{Token}
-use Rattle.upon_syntax.specs.Searcher.{default_pairs}
-use Rattle.upon_syntax.specs.Cut.{Lexeme, outside, Cut}
+use Rattle.upon_lexer.specs.Searcher.{default_pairs}
+use Rattle.upon_language.specs.Cut.{Lexeme, outside, Cut}
 use Rattle.upon_syntax.proofs.WholeCut.{cut_tested}
 
 abbrev lex : Token → ℕ → ℕ → Lexeme

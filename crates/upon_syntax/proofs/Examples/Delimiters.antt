@@ -4,8 +4,8 @@ use Rattle.upon_syntax.proofs.Computing.{computing}
 use Rattle.upon_types.specs.declared.types.Delimiter.TheVariants as delimiter
 use Rattle.upon_types.specs.declared.types.token.Token.TheVariants.{Raw, BeginExpr, EndExpr, Whitespace, Ident, Number}
 use Rattle.upon_types.specs.Tree.{raw}
-use Rattle.upon_syntax.specs.Search.{Pair}
-use Rattle.upon_syntax.specs.Grammar.{HasTree}
+use Rattle.upon_language.specs.Search.{Pair}
+use Rattle.upon_language.specs.Grammar.{HasTree}
 use Rattle.upon_syntax.proofs.HasTreeTests.{has_tree_tested}
 use Rattle.upon_syntax.proofs.Examples.Short.{at, lex, trimming, name, number, two, three, shows, only}
 

@@ -6,8 +6,8 @@ use Rattle.upon_types.specs.declared.types.ast.path.AccessOp.TheVariants.{Direct
 use Rattle.upon_types.specs.Path.{by_index, by_key}
 use Rattle.upon_types.specs.Expression.{base, filtered, var, list, mapping, paren, call, no_bases, no_items, item_then, no_arguments, arguments}
 use Rattle.upon_types.specs.Tree.{raw}
-use Rattle.upon_syntax.specs.Searcher.{default_pairs}
-use Rattle.upon_syntax.specs.Grammar.{HasTree}
+use Rattle.upon_lexer.specs.Searcher.{default_pairs}
+use Rattle.upon_language.specs.Grammar.{HasTree}
 use Rattle.upon_syntax.proofs.HasTreeTests.{has_tree_tested}
 use Rattle.upon_syntax.proofs.Examples.Short.{at, lex, braced, word, bare, step, name, number, quote, one_base, two_bases, two, shows, only, only_expression}
 

@@ -2,17 +2,17 @@
 use Rattle.std.proofs.Common.{inl, [], ◌∷◌, true, false, refl, codes}
 use Rattle.upon_syntax.proofs.Computing.{computing}
 use Rattle.upon_types.specs.declared.types.token.Token.TheVariants.{Raw, BeginExpr, BeginBlock, EndBlock, BeginComment, OpenBracket, CloseParen, Comma, Whitespace, Keyword, Ident, Number}
-use Rattle.upon_syntax.specs.Searcher.{default_pairs}
-use Rattle.upon_syntax.specs.Delimiters.{expression, block, comment}
-use Rattle.upon_syntax.specs.Cut.{outside, in_tag}
-use Rattle.upon_syntax.specs.Blocks.{if_block, end_if}
-use Rattle.upon_syntax.specs.FirstFault.{Holds, unexpected_end, unclosed_tag, unclosed_bracket, unexpected_close, unexpected_character, empty_comment, comment_eof, unexpected_block, unclosed_block}
+use Rattle.upon_lexer.specs.Searcher.{default_pairs}
+use Rattle.upon_language.specs.Delimiters.{expression, block, comment}
+use Rattle.upon_language.specs.Cut.{outside, in_tag}
+use Rattle.upon_language.specs.Blocks.{if_block, end_if}
+use Rattle.upon_language.specs.FirstFault.{Holds, unexpected_end, unclosed_tag, unclosed_bracket, unexpected_close, unexpected_character, empty_comment, comment_eof, unexpected_block, unclosed_block}
 use Rattle.upon_syntax.proofs.Tests.{occurs_tested, none_tested}
 use Rattle.upon_syntax.proofs.InnerTests.{inner_tested}
 use Rattle.upon_syntax.proofs.WholeCut.{begins_tested, ends_tested}
 use Rattle.upon_syntax.proofs.NoCut.{reads_to}
 use Rattle.upon_syntax.proofs.ReadStatements.{word_tag_read}
-use Rattle.upon_syntax.specs.Tags.{an_endif}
+use Rattle.upon_language.specs.Tags.{an_endif}
 use Rattle.upon_syntax.proofs.Examples.Short.{at, lex}
 
 -- `}}`: an end outside tags

@@ -4,8 +4,8 @@ use Rattle.upon_syntax.proofs.Computing.{computing}
 use Rattle.upon_types.specs.declared.types.token.Token.TheVariants.{Plus, Minus, Whitespace, Keyword, Number, String}
 use Rattle.upon_types.specs.Val.{bool_val}
 use Rattle.upon_types.specs.Expression.{literal}
-use Rattle.upon_syntax.specs.Searcher.{default_pairs}
-use Rattle.upon_syntax.specs.Grammar.{HasTree}
+use Rattle.upon_lexer.specs.Searcher.{default_pairs}
+use Rattle.upon_language.specs.Grammar.{HasTree}
 use Rattle.upon_syntax.proofs.HasTreeTests.{has_tree_tested}
 use Rattle.upon_syntax.proofs.Examples.Short.{at, lex, braced, number, quote, only}
 

@@ -4,10 +4,10 @@ use Rattle.std.specs.Int.{w64}
 use Rattle.upon_syntax.proofs.Computing.{computing}
 use Rattle.upon_types.specs.declared.types.token.Token.TheVariants.{Raw, BeginExpr, EndExpr, BeginComment, EndComment, Whitespace, Ident, Number}
 use Rattle.upon_types.specs.Tree.{Statements}
-use Rattle.upon_syntax.specs.Searcher.{default_pairs}
-use Rattle.upon_syntax.specs.DefaultTexts.{default_texts}
-use Rattle.upon_syntax.specs.Literal.{sum_of_digits, signed, IsInteger}
-use Rattle.upon_syntax.specs.Grammar.{HasTree}
+use Rattle.upon_lexer.specs.Searcher.{default_pairs}
+use Rattle.upon_syntax.proofs.DefaultTexts.{default_texts}
+use Rattle.upon_language.specs.Literal.{sum_of_digits, signed, IsInteger}
+use Rattle.upon_language.specs.Grammar.{HasTree}
 use Rattle.upon_syntax.proofs.NoTree.{no_tree, no_statement_begins}
 use Rattle.upon_syntax.proofs.NoNumber.{StandsForInteger, no_number_reads}
 use Rattle.upon_syntax.proofs.NoCut.{no_tree_inside, no_tree_past}

@@ -9,7 +9,7 @@ use Rattle.upon_types.specs.Val.{int_val, text_val}
 use Rattle.upon_types.specs.Path.{Word, Selector, by_key, Step}
 use Rattle.upon_types.specs.Expression.{Expression, base, Base, var, literal, Bases, no_bases, base_then}
 use Rattle.upon_types.specs.Tree.{Statement, inline_expr, Statements, no_statements, statement_then}
-use Rattle.upon_syntax.specs.Cut.{Lexeme}
+use Rattle.upon_language.specs.Cut.{Lexeme}
 
 abbrev pub at : ℕ → ℕ → Span
 at m n = record { m = m; n = n }

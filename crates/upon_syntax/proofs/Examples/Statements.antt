@@ -6,8 +6,8 @@ use Rattle.upon_types.specs.declared.types.ast.path.AccessOp.TheVariants.{Direct
 use Rattle.upon_types.specs.Path.{by_key, item, key_value}
 use Rattle.upon_types.specs.Expression.{base, var, list}
 use Rattle.upon_types.specs.Tree.{raw, include, if_else, for_loop, with, no_statements, no_else, otherwise}
-use Rattle.upon_syntax.specs.Searcher.{default_pairs}
-use Rattle.upon_syntax.specs.Grammar.{HasTree}
+use Rattle.upon_lexer.specs.Searcher.{default_pairs}
+use Rattle.upon_language.specs.Grammar.{HasTree}
 use Rattle.upon_syntax.proofs.HasTreeTests.{has_tree_tested}
 use Rattle.upon_syntax.proofs.Examples.Short.{at, lex, word, bare, step, name, number, two_bases, one, shows}
 

@@ -3,22 +3,22 @@ use Rattle.std.specs.Fmt.{digits}
 use Rattle.std.proofs.Common.{◌≡◌, inl, ℕ, List, [], ◌∷◌, true, false, refl, arith, codes}
 use Rattle.upon_syntax.proofs.Computing.{computing}
 use Rattle.upon_types.specs.declared.types.token.Token.TheVariants.{BeginExpr, Colon, Whitespace, Ident, Number, Dot, Index, String}
-use Rattle.upon_syntax.specs.Searcher.{default_pairs}
-use Rattle.upon_syntax.specs.Delimiters.{expression}
-use Rattle.upon_syntax.specs.Cut.{in_tag}
-use Rattle.upon_syntax.specs.Wanted.{an_expression}
-use Rattle.upon_syntax.specs.FirstFault.{Holds, unexpected_token, unexpected_eof, undelimited_string, wrong_number, wrong_index, wrong_escape}
+use Rattle.upon_lexer.specs.Searcher.{default_pairs}
+use Rattle.upon_language.specs.Delimiters.{expression}
+use Rattle.upon_language.specs.Cut.{in_tag}
+use Rattle.upon_language.specs.Wanted.{an_expression}
+use Rattle.upon_language.specs.FirstFault.{Holds, unexpected_token, unexpected_eof, undelimited_string, wrong_number, wrong_index, wrong_escape}
 use Rattle.upon_syntax.proofs.Tests.{occurs_tested, none_tested}
 use Rattle.upon_syntax.proofs.InnerTests.{inner_tested, each_piece}
-use Rattle.upon_syntax.specs.Inside.{escaped, quoted}
+use Rattle.upon_language.specs.Inside.{escaped, quoted}
 use Rattle.upon_syntax.proofs.WholeCut.{step_tested}
 use Rattle.upon_syntax.proofs.TagRows.{number_may_stand, bracket_may_stand, colon_may_not_stand, text_may_stand, index_may_stand}
 use Rattle.upon_syntax.proofs.Examples.Short.{at, lex}
 use Rattle.std.proofs.Common.{◌+◌, ◌<◌, ◌≤◌, ◌++◌, zero, suc, length, length-append, slice_index, encode_utf8}
-use Rattle.upon_syntax.specs.Search.{Occurs}
-use Rattle.upon_syntax.specs.Bounds.{occurs_within}
-use Rattle.upon_syntax.specs.OneRun.{char_has_bytes}
-use Rattle.upon_syntax.specs.Inside.{Piece, plain, pieces_text, ends_line}
+use Rattle.upon_language.specs.Search.{Occurs}
+use Rattle.upon_language.specs.Bounds.{occurs_within}
+use Rattle.upon_language.specs.OneRun.{char_has_bytes}
+use Rattle.upon_language.specs.Inside.{Piece, plain, pieces_text, ends_line}
 use Rattle.upon_syntax.proofs.NoCut.{reads_to}
 
 -- `{{ 0b2 x }}`: the digit is none of the base

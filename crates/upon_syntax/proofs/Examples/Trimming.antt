@@ -4,8 +4,8 @@ use Rattle.upon_syntax.proofs.Computing.{computing}
 use Rattle.upon_types.specs.declared.types.token.Token.TheVariants.{Raw, Minus, BeginExpr, EndExpr, BeginBlock, EndBlock, Whitespace, Keyword, Ident, Number}
 use Rattle.upon_types.specs.Expression.{base}
 use Rattle.upon_types.specs.Tree.{raw, if_else, no_else}
-use Rattle.upon_syntax.specs.Searcher.{default_pairs}
-use Rattle.upon_syntax.specs.Grammar.{HasTree}
+use Rattle.upon_lexer.specs.Searcher.{default_pairs}
+use Rattle.upon_language.specs.Grammar.{HasTree}
 use Rattle.upon_syntax.proofs.HasTreeTests.{has_tree_tested}
 use Rattle.upon_syntax.proofs.Examples.Short.{at, lex, trimming, name, number, one, two, three, shows}
 

@@ -6,16 +6,16 @@ ghost use Rattle.upon_types.specs.FirstTree.{Statements};
 ghost use Rattle.upon_types.specs.First.{tree_of};
 ghost use Rattle.upon_types.specs.Fault.{syntax, out_of_memory, OrMemory};
 ghost use Rattle.upon_types.specs.Error.{fault_of};
-ghost use Rattle.upon_syntax.specs.Searcher.{pairs_of};
-ghost use Rattle.upon_syntax.specs.Search.{NoneAt, Stands};
-ghost use Rattle.upon_syntax.specs.FirstGrammar.{IsSpace, IsGap};
-ghost use Rattle.upon_syntax.specs.FirstGrammar.{HasTree};
-ghost use Rattle.upon_syntax.specs.Raw.{IsRaw};
+ghost use Rattle.upon_lexer.specs.Searcher.{pairs_of};
+ghost use Rattle.upon_language.specs.Search.{NoneAt, Stands};
+ghost use Rattle.upon_language.specs.FirstGrammar.{IsSpace, IsGap};
+ghost use Rattle.upon_language.specs.FirstGrammar.{HasTree};
+ghost use Rattle.upon_language.specs.Raw.{IsRaw};
 ghost use Rattle.upon_syntax.specs.Steps.{FindsStatement, FindsTag, FindsName};
 
-use crate::compile::chars::{CharClass, begins_name, char_at, is_keyword, run_end};
-use crate::compile::search::Searcher;
 use std::alloc::{AllocError, Global};
+use upon_lexer::compile::chars::{CharClass, begins_name, char_at, is_keyword, run_end};
+use upon_lexer::compile::search::Searcher;
 use upon_types::error::{Error, ErrorKind, Result};
 use upon_types::types::first::{Ident, InlineExpr, Scope, Stmt, Template};
 use upon_types::types::{Delimiter, Span, slice};
@@ -50,7 +50,7 @@ impl<'a> Parser<'a> {
         ensures only_tree { IfOk result
             (λ t. (tree : Statements)
             → HasTree (syntax_of self.entry) (source_of self.entry) tree → tree ≡ tree_of t) }
-        ensures fault { IfErr result (λ e. OrMemory unsupported (fault_of e)) }
+        ensures fault { IfErr result (λ e. OrMemory (unsupported (source_of self.entry)) (fault_of e)) }
         ensures no_tree { IfErr result
             (λ e. (fault_of e).kind ≡ syntax
             → (tree : Statements) → HasTree (syntax_of self.entry) (source_of self.entry) tree → ⊥) }
@@ -178,7 +178,7 @@ impl<'a> Parser<'a> {
 
     // The error for a text that has no tree.
     fn unsupported(&self) -> Error
-        ensures { OrMemory unsupported (fault_of result) }
+        ensures { OrMemory (unsupported (source_of self.now)) (fault_of result) }
     {
         Error::from_parts(
             self.alloc,

@@ -2,9 +2,9 @@ use Rattle.std.proofs.Common.{◌≡◌, ℕ, List, length, arith, refl, sym, su
 use Rattle.std.proofs.lemmas.Str.{IsUtf8-had, IsCharBoundary-start}
 use Rattle.upon_types.specs.declared.types.first.Stmt.{Stmt}
 use Rattle.upon_types.specs.First.{statements_of}
-use Rattle.upon_syntax.specs.FirstGrammar.{Reads}
+use Rattle.upon_language.specs.FirstGrammar.{Reads}
 use Rattle.upon_syntax.specs.Parsed.{source_of, syntax_of}
-use Rattle.upon_syntax.specs.OneTree.{one_tree}
+use Rattle.upon_language.proofs.OneTree.{one_tree}
 use Rattle.upon_syntax.proofs.Reading.{reads_more, no_tree}
 use Rattle.upon_syntax.proofs.compile.parse.Parser.parse_template.Goals as goal
 

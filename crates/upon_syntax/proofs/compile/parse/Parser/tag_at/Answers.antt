@@ -1,10 +1,10 @@
 use Rattle.std.proofs.Common.{ℕ, sym, ap, ◌∙◌, subst}
 use Rattle.upon_types.specs.declared.types.Delimiter.TheVariants.{EndExpr}
 use Rattle.upon_types.specs.Place.{part}
-use Rattle.upon_syntax.specs.Search.{Stands}
-use Rattle.upon_syntax.specs.Words.{is_keyword}
+use Rattle.upon_language.specs.Search.{Stands}
+use Rattle.upon_language.specs.Words.{is_keyword}
 use Rattle.upon_syntax.specs.Parsed.{source_of, syntax_of}
-use Rattle.upon_syntax.specs.OneDelimiter.{one_stands, not_bare}
+use Rattle.upon_language.proofs.OneDelimiter.{one_stands, not_bare}
 use Rattle.upon_syntax.proofs.NoTag.{no_tag_without_name, no_tag_of_keyword, no_tag_without_end}
 use Rattle.upon_syntax.proofs.compile.parse.Parser.tag_at.Goals as goal
 

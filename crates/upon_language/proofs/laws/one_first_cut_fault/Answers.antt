@@ -1,0 +1,5 @@
+use Rattle.upon_language.proofs.FirstCut.{one_first_cut_fault}
+use Rattle.upon_language.proofs.laws.one_first_cut_fault.Goals as goal
+
+pub returns : goal.returns
+returns c = one_first_cut_fault

@@ -1,0 +1,5 @@
+use Rattle.upon_language.proofs.OneFirstFault.{one_first_fault}
+use Rattle.upon_language.proofs.laws.one_first_fault.Goals as goal
+
+pub returns : goal.returns
+returns c = one_first_fault

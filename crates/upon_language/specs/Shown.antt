@@ -1,0 +1,50 @@
+-- The shown part of a raw part: what is left of it when the hyphens beside it have trimmed it.
+use Rattle.std.specs.Prelude.{ℕ, ◌+◌, ◌-◌, ◌&&◌, List, [], ◌∷◌, length, Bool, true, false}
+use Rattle.std.specs.Str.{trim_start, trim_end}
+use Rattle.upon_types.specs.declared.types.Span.{Span}
+use Rattle.upon_types.specs.declared.types.token.Token.{Token}
+use Rattle.upon_types.specs.declared.types.token.Token.TheVariants.{Raw, BeginExpr, EndExpr, BeginBlock, EndBlock, BeginComment, EndComment}
+use Rattle.upon_types.specs.Place.{part}
+use Rattle.upon_language.specs.Cut.{Lexeme}
+
+-- the place without whitespace at its end
+abbrev pub end_trimmed : List ℕ → Span → Span
+end_trimmed s span = record { m = span.m; n = span.m + length (trim_end (part s span)) }
+
+-- the place without whitespace at its start
+abbrev pub start_trimmed : List ℕ → Span → Span
+start_trimmed s span = record { m = span.n - length (trim_start (part s span)); n = span.n }
+
+abbrev pub trimmed_if : Bool → (Span → Span) → Span → Span
+trimmed_if true trim span = trim span
+trimmed_if false trim span = span
+
+-- at its end where the begin behind it has the hyphen, and then at its start where the end before it has it
+abbrev pub shown : List ℕ → Bool → Bool → Span → Span
+shown s end_before begin_behind span = trimmed_if end_before (start_trimmed s) (trimmed_if begin_behind (end_trimmed s) span)
+
+abbrev pub is_begin : Token → Bool
+is_begin BeginExpr = true
+is_begin BeginBlock = true
+is_begin BeginComment = true
+is_begin t = false
+
+abbrev pub is_end : Token → Bool
+is_end EndExpr = true
+is_end EndBlock = true
+is_end EndComment = true
+is_end t = false
+
+-- whether the next token is a begin with the hyphen
+abbrev pub begin_trims : List Lexeme → Bool
+begin_trims [] = false
+begin_trims (l ∷ ls) = is_begin l.token && l.hyphen
+
+abbrev pub shown_lexeme : List ℕ → Bool → Bool → Token → Lexeme → Lexeme
+shown_lexeme s end_before begin_behind Raw l = record l { span = shown s end_before begin_behind l.span }
+shown_lexeme s end_before begin_behind t l = l
+
+-- the tokens with the shown parts of the raw ones; the first argument tells whether an end with the hyphen stands before them
+abbrev pub shown_lexemes : List ℕ → Bool → List Lexeme → List Lexeme
+shown_lexemes s end_before [] = []
+shown_lexemes s end_before (l ∷ ls) = shown_lexeme s end_before (begin_trims ls) l.token l ∷ shown_lexemes s (is_end l.token && l.hyphen) ls

@@ -1,0 +1,4 @@
+// The written language: its definitions and laws.
+#![tactic(auto)]
+
+pub mod laws;

@@ -1,0 +1,17 @@
+pub mod Listed
+pub mod Entries
+pub mod Runs
+pub mod Names
+pub mod OpenBrackets
+pub mod Trims
+pub mod OpenTagPlaces
+pub mod LexFaults
+pub mod OpenModes
+pub mod ReadMore
+pub mod Clear
+pub mod Lines
+pub mod Bytes
+pub mod Strings
+pub mod Unexpected
+pub mod KindsBy
+pub mod Spaces

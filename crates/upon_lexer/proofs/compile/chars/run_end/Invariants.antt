@@ -1,0 +1,14 @@
+use Rattle.std.proofs.Common.{length, ◌-◌}
+use Rattle.std.specs.Str.{IsCharBoundary}
+use Rattle.upon_lexer.specs.Class.{class_test}
+use Rattle.upon_lexer.proofs.Runs.{Passes}
+use Rattle.upon_lexer.proofs.compile.chars.run_end.Given as goal
+
+abbrev pub invariant-loop-c : goal.invariant-loop-c
+invariant-loop-c l = record {
+  between : IsCharBoundary l.source l.end;
+  passes : Passes (class_test l.class) l.source l.at l.end;
+}
+
+abbrev pub decreases-loop-c : goal.decreases-loop-c
+decreases-loop-c l = length l.source - l.end

@@ -1,0 +1,9 @@
+pub mod Entry
+pub mod Searcher
+pub mod Class
+pub mod Marks
+pub mod Brackets
+pub mod Inner
+pub mod LexStep
+pub mod OpenTags
+pub mod Lexers

@@ -1,0 +1,89 @@
+// Characters of a text, one by one and in runs.
+ghost use Rattle.std.specs.Prelude.{◌≡◌, ◌⊎◌, ℕ, ◌+◌, length, false, encode_utf8, IfSome, MatchOption};
+ghost use Rattle.std.specs.Str.{IsCharBoundary};
+ghost use Rattle.std.specs.Char.{len_utf8};
+ghost use Rattle.upon_types.specs.Place.{LiesIn};
+ghost use Rattle.upon_language.specs.Search.{Occurs};
+ghost use Rattle.upon_language.specs.Words.{IsRun, begins_name, is_keyword};
+ghost use Rattle.upon_lexer.specs.Class.{class_test};
+
+/// The characters of which runs are made.
+#[derive(Clone, Copy)]
+pub enum CharClass {
+    /// The whitespace inside tags.
+    Space,
+    /// What continues a name.
+    Name,
+    /// What continues a number.
+    Number,
+    /// A digit.
+    Digit,
+}
+
+impl CharClass {
+    /// Whether a character is of the class.
+    pub fn has(self, c: char) -> bool
+        ensures { result ≡ class_test self c }
+    {
+        match self {
+            CharClass::Space => matches!(c, '\t' | '\n' | '\r' | ' '),
+            CharClass::Name => unicode_ident::is_xid_continue(c),
+            CharClass::Number => c.is_ascii_alphanumeric() || matches!(c, '_' | '-' | '+' | '.'),
+            CharClass::Digit => c.is_ascii_digit(),
+        }
+    }
+}
+
+/// Whether a character may begin a name.
+pub fn begins_name(c: char) -> bool
+    ensures { result ≡ begins_name c }
+{
+    c == '_' || unicode_ident::is_xid_start(c)
+}
+
+/// Whether a word is never a name.
+pub fn is_keyword(word: &str) -> bool
+    ensures { result ≡ is_keyword word.now }
+{
+    matches!(
+        word,
+        "if" | "not"
+            | "else"
+            | "endif"
+            | "for"
+            | "in"
+            | "endfor"
+            | "with"
+            | "as"
+            | "endwith"
+            | "include"
+            | "true"
+            | "false"
+    )
+}
+
+/// The character at a place of a text, in bytes; none stands at its end.
+pub fn char_at(source: &str, at: usize) -> Option<char>
+    requires { IsCharBoundary source.now at }
+    ensures stands { MatchOption result (at ≡ length source.now) (λ c. Occurs source.now at (encode_utf8 c)) }
+    ensures place { IfSome result (λ c. LiesIn source.now (record { m = at; n = at + len_utf8 c })) }
+{
+    source[at..].chars().next()
+}
+
+/// Where the run of a class's characters at a place ends, in bytes; the place itself, where none stands.
+pub fn run_end(class: CharClass, source: &str, at: usize) -> usize
+    requires { IsCharBoundary source.now at }
+    ensures run { (result ≡ at) ⊎ IsRun (class_test class) source.now at result }
+    ensures longest { (c : ℕ) → Occurs source.now result (encode_utf8 c) → class_test class c ≡ false }
+    ensures place { LiesIn source.now (record { m = at; n = result }) }
+{
+    let mut end = at;
+    while let Some(c) = char_at(source, end) {
+        if !class.has(c) {
+            break;
+        }
+        end += c.len_utf8();
+    }
+    end
+}

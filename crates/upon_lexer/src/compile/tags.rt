@@ -1,0 +1,79 @@
+// The tag that is open, and what a token does to it.
+ghost use Rattle.std.specs.Prelude.{◌≡◌, ◌&&◌, false};
+ghost use Rattle.upon_language.specs.Cut.{mode_after};
+ghost use Rattle.upon_language.specs.Inside.{path_after};
+ghost use Rattle.upon_language.specs.Shown.{is_end};
+ghost use Rattle.upon_language.specs.Tokens.{is_space};
+ghost use Rattle.upon_lexer.specs.OpenTags.{mode_of, begin_of};
+ghost use Rattle.upon_lexer.specs.LexStep.{begin_after};
+
+use crate::compile::marks::Sort;
+use upon_types::types::{Span, Token};
+
+/// A tag or a comment that was begun: its sort, where its begin stands, in bytes, and whether a digit begins an index there.
+#[derive(Clone, Copy)]
+pub struct OpenTag {
+    pub sort: Sort,
+    pub begin: Span,
+    pub in_path: bool,
+}
+
+impl OpenTag {
+    // A tag that has just begun.
+    fn new(sort: Sort, begin: Span) -> OpenTag
+        ensures sort { result.sort ≡ sort }
+        ensures begin { result.begin ≡ begin }
+        ensures in_path { result.in_path ≡ false }
+    {
+        OpenTag {
+            sort,
+            begin,
+            in_path: false,
+        }
+    }
+}
+
+/// The tag that is open behind a token at a place.
+pub fn tag_after(tag: Option<OpenTag>, token: Token, span: Span) -> Option<OpenTag>
+    ensures mode { mode_of result ≡ mode_after (mode_of tag) token }
+    ensures begin { begin_of result ≡ begin_after token span (begin_of tag) }
+{
+    match token {
+        Token::BeginExpr => Some(OpenTag::new(Sort::Expr, span)),
+        Token::BeginBlock => Some(OpenTag::new(Sort::Block, span)),
+        Token::BeginComment => Some(OpenTag::new(Sort::Comment, span)),
+        Token::EndExpr | Token::EndBlock | Token::EndComment => None,
+        _ => match tag {
+            Some(tag) => Some(OpenTag {
+                in_path: path_after(tag.in_path, token),
+                ..tag
+            }),
+            None => None,
+        },
+    }
+}
+
+// Whether a digit behind a token begins an index.
+fn path_after(in_path: bool, token: Token) -> bool
+    ensures { result ≡ path_after in_path token }
+{
+    match token {
+        Token::Ident | Token::Dot | Token::QuestionDot => true,
+        Token::OpenParen | Token::Pipe | Token::Comma | Token::Colon | Token::Keyword => false,
+        _ => in_path,
+    }
+}
+
+/// Whether a token is whitespace inside a tag.
+pub fn is_space(token: Token) -> bool
+    ensures { result ≡ is_space token }
+{
+    matches!(token, Token::Whitespace)
+}
+
+/// Whether a token is an end with the hyphen.
+pub fn end_trims(token: Token, hyphen: bool) -> bool
+    ensures { result ≡ (is_end token && hyphen) }
+{
+    hyphen && matches!(token, Token::EndExpr | Token::EndBlock | Token::EndComment)
+}

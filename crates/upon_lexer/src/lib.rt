@@ -1,0 +1,4 @@
+// From a template's text to its tokens.
+#![tactic(auto)]
+
+pub mod compile;

@@ -1,6 +1,0 @@
-use Rattle.upon_syntax.specs.Searcher.{pairs_of}
-use Rattle.upon_syntax.specs.Search.{NoneFrom}
-use Rattle.upon_syntax.proofs.compile.search.Searcher.find_at.Given as goal
-
-abbrev pub invariant-loop-place : goal.invariant-loop-place
-invariant-loop-place l = NoneFrom (pairs_of l.self) l.source l.at l.place

@@ -1,5 +1,0 @@
-use Rattle.upon_syntax.specs.Bounds.{occurs_lies_in}
-use Rattle.upon_syntax.proofs.compile.search.end_of.Goals as goal
-
-pub returns-clause-place : goal.returns-clause-place
-returns-clause-place c = occurs_lies_in c.args.source.now c.args.at c.args.text.now c.requires.some c.requires.stands c.utf8.source c.utf8.text

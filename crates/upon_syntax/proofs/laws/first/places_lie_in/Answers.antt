@@ -1,5 +1,0 @@
-use Rattle.upon_syntax.specs.PlacesLieIn.{lies_in}
-use Rattle.upon_syntax.proofs.laws.first.places_lie_in.Goals as goal
-
-pub returns : goal.returns
-returns c = lies_in

@@ -1,5 +1,0 @@
-use Rattle.upon_syntax.specs.OneWholeTree.{one_whole_tree}
-use Rattle.upon_syntax.proofs.laws.one_tree.Goals as goal
-
-pub returns : goal.returns
-returns c = one_whole_tree
