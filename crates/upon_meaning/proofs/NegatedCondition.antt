@@ -5,7 +5,7 @@ use Rattle.upon_types.specs.Tree.{if_else, Statements, otherwise}
 use Rattle.upon_types.specs.Val.{Val}
 use Rattle.upon_render.specs.Environment.{Environment}
 use Rattle.upon_render.specs.Found.{Found, found, at_fault}
-use Rattle.upon_render.specs.Truth.{truth}
+use Rattle.upon_types.specs.Truth.{truth}
 use Rattle.upon_meaning.specs.Engine.{Calls}
 use Rattle.upon_meaning.specs.Evaluation.{Evaluated, evaluate}
 use Rattle.upon_meaning.specs.Meaning.{Running, Inclusion, choose, condition, on_value, statement_means, statements_mean}

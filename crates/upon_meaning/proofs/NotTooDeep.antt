@@ -6,7 +6,7 @@ use Rattle.upon_types.specs.Path.{Word}
 use Rattle.upon_types.specs.Val.{Val}
 use Rattle.upon_render.specs.Environment.{Binding, Environment, turn}
 use Rattle.upon_render.specs.Found.{Found, found, at_fault, Reply}
-use Rattle.upon_meaning.specs.Answers.{FormatEnd, well, refused, Formatter, Callable, formatter, function}
+use Rattle.upon_types.specs.Answers.{FormatEnd, well, refused, Formatter, Callable, formatter, function}
 use Rattle.upon_meaning.specs.Emission.{end_of, shown_or_fault, formatted_by, emitted, emit_applied, emit_value, emit, emit_base}
 use Rattle.upon_meaning.specs.Engine.{Calls}
 use Rattle.upon_meaning.specs.Evaluation.{Evaluated, values_of, answered, evaluated_then, evaluate, evaluate_base, evaluate_arguments}

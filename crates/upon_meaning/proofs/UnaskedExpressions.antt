@@ -9,7 +9,7 @@ use Rattle.upon_render.specs.Environment.{Binding, Environment, context}
 use Rattle.upon_render.specs.Found.{Found, found, at_fault, Reply, reply, on_found, with_found}
 use Rattle.upon_render.specs.Lookup.{bindings_walk, or_root, lookup}
 use Rattle.upon_render.specs.Source.{refuses, Source}
-use Rattle.upon_meaning.specs.Answers.{Formatter, Callable, formatter, function}
+use Rattle.upon_types.specs.Answers.{Formatter, Callable, formatter, function}
 use Rattle.upon_meaning.specs.Emission.{shown, shown_or_fault, emit_found, formatted_by, emitted, emit_applied, emit_value, emit, emit_base}
 use Rattle.upon_meaning.specs.Engine.{Calls}
 use Rattle.upon_meaning.specs.Entries.{with_entry}

@@ -5,7 +5,7 @@ use Rattle.upon_types.specs.declared.types.Span.{Span}
 use Rattle.upon_types.specs.Fault.{Fault, render, function, format, made}
 use Rattle.upon_types.specs.Val.{Val, int_val, kind_word}
 use Rattle.upon_render.specs.LookupFaults.{wrong}
-use Rattle.upon_meaning.specs.Answers.{Misfit, wrong_type, out_of_range}
+use Rattle.upon_types.specs.Answers.{Misfit, wrong_type, out_of_range}
 
 -- of a name that is looked up, at the name
 abbrev pub unknown_callable : Span → Fault

@@ -2,7 +2,7 @@
 use Rattle.std.specs.Prelude.{ℕ, List, [], ◌++◌, Option, Some, None, Bool, true, false, codes}
 use Rattle.std.specs.Fmt.{signed_decimal}
 use Rattle.upon_types.specs.Val.{Val, none_val, bool_val, int_val, text_val, list_val, map_val, kind_word}
-use Rattle.upon_meaning.specs.Answers.{well, refused, Formatted, Formatter}
+use Rattle.upon_types.specs.Answers.{well, refused, Formatted, Formatter}
 
 abbrev pub bool_text : Bool → List ℕ
 bool_text true = codes "true"

@@ -5,7 +5,7 @@ use Rattle.upon_types.specs.Expression.{Expression, base, filtered, Base, var, l
 use Rattle.upon_types.specs.Path.{Word}
 use Rattle.upon_render.specs.Environment.{Environment}
 use Rattle.upon_render.specs.Found.{Found, found, at_fault, Reply}
-use Rattle.upon_meaning.specs.Answers.{FormatEnd, well, refused, Formatted, Formatter, Callable, formatter, function}
+use Rattle.upon_types.specs.Answers.{FormatEnd, well, refused, Formatted, Formatter, Callable, formatter, function}
 use Rattle.upon_meaning.specs.CallFaults.{unknown_callable, formatter_expects, not_formatted}
 use Rattle.upon_meaning.specs.Engine.{Calls}
 use Rattle.upon_meaning.specs.Evaluation.{Evaluated, values_of, answered, evaluated_then, evaluate, evaluate_base, evaluate_arguments}

@@ -3,7 +3,7 @@ use Rattle.std.specs.Prelude.{ℕ, List, Option, Some, None, codes}
 use Rattle.upon_types.specs.Tree.{Statements}
 use Rattle.upon_render.specs.Found.{Reply, reply}
 use Rattle.upon_render.specs.Source.{Said, says, refuses, Source}
-use Rattle.upon_meaning.specs.Answers.{Callable, Formatter}
+use Rattle.upon_types.specs.Answers.{Callable, Formatter}
 use Rattle.upon_meaning.specs.DefaultFormat.{chosen}
 
 -- a template: its text, and the tree that the text has

@@ -9,7 +9,7 @@ use Rattle.upon_types.specs.View.{vals_of}
 use Rattle.upon_render.specs.Environment.{Environment}
 use Rattle.upon_render.specs.Found.{Found, found, at_fault, Reply, reply, with_found}
 use Rattle.upon_render.specs.Lookup.{lookup}
-use Rattle.upon_meaning.specs.Answers.{Misfit, Answer, gives, wrong_number, wrong_argument, declines, Callable, formatter, function}
+use Rattle.upon_types.specs.Answers.{Misfit, Answer, gives, wrong_number, wrong_argument, declines, Callable, formatter, function}
 use Rattle.upon_meaning.specs.CallFaults.{unknown_function, formatter_found, function_expects, argument_misfits, function_declined}
 use Rattle.upon_meaning.specs.Engine.{Calls}
 use Rattle.upon_meaning.specs.Entries.{with_entry}

@@ -1,5 +1,4 @@
 pub mod Outcome
-pub mod Answers
 pub mod Engine
 pub mod CallFaults
 pub mod DefaultFormat

@@ -10,7 +10,7 @@ use Rattle.upon_types.specs.Val.{Val}
 use Rattle.upon_render.specs.Environment.{Binding, Environment, alone_over, with_name, turn}
 use Rattle.upon_render.specs.Found.{Found, found, at_fault, Reply}
 use Rattle.upon_render.specs.Items.{items_of}
-use Rattle.upon_render.specs.Truth.{truth}
+use Rattle.upon_types.specs.Truth.{truth}
 use Rattle.upon_meaning.specs.Emission.{emit}
 use Rattle.upon_meaning.specs.Engine.{Calls}
 use Rattle.upon_meaning.specs.Evaluation.{Evaluated, evaluate}

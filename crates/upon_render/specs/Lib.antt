@@ -1,7 +1,6 @@
 pub mod Found
 pub mod Vals
 pub mod LookupFaults
-pub mod Truth
 pub mod Walk
 pub mod Environment
 pub mod Items

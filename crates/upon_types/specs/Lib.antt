@@ -12,6 +12,9 @@ pub mod Token
 pub mod Expression
 pub mod Tree
 pub mod View
+pub mod Truth
+pub mod Answers
+pub mod Cow
 pub mod AstPath
 pub mod AstExpression
 pub mod Ast

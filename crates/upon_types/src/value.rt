@@ -4,10 +4,12 @@ ghost use Rattle.upon_types.specs.Val.{none_val, kind_word};
 ghost use Rattle.upon_types.specs.View.{view};
 
 mod clone;
+mod cow;
 mod from;
 pub mod look;
 pub mod same;
 
+pub use cow::ValueCow;
 use std::collections::BTreeMap;
 
 /// A value that a template can read or make.

@@ -4,7 +4,7 @@ use Rattle.upon_types.specs.Expression.{base, filtered, var, list, paren, call, 
 use Rattle.upon_types.specs.Fault.{render, format, made}
 use Rattle.upon_types.specs.Tree.{inline_expr, if_else, no_else}
 use Rattle.upon_types.specs.Val.{none_val}
-use Rattle.upon_meaning.specs.Answers.{Formatter, refused, Callable, formatter}
+use Rattle.upon_types.specs.Answers.{Formatter, refused, Callable, formatter}
 use Rattle.upon_meaning.specs.DefaultFormat.{default_format, formatted}
 use Rattle.upon_meaning.specs.Engine.{Engine}
 use Rattle.upon_meaning.proofs.Computing.{computing}

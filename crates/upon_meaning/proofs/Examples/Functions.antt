@@ -5,7 +5,7 @@ use Rattle.upon_types.specs.Expression.{base, filtered, list, paren, call, no_ar
 use Rattle.upon_types.specs.Fault.{render, function as of_function, format}
 use Rattle.upon_types.specs.Tree.{inline_expr, if_else, no_else}
 use Rattle.upon_types.specs.Val.{Val, none_val, int_val, text_val}
-use Rattle.upon_meaning.specs.Answers.{Answer, gives as answers, wrong_number, wrong_argument, wrong_type, out_of_range, declines, function}
+use Rattle.upon_types.specs.Answers.{Answer, gives as answers, wrong_number, wrong_argument, wrong_type, out_of_range, declines, function}
 use Rattle.upon_meaning.proofs.Computing.{computing}
 use Rattle.upon_meaning.proofs.Examples.Short.{at, word, name, number, quote, bases, statements, shows, list_of, map_of, template, engine, rendered, gives, breaks, fault_at}
 

@@ -12,7 +12,7 @@ use Rattle.upon_render.specs.Environment.{context}
 use Rattle.upon_render.specs.Found.{reply}
 use Rattle.upon_render.specs.Source.{refuses, Source}
 use Rattle.upon_meaning.specs.Alone.{alone, told}
-use Rattle.upon_meaning.specs.Answers.{Callable}
+use Rattle.upon_types.specs.Answers.{Callable}
 use Rattle.upon_meaning.specs.Engine.{Template, Engine, rendering_of}
 use Rattle.upon_meaning.specs.Entries.{with_entry}
 use Rattle.upon_meaning.specs.Outcome.{Outcome, States, states}
