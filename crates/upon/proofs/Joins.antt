@@ -4,10 +4,10 @@ use Rattle.std.proofs.Math.Seq.{drop-cons}
 use Rattle.std.proofs.lemmas.List.{append-nil}
 use Rattle.upon_types.specs.declared.types.first.Stmt.{Stmt}
 use Rattle.upon_types.specs.declared.error.Error.{Error}
-use Rattle.upon_types.specs.First.{statement_of, statements_of}
+use Rattle.upon_types.specs.FirstStage.View.{statement_of, statements_of}
 use Rattle.upon_types.specs.Fault.{Fault}
 use Rattle.upon_types.specs.Val.{Val}
-use Rattle.upon_language.specs.EachLiesIn.{EachLiesIn, StatementLiesIn}
+use Rattle.upon_language.specs.FirstStage.LiesIn.{EachLiesIn, StatementLiesIn}
 use Rattle.upon.specs.Meaning.{End, good, fails, Outcome, written, after, go_on, then_do, statement_means, statements_mean}
 use Rattle.upon.specs.Rendered.{EndsWith}
 

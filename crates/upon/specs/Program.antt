@@ -4,10 +4,11 @@ use Rattle.std.specs.List.{list_all, list_any}
 use Rattle.std.specs.declared.alloc.Global.{Global}
 use Rattle.upon.specs.declared.program.Failure.{Failure}
 use Rattle.upon.specs.declared.program.Failure.TheVariants.{Usage, Unreadable, NotText, Fault}
+use Rattle.upon_types.specs.Bytes.{equals_sign}
 
 -- a text that has a `=` (61)
 abbrev pub has_equals : String Global → Bool
-has_equals word = list_any (λ b. b == 61) (string_bytes word)
+has_equals word = list_any (λ b. b == equals_sign) (string_bytes word)
 
 -- a file's name, and then words that have a `=` each
 abbrev pub is_call : List (String Global) → Bool

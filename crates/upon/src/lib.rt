@@ -3,14 +3,15 @@
 
 ghost use Rattle.std.specs.Prelude.{◌≡◌, IfOk, IfErr};
 ghost use Rattle.std.specs.Cow.{cow_str_bytes};
-ghost use Rattle.upon_types.specs.First.{tree_of};
+ghost use Rattle.upon_types.specs.FirstStage.View.{tree_of};
 ghost use Rattle.upon_types.specs.Error.{fault_of};
 ghost use Rattle.upon_types.specs.Fault.{syntax, OrMemory};
-ghost use Rattle.upon_types.specs.FirstTree.{Statements};
+ghost use Rattle.upon_types.specs.FirstStage.Tree.{Statements};
 ghost use Rattle.upon_types.specs.View.{view};
-ghost use Rattle.upon_language.specs.FirstGrammar.{HasTree};
+ghost use Rattle.upon_language.specs.FirstStage.Grammar.{HasTree};
 ghost use Rattle.upon_syntax.specs.Parsed.{unsupported};
-ghost use Rattle.upon_lexer.specs.Searcher.{default_pairs, pairs_of};
+ghost use Rattle.upon_language.specs.DefaultDelimiters.{default_delimiters};
+ghost use Rattle.upon_lexer.specs.Syntax.{syntax_delimiters};
 
 pub mod program;
 pub mod render;
@@ -24,6 +25,7 @@ use std::marker::PhantomData;
 pub use upon_syntax::compile;
 use upon_syntax::compile::parse::Parser;
 use upon_syntax::compile::search::Searcher;
+pub use upon_syntax::types::syntax::Syntax;
 pub use upon_types::error::{Error, Result};
 use upon_types::types::first;
 pub use upon_types::value::Value;
@@ -35,7 +37,6 @@ pub struct Engine<'e> {
     alloc: Global,
     searcher: Searcher,
     templates: PhantomData<&'e str>,
-    ghost usual: { pairs_of searcher ≡ default_pairs },
 }
 
 impl<'e> Engine<'e> {
@@ -43,7 +44,7 @@ impl<'e> Engine<'e> {
 
     /// An engine with the default delimiters, which keeps the allocator.
     pub fn new(alloc: Global) -> Engine<'e>
-        ensures { engine_syntax result ≡ default_pairs }
+        ensures { engine_syntax result ≡ default_delimiters }
     {
         Engine {
             alloc,
@@ -54,13 +55,13 @@ impl<'e> Engine<'e> {
 
     /// The same as [`Engine::new`].
     pub fn default(alloc: Global) -> Engine<'e>
-        ensures { engine_syntax result ≡ default_pairs }
+        ensures { engine_syntax result ≡ default_delimiters }
     {
         Engine::new(alloc)
     }
 
     /// The template of a source. A source that has no tree is refused, with the kind `Syntax`, the reason
-    /// `unsupported template` and the place 0..0; want of memory has the kind `OutOfMemory`.
+    /// `unsupported template` and the span 0..0; out of memory has the kind `OutOfMemory`.
     pub fn compile<'s>(&self, source: CowStr<'s>) -> Result<Template<'s>>
         ensures source { IfOk result (λ t. template_source t ≡ cow_str_bytes source.entry) }
         ensures syntax { IfOk result (λ t. template_syntax t ≡ engine_syntax self.now) }
@@ -79,7 +80,11 @@ impl<'e> Engine<'e> {
     {
         let parser = Parser::new(self.alloc, &self.searcher, source.as_str());
         let tree = parser.parse_template()?;
-        Ok(Template { source, tree })
+        Ok(Template {
+            source,
+            syntax: self.searcher.syntax().try_clone()?,
+            tree,
+        })
     }
 }
 
@@ -87,8 +92,9 @@ impl<'e> Engine<'e> {
 #[derive(Drop)]
 pub struct Template<'s> {
     source: CowStr<'s>,
+    syntax: Syntax,
     tree: first::Template,
-    ghost stands: { ∥ HasTree default_pairs (cow_str_bytes source) (tree_of tree) ∥₁ },
+    ghost has_tree: { ∥ HasTree (syntax_delimiters syntax) (cow_str_bytes source) (tree_of tree) ∥₁ },
 }
 
 impl<'s> Template<'s> {

@@ -41,14 +41,15 @@ impl From<AllocError> for Failure {
     }
 }
 
-/// Renders `file` on the texts of `args`, the words `FILE [KEY=TEXT]..` behind the program's name, writes the text to
-/// `out`, flushes that, and answers the program's status; a fault is told on `err`.
+/// Renders `file` on the texts of `args`, the words `FILE [KEY=TEXT]..` after the program's name, writes the text to
+/// `out`, flushes that, and answers the program's status. A fault is reported on `err`.
 ///
 /// - 0: rendered.
-/// - 1: a fault of the engine, of memory or of `out`; its one line is on `err`.
+/// - 1: a fault of the engine, of memory or of `out`; `err` has its picture, ended by a newline.
 /// - 2: no FILE or a later word without `=`; or no `file`, or one that can't be read; or one that is not UTF-8.
 ///
-/// The words are looked at before the file is read. Of equal keys the last stands. A failed write to `err` is ignored.
+/// The words are tested before the file is read. Of equal keys the last counts. A failed write to `err` is ignored.
+/// `R` is `Drop`, since a file that is not read to its end is dropped.
 pub fn run<R: io::Read + Drop, O: io::Write, E: io::Write>(
     alloc: Global,
     args: &[String],
@@ -68,11 +69,11 @@ pub fn run<R: io::Read + Drop, O: io::Write, E: io::Write>(
         Some(name) => name.as_str(),
         None => "",
     };
-    tell(&failure, name, err)
+    report(alloc, &failure, name, err)
 }
 
-// Tells on standard error why a run failed, and answers the status.
-fn tell<E: Write>(failure: &Failure, name: &str, err: &mut E) -> u8
+// Reports on standard error why a run failed, and answers the status.
+fn report<E: Write>(alloc: Global, failure: &Failure, name: &str, err: &mut E) -> u8
     ensures { result ≡ status_of failure.now }
 {
     match failure {
@@ -89,10 +90,19 @@ fn tell<E: Write>(failure: &Failure, name: &str, err: &mut E) -> u8
             2
         }
         Failure::Fault(error) => {
-            let _ = writeln!(err, "{error}");
+            report_fault(alloc, error, err);
             1
         }
     }
+}
+
+// Reports a fault with its picture, ended by a newline; where there is no memory for that, that memory is out.
+fn report_fault<E: Write>(alloc: Global, error: &Error, err: &mut E) {
+    let _ = match error.pretty(alloc) {
+        Ok(text) if text.ends_with('\n') => write!(err, "{text}"),
+        Ok(text) => writeln!(err, "{text}"),
+        Err(_) => writeln!(err, "out of memory"),
+    };
 }
 
 // Does the work, up to the first failure.
@@ -110,7 +120,8 @@ fn work<R: Read + Drop, O: Write>(
     }
     let source = read_source(alloc, file)?;
     let context = read_context(alloc, &args[1..])?;
-    let text = render(alloc, source, &context)?;
+    let text = render(alloc, source, &context)
+        .map_err(|error| error.with_name(alloc, args[0].as_str()))?;
     show(text.as_str(), out)?;
     Ok(())
 }

@@ -1,8 +1,8 @@
 // Rendering: what a template is rendered on, and the renderer.
 ghost use Rattle.std.specs.Prelude.{◌≡◌};
-ghost use Rattle.upon_types.specs.FirstTree.{Statements};
+ghost use Rattle.upon_types.specs.FirstStage.Tree.{Statements};
 ghost use Rattle.upon_types.specs.View.{view};
-ghost use Rattle.upon_language.specs.FirstGrammar.{HasTree};
+ghost use Rattle.upon_language.specs.FirstStage.Grammar.{HasTree};
 ghost use Rattle.upon.specs.Meaning.{alone};
 ghost use Rattle.upon.specs.Rendered.{Answers};
 ghost use Rattle.upon.specs.Engine.{template_source, template_syntax, context_value, rendered_template, rendered_context};

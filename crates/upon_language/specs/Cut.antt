@@ -1,60 +1,67 @@
--- How a text is cut: raw parts, tags and comments, as tokens one behind the other.
+-- How a text is cut: raw parts, tags and comments, as tokens one after the other.
 use Rattle.std.specs.Prelude.{◌≡◌, ◌⊎◌, ℕ, List, [], ◌∷◌, Bool, false, Some}
 use Rattle.upon_types.specs.declared.types.Span.{Span}
 use Rattle.upon_types.specs.declared.types.Delimiter.{Delimiter}
 use Rattle.upon_types.specs.declared.types.token.Token.{Token}
 use Rattle.upon_types.specs.declared.types.token.Token.TheVariants.{Raw, BeginExpr, EndExpr, BeginBlock, EndBlock, BeginComment, EndComment}
-use Rattle.upon_language.specs.Search.{Pair, Stands}
-use Rattle.upon_language.specs.Delimiters.{Sort, expression, block, comment, begun, ended, has_hyphen, begin_token, end_token}
+use Rattle.upon_language.specs.Search.{DelimiterText, IsBestDelimiter}
+use Rattle.upon_language.specs.Delimiters.{Sort, expression, block, comment, begin_sort, end_sort, has_hyphen, begin_token, end_token}
 use Rattle.upon_language.specs.Raw.{IsRaw}
-use Rattle.upon_language.specs.Inside.{IsInner, path_after}
+use Rattle.upon_language.specs.Inside.{IsInside, in_path_after}
 
--- a token and where it stands; of a delimiter, whether it has the hyphen
+-- a token and where it is; of a delimiter, whether it has the hyphen
 pub record Lexeme : Type 0 where
   pub token : Token
   pub hyphen : Bool
   pub span : Span
 
--- where a place of a text lies: outside tags, in a tag (and there in a path or not), or in a comment
+-- where an offset of a text is: outside tags, in a tag (and there in a path or not), or in a comment
 pub data Mode : Type 0 where
   outside : Mode
   in_tag : Sort → Bool → Mode
   in_comment : Mode
 
 -- the best delimiter at m begins this sort
-pub record Begins (pairs : List Pair) (s : List ℕ) (sort : Sort) (hyphen : Bool) (m n : ℕ) : Type 0 where
+pub record Begins (delimiters : List DelimiterText) (s : List ℕ) (sort : Sort) (hyphen : Bool) (m n : ℕ) : Type 0 where
   pub kind : Delimiter
-  pub stands : Stands pairs s kind m n
-  pub of_sort : begun kind ≡ Some sort
+  pub occurs : IsBestDelimiter delimiters s kind m n
+  pub of_sort : begin_sort kind ≡ Some sort
   pub of_hyphen : has_hyphen kind ≡ hyphen
 
 -- the best delimiter at m ends this sort
-pub record Ends (pairs : List Pair) (s : List ℕ) (sort : Sort) (hyphen : Bool) (m n : ℕ) : Type 0 where
+pub record Ends (delimiters : List DelimiterText) (s : List ℕ) (sort : Sort) (hyphen : Bool) (m n : ℕ) : Type 0 where
   pub kind : Delimiter
-  pub stands : Stands pairs s kind m n
-  pub of_sort : ended kind ≡ Some sort
+  pub occurs : IsBestDelimiter delimiters s kind m n
+  pub of_sort : end_sort kind ≡ Some sort
   pub of_hyphen : has_hyphen kind ≡ hyphen
 
-abbrev pub IsRawToken : List Pair → List ℕ → Token → Bool → ℕ → ℕ → Type 0
-IsRawToken pairs s t hyphen m n = (t ≡ Raw) × (hyphen ≡ false) × IsRaw pairs s m n
+-- a raw part is a token
+abbrev pub IsRawToken : List DelimiterText → List ℕ → Token → Bool → ℕ → ℕ → Type 0
+IsRawToken delimiters s t hyphen m n = (t ≡ Raw) × (hyphen ≡ false) × IsRaw delimiters s m n
 
-abbrev pub IsBegin : List Pair → List ℕ → Token → Bool → ℕ → ℕ → Type 0
-IsBegin pairs s t hyphen m n = (sort : Sort) × (t ≡ begin_token sort) × Begins pairs s sort hyphen m n
+-- a begin of a sort is its token
+abbrev pub IsBegin : List DelimiterText → List ℕ → Token → Bool → ℕ → ℕ → Type 0
+IsBegin delimiters s t hyphen m n = (sort : Sort) × (t ≡ begin_token sort) × Begins delimiters s sort hyphen m n
 
-abbrev pub IsEnd : List Pair → List ℕ → Sort → Token → Bool → ℕ → ℕ → Type 0
-IsEnd pairs s sort t hyphen m n = (t ≡ end_token sort) × Ends pairs s sort hyphen m n
+-- an end of this sort is its token
+abbrev pub IsEnd : List DelimiterText → List ℕ → Sort → Token → Bool → ℕ → ℕ → Type 0
+IsEnd delimiters s sort t hyphen m n = (t ≡ end_token sort) × Ends delimiters s sort hyphen m n
 
--- this token stands from m to n, in this mode
-abbrev pub Step : List Pair → List ℕ → Mode → Token → Bool → ℕ → ℕ → Type 0
-Step pairs s outside t hyphen m n = IsRawToken pairs s t hyphen m n ⊎ IsBegin pairs s t hyphen m n
-Step pairs s (in_tag sort in_path) t hyphen m n = IsEnd pairs s sort t hyphen m n ⊎ ((hyphen ≡ false) × IsInner pairs s in_path t m n)
-Step pairs s in_comment t hyphen m n = IsRawToken pairs s t hyphen m n ⊎ IsEnd pairs s comment t hyphen m n
+-- this token is from m to n, in this mode
+abbrev pub IsToken : List DelimiterText → List ℕ → Mode → Token → Bool → ℕ → ℕ → Type 0
+IsToken delimiters s outside t hyphen m n = IsRawToken delimiters s t hyphen m n ⊎ IsBegin delimiters s t hyphen m n
+IsToken delimiters s (in_tag sort in_path) t hyphen m n = IsEnd delimiters s sort t hyphen m n ⊎
+    ((hyphen ≡ false) × IsInside delimiters s in_path t m n)
+IsToken delimiters s in_comment t hyphen m n = IsRawToken delimiters s t hyphen m n
+    ⊎ IsEnd delimiters s comment t hyphen m n
 
-abbrev pub going_on : Mode → Token → Mode
-going_on outside t = outside
-going_on (in_tag sort in_path) t = in_tag sort (path_after in_path t)
-going_on in_comment t = in_comment
+-- the mode after a token that is no delimiter
+abbrev pub same_mode : Mode → Token → Mode
+same_mode outside t = outside
+same_mode (in_tag sort in_path) t = in_tag sort (in_path_after in_path t)
+same_mode in_comment t = in_comment
 
+-- the mode after a token
 abbrev pub mode_after : Mode → Token → Mode
 mode_after mode BeginExpr = in_tag expression false
 mode_after mode BeginBlock = in_tag block false
@@ -62,9 +69,11 @@ mode_after mode BeginComment = in_comment
 mode_after mode EndExpr = outside
 mode_after mode EndBlock = outside
 mode_after mode EndComment = outside
-mode_after mode t = going_on mode t
+mode_after mode t = same_mode mode t
 
--- From the place m, in a mode, to the place n, in another, the text is cut into these tokens, one behind the other. A comment may be empty here.
-abbrev pub Cut : List Pair → List ℕ → Mode → ℕ → List Lexeme → Mode → ℕ → Type 0
-Cut pairs s mode m [] mode' n = (mode ≡ mode') × (m ≡ n)
-Cut pairs s mode m (l ∷ ls) mode' n = (l.span.m ≡ m) × Step pairs s mode l.token l.hyphen m l.span.n × Cut pairs s (mode_after mode l.token) l.span.n ls mode' n
+-- From the offset m, in a mode, to the offset n, in another, the text is cut into these tokens, one after the other.
+-- A comment may be empty here.
+abbrev pub Cut : List DelimiterText → List ℕ → Mode → ℕ → List Lexeme → Mode → ℕ → Type 0
+Cut delimiters s mode m [] mode' n = (mode ≡ mode') × (m ≡ n)
+Cut delimiters s mode m (l ∷ ls) mode' n = (l.span.m ≡ m) × IsToken delimiters s mode l.token l.hyphen m l.span.n
+    × Cut delimiters s (mode_after mode l.token) l.span.n ls mode' n

@@ -13,34 +13,34 @@ pub data Sort : Type 0 where
   deriving IsSet as Sort-set
 
 -- the sort that a delimiter begins
-abbrev pub begun : Delimiter → Option Sort
-begun BeginExpr = Some expression
-begun BeginExprTrim = Some expression
-begun BeginBlock = Some block
-begun BeginBlockTrim = Some block
-begun BeginComment = Some comment
-begun BeginCommentTrim = Some comment
-begun EndExpr = None
-begun EndExprTrim = None
-begun EndBlock = None
-begun EndBlockTrim = None
-begun EndComment = None
-begun EndCommentTrim = None
+abbrev pub begin_sort : Delimiter → Option Sort
+begin_sort BeginExpr = Some expression
+begin_sort BeginExprTrim = Some expression
+begin_sort BeginBlock = Some block
+begin_sort BeginBlockTrim = Some block
+begin_sort BeginComment = Some comment
+begin_sort BeginCommentTrim = Some comment
+begin_sort EndExpr = None
+begin_sort EndExprTrim = None
+begin_sort EndBlock = None
+begin_sort EndBlockTrim = None
+begin_sort EndComment = None
+begin_sort EndCommentTrim = None
 
 -- the sort that a delimiter ends
-abbrev pub ended : Delimiter → Option Sort
-ended BeginExpr = None
-ended BeginExprTrim = None
-ended BeginBlock = None
-ended BeginBlockTrim = None
-ended BeginComment = None
-ended BeginCommentTrim = None
-ended EndExpr = Some expression
-ended EndExprTrim = Some expression
-ended EndBlock = Some block
-ended EndBlockTrim = Some block
-ended EndComment = Some comment
-ended EndCommentTrim = Some comment
+abbrev pub end_sort : Delimiter → Option Sort
+end_sort BeginExpr = None
+end_sort BeginExprTrim = None
+end_sort BeginBlock = None
+end_sort BeginBlockTrim = None
+end_sort BeginComment = None
+end_sort BeginCommentTrim = None
+end_sort EndExpr = Some expression
+end_sort EndExprTrim = Some expression
+end_sort EndBlock = Some block
+end_sort EndBlockTrim = Some block
+end_sort EndComment = Some comment
+end_sort EndCommentTrim = Some comment
 
 -- whether it trims the raw part beside it
 abbrev pub has_hyphen : Delimiter → Bool
@@ -57,11 +57,13 @@ has_hyphen EndBlockTrim = true
 has_hyphen EndComment = false
 has_hyphen EndCommentTrim = true
 
+-- the token of a begin
 abbrev pub begin_token : Sort → Token
 begin_token expression = token.BeginExpr
 begin_token block = token.BeginBlock
 begin_token comment = token.BeginComment
 
+-- the token of an end
 abbrev pub end_token : Sort → Token
 end_token expression = token.EndExpr
 end_token block = token.EndBlock

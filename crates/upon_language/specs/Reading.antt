@@ -1,15 +1,16 @@
--- What a text reads to before a place, and what of it counts there: the open tag, its brackets, the open blocks.
+-- What a text reads to before an offset, and what of it counts there: the open tag, its brackets, the open blocks.
 use Rattle.std.specs.Prelude.{ℕ, List, [], ◌∷◌, ◌++◌, Bool, true, false, Option, Some, None, if◌then◌else◌}
 use Rattle.upon_types.specs.declared.types.Span.{Span}
 use Rattle.upon_types.specs.declared.types.token.Token.{Token}
 use Rattle.upon_types.specs.declared.types.token.Token.TheVariants.{BeginExpr, BeginBlock, BeginComment, OpenBracket, CloseBracket, OpenBrace, CloseBrace, OpenParen, CloseParen}
-use Rattle.upon_language.specs.Search.{Pair}
+use Rattle.upon_language.specs.Search.{DelimiterText}
 use Rattle.upon_language.specs.Cut.{Lexeme, Mode, outside, Cut}
 
 -- the text reads to p: it is cut into these tokens, and lies then in this mode
-abbrev pub ReadsTo : List Pair → List ℕ → List Lexeme → Mode → ℕ → Type 0
-ReadsTo pairs s ls mode p = Cut pairs s outside 0 ls mode p
+abbrev pub ReadsTo : List DelimiterText → List ℕ → List Lexeme → Mode → ℕ → Type 0
+ReadsTo delimiters s ls mode p = Cut delimiters s outside 0 ls mode p
 
+-- whether a token is a begin
 abbrev pub opens_tag : Token → Bool
 opens_tag BeginExpr = true
 opens_tag BeginBlock = true
@@ -21,6 +22,7 @@ abbrev pub from_begin : List Lexeme → List Lexeme → List Lexeme
 from_begin so_far [] = so_far
 from_begin so_far (l ∷ ls) = if opens_tag l.token then from_begin (l ∷ []) ls else from_begin (so_far ++ l ∷ []) ls
 
+-- the tokens of the tag that is open after these
 abbrev pub open_tag : List Lexeme → List Lexeme
 open_tag ls = from_begin [] ls
 
@@ -42,6 +44,7 @@ brackets_after (o ∷ stack) CloseBrace l = stack
 brackets_after (o ∷ stack) CloseParen l = stack
 brackets_after stack t l = stack
 
+-- the open brackets after some tokens
 abbrev pub brackets_from : List Lexeme → List Lexeme → List Lexeme
 brackets_from stack [] = stack
 brackets_from stack (l ∷ ls) = brackets_from (brackets_after stack l.token l) ls
@@ -53,8 +56,10 @@ open_brackets ls = brackets_from [] (open_tag ls)
 -- the tokens before the open tag
 abbrev pub closed_part : List Lexeme → List Lexeme → List Lexeme → List Lexeme
 closed_part done tag [] = done
-closed_part done tag (l ∷ ls) = if opens_tag l.token then closed_part (done ++ tag) (l ∷ []) ls else closed_part done (tag ++ l ∷ []) ls
+closed_part done tag (l ∷ ls) = if opens_tag l.token then closed_part (done ++ tag) (l ∷ []) ls else closed_part done
+    (tag ++ l ∷ []) ls
 
+-- the tokens before the open tag
 abbrev pub before_tag : List Lexeme → List Lexeme
 before_tag ls = closed_part [] [] ls
 

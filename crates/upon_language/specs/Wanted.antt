@@ -1,10 +1,11 @@
--- The word that is told for what a tag wants at a place, and what is told of a token that may not stand there.
+-- The word that is reported for what a tag wants at an offset, and what is reported of a token that may not be there.
 use Rattle.std.specs.Prelude.{ℕ, ◌<◌, List, [], ◌∷◌, ◌++◌, codes}
 use Rattle.upon_types.specs.declared.types.token.Token.{Token}
 use Rattle.upon_types.specs.declared.types.token.Token.TheVariants.{EndExpr, EndBlock, OpenBracket, CloseBracket, CloseBrace, CloseParen, Colon, Keyword, Ident, Index, Number, String}
 use Rattle.upon_types.specs.Token.{token_word}
 use Rattle.upon_language.specs.Tags.{Symbol, BeginsTag}
 
+-- what a tag can want next
 pub data Wanted : Type 0 where
   an_expression : Wanted
   a_string : Wanted
@@ -21,7 +22,7 @@ pub data Wanted : Type 0 where
   a_number : Wanted
   a_colon : Wanted
 
--- of the words that may stand at a place, the one with the least rank is told
+-- of the words that may be at an offset, the one with the least rank is reported
 abbrev pub rank : Wanted → ℕ
 rank an_expression = 0
 rank a_string = 1
@@ -38,13 +39,16 @@ rank a_name = 11
 rank a_number = 12
 rank a_colon = 13
 
+-- the symbol of a token that is no keyword
 abbrev pub plain_symbol : Token → Symbol
 plain_symbol t = record { token = t; word = [] }
 
+-- the symbol of a keyword
 abbrev pub keyword_symbol : List ℕ → Symbol
 keyword_symbol word = record { token = Keyword; word = word }
 
--- a token that shows that the word may stand: an expression may begin with `[`, an index stands only behind `.` or `?.`, and `endif` only where a block begins
+-- a token that shows that the word may be: an expression may begin with `[`, an index is only after `.` or `?.`, and
+-- `endif` only where a block begins
 abbrev pub shows : Wanted → Symbol
 shows an_expression = plain_symbol OpenBracket
 shows a_string = plain_symbol String
@@ -61,14 +65,16 @@ shows a_name = plain_symbol Ident
 shows a_number = plain_symbol Number
 shows a_colon = plain_symbol Colon
 
+-- this word may follow the row
 abbrev pub MayStand : List Symbol → Wanted → Type 0
 MayStand row w = BeginsTag (row ++ shows w ∷ [])
 
--- behind the row this word may stand, and none of a lesser rank
+-- after the row this word may be, and none of a lesser rank
 pub record IsWanted (row : List Symbol) (w : Wanted) : Type 0 where
   pub may_stand : MayStand row w
   pub least : (v : Wanted) → rank v < rank w → MayStand row v → ⊥
 
+-- the words that report it
 abbrev pub wanted_word : Wanted → List ℕ
 wanted_word an_expression = codes "expression"
 wanted_word a_string = codes "string"
@@ -91,26 +97,32 @@ wanted_at_end an_expression = codes "token"
 wanted_at_end a_name_or_index = codes "token"
 wanted_at_end w = wanted_word w
 
+-- `expected .., found ..`
 abbrev pub expected_found : List ℕ → List ℕ → List ℕ
 expected_found wanted found = codes "expected " ++ (wanted ++ (codes ", found " ++ found))
 
+-- a word between backquotes
 abbrev pub in_quotes : List ℕ → List ℕ
 in_quotes word = codes "`" ++ (word ++ codes "`")
 
+-- the reason of a keyword that may not begin there
 abbrev pub unexpected_keyword : List ℕ → List ℕ
 unexpected_keyword word = codes "unexpected keyword " ++ in_quotes word
 
+-- the reason of a keyword where another has to come
 abbrev pub expected_keyword : List ℕ → List ℕ → List ℕ
-expected_keyword wanted found = expected_found (codes "keyword " ++ in_quotes wanted) (codes "keyword " ++ in_quotes found)
+expected_keyword wanted found = expected_found (codes "keyword " ++ in_quotes wanted)
+    (codes "keyword " ++ in_quotes found)
 
--- what is told of a keyword that may not stand there
-abbrev pub told_of_keyword : Wanted → List ℕ → List ℕ
-told_of_keyword an_expression word = unexpected_keyword word
-told_of_keyword an_in word = expected_keyword (codes "in") word
-told_of_keyword an_as word = expected_keyword (codes "as") word
-told_of_keyword a_block_word word = unexpected_keyword word
-told_of_keyword w word = expected_found (wanted_word w) (codes "keyword")
+-- what is reported of a keyword that may not be there
+abbrev pub reason_for_keyword : Wanted → List ℕ → List ℕ
+reason_for_keyword an_expression word = unexpected_keyword word
+reason_for_keyword an_in word = expected_keyword (codes "in") word
+reason_for_keyword an_as word = expected_keyword (codes "as") word
+reason_for_keyword a_block_word word = unexpected_keyword word
+reason_for_keyword w word = expected_found (wanted_word w) (codes "keyword")
 
-abbrev pub told_of : Wanted → Token → List ℕ → List ℕ
-told_of w Keyword word = told_of_keyword w word
-told_of w t word = expected_found (wanted_word w) (token_word t)
+-- the reason of a token that may not follow, by what is wanted
+abbrev pub reason_for : Wanted → Token → List ℕ → List ℕ
+reason_for w Keyword word = reason_for_keyword w word
+reason_for w t word = expected_found (wanted_word w) (token_word t)

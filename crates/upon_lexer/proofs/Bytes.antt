@@ -1,11 +1,11 @@
--- A byte below 128 at a place of a text: it is a character, and the text may be cut behind it.
+-- A byte below 128 at an offset of a text: it is a character, and the text may be cut after it.
 use Rattle.std.proofs.Common.{◌≡◌, ℕ, ◌+◌, ◌<◌, List, [], ◌∷◌, ◌++◌, length, drop, encode_utf8, refl, sym, ap, ◌∙◌, subst}
 use Rattle.std.specs.Str.{IsUtf8, IsCharBoundary}
 use Rattle.std.proofs.lemmas.List.{drop-drop}
 use Rattle.std.proofs.lemmas.Str.{encode_ascii}
 use Rattle.upon_language.specs.Search.{Occurs}
-use Rattle.upon_language.specs.Bounds.{drop-Occurs, Occurs-from_drop}
-use Rattle.upon_language.proofs.StepLiesIn.{low_between}
+use Rattle.upon_language.proofs.SpansLieIn.Offsets.{drop-Occurs, Occurs-from_drop}
+use Rattle.upon_language.proofs.SpansLieIn.Token.{low_between}
 
 module _ (s : List ℕ) (at b : ℕ) where
   pub byte_as_char : b < 128 → Occurs s at (b ∷ []) → Occurs s at (encode_utf8 b)

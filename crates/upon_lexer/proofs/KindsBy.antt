@@ -5,7 +5,7 @@ use Rattle.std.proofs.lemmas.Bool.Decides.{nat_tests}
 use Rattle.upon_types.specs.declared.types.token.Token.{Token}
 use Rattle.upon_types.specs.declared.types.token.Token.TheVariants.{Raw, BeginExpr, EndExpr, BeginBlock, EndBlock, BeginComment, EndComment, OpenBracket, CloseBracket, OpenBrace, CloseBrace, OpenParen, CloseParen, Dot, QuestionDot, Pipe, Comma, Colon, Plus, Minus, Whitespace, Keyword, Ident, Index, Number, String}
 use Rattle.upon_language.specs.Words.{is_tag_space, begins_name}
-use Rattle.upon_language.specs.Inside.{kind_by, Extent, begins_as}
+use Rattle.upon_language.specs.Inside.{token_kind, Extent, start_kind}
 
 -- what is known of a character that begins a token of this kind
 abbrev pub Proper : Token → ℕ → Type 0
@@ -49,7 +49,7 @@ module _ (c : ℕ) where
   digit true h = told Index h
   digit false h = told Number h
 
-  pub proper_kind : (in_path : Bool) → Told (kind_by in_path c)
+  pub proper_kind : (in_path : Bool) → Told (token_kind in_path c)
   proper_kind in_path =
       by_case (is_tag_space c) _ _ (told Whitespace) (λ _.
       by_case (c == 46) _ _ (λ h. told Dot (low c 46 (omega arith) h)) (λ _.
@@ -72,7 +72,7 @@ module _ (c : ℕ) where
 -- a token of one character: how far it goes
 pub record IsSingle (s : List ℕ) (m c : ℕ) (t : Token) : Type 0 where
   pub ascii : c < 128
-  pub as_itself : t ≡ begins_as t
+  pub as_itself : t ≡ start_kind t
   pub extent : Extent s t m (m + 1)
 
 module _ (s : List ℕ) (m c : ℕ) where

@@ -15,3 +15,4 @@ pub mod Strings
 pub mod Unexpected
 pub mod KindsBy
 pub mod Spaces
+pub mod Starts

@@ -1,4 +1,4 @@
--- Where a line ends: at the first byte behind a place that ends one.
+-- Where a line ends: at the first byte after a span that ends one.
 use Rattle.std.proofs.Common.{◌≡◌, ℕ, ◌+◌, ◌-◌, ◌<◌, ◌≤◌, inl, inr, Bool, true, false, List, length, drop, get_or, get_or-drop, length-drop, arith, refl, sym, ap, ◌∙◌}
 use Rattle.std.specs.Prelude.{slice_index}
 use Rattle.memchr.specs.Find.{Passes, NoneBefore, Nowhere, is_byte2}
@@ -29,7 +29,7 @@ module _ (s rest : List ℕ) (at : ℕ) (within : at ≤ length s) (is : rest �
       let total = rest_length in
       let high = h.high in
       record {
-        behind = omega arith;
+        start = omega arith;
         within = omega arith;
         none = none_up_to k h.before;
         ends = inr (omega arith, ap ends_line (sym (at_rest k)) ∙ passes);
@@ -39,7 +39,7 @@ module _ (s rest : List ℕ) (at : ℕ) (within : at ≤ length s) (is : rest �
   line_unfound h =
       let total = rest_length in
       record {
-        behind = within;
+        start = within;
         within = omega arith;
         none = λ q after below. none_up_to (length rest) h q after (omega arith);
         ends = inl refl;

@@ -6,16 +6,16 @@ use Rattle.std.proofs.lemmas.List.{append-nil}
 use Rattle.upon_language.specs.Cut.{Lexeme}
 use Rattle.upon_language.specs.Faults.{is_close}
 use Rattle.upon_language.specs.Reading.{brackets_after}
-use Rattle.upon_lexer.specs.Brackets.{open_token, close_token, bracket_lexeme, opened, brackets_of, innermost}
+use Rattle.upon_lexer.specs.Brackets.{open_token, close_token, bracket_lexeme, open_from, brackets_of, innermost}
 use Rattle.upon_lexer.specs.declared.compile.brackets.OpenBracket.{OpenBracket}
 use Rattle.upon_lexer.specs.declared.compile.brackets.Shape.{Shape}
 use Rattle.upon_lexer.specs.declared.compile.brackets.Shape.TheVariants.{Bracket, Brace, Paren}
 
-opened_more : (stack : List Lexeme) (bs cs : List OpenBracket) → opened stack (bs ++ cs) ≡ opened (opened stack bs) cs
+opened_more : (stack : List Lexeme) (bs cs : List OpenBracket) → open_from stack (bs ++ cs) ≡ open_from (open_from stack bs) cs
 opened_more stack [] cs = refl
 opened_more stack (b ∷ bs) cs = opened_more (bracket_lexeme b ∷ stack) bs cs
 
-last_opened : (stack : List Lexeme) (b : OpenBracket) (bs : List OpenBracket) → option_map bracket_lexeme (slice_get (b ∷ bs) (length bs)) ≡ innermost (opened stack (b ∷ bs))
+last_opened : (stack : List Lexeme) (b : OpenBracket) (bs : List OpenBracket) → option_map bracket_lexeme (slice_get (b ∷ bs) (length bs)) ≡ innermost (open_from stack (b ∷ bs))
 last_opened stack b [] = refl
 last_opened stack b (c ∷ cs) = last_opened (bracket_lexeme b ∷ stack) c cs
 
@@ -54,7 +54,7 @@ closes bs rest (Some b) shape l e none =
     ∙ ap (λ x. brackets_after x (close_token shape) l) (sym (opened_more [] rest (b ∷ [])))
     ∙ ap (λ x. brackets_after (brackets_of x) (close_token shape) l) (sym e)
 
--- where there is an innermost bracket, it stands first
+-- where there is an innermost bracket, it is first
 pub innermost_first : (ls : List Lexeme) (l : Lexeme) → Some l ≡ innermost ls → (others : List Lexeme) × (ls ≡ l ∷ others)
 innermost_first [] l e = absurd (cc)
 innermost_first (k ∷ ks) l e = let same : k ≡ l = cc in (ks, ap (λ x. x ∷ ks) same)

@@ -1,16 +1,16 @@
 -- What an open tag awaits.
 use Rattle.std.proofs.Common.{◌≡◌, Bool, Option, Some, refl, ap, ◌∙◌}
-use Rattle.upon_lexer.specs.Marks.{sort_of}
-use Rattle.upon_language.specs.Faults.{awaited}
+use Rattle.upon_lexer.specs.Roles.{sort_of}
+use Rattle.upon_language.specs.Faults.{awaited_sort}
 use Rattle.upon_lexer.specs.OpenTags.{mode_in, mode_of}
-use Rattle.upon_lexer.specs.declared.compile.marks.Sort.{Sort}
-use Rattle.upon_lexer.specs.declared.compile.marks.Sort.TheVariants.{Expr, Block, Comment}
+use Rattle.upon_lexer.specs.declared.compile.roles.Sort.{Sort}
+use Rattle.upon_lexer.specs.declared.compile.roles.Sort.TheVariants.{Expr, Block, Comment}
 use Rattle.upon_lexer.specs.declared.compile.tags.OpenTag.{OpenTag}
 
-awaited_in : (sort : Sort) (in_path : Bool) → awaited (mode_in sort in_path) ≡ Some (sort_of sort)
+awaited_in : (sort : Sort) (in_path : Bool) → awaited_sort (mode_in sort in_path) ≡ Some (sort_of sort)
 awaited_in Expr in_path = refl
 awaited_in Block in_path = refl
 awaited_in Comment in_path = refl
 
-pub awaited_of : (tag : Option OpenTag) (open_tag : OpenTag) → tag ≡ Some open_tag → awaited (mode_of tag) ≡ Some (sort_of open_tag.sort)
-awaited_of tag open_tag e = ap (λ t. awaited (mode_of t)) e ∙ awaited_in open_tag.sort open_tag.in_path
+pub awaited_of : (tag : Option OpenTag) (open_tag : OpenTag) → tag ≡ Some open_tag → awaited_sort (mode_of tag) ≡ Some (sort_of open_tag.sort)
+awaited_of tag open_tag e = ap (λ t. awaited_sort (mode_of t)) e ∙ awaited_in open_tag.sort open_tag.in_path

@@ -1,9 +1,9 @@
--- The open tag behind a token begins where the token does, or where it began before.
+-- The open tag after a token begins where the token does, or where it began before.
 use Rattle.std.proofs.Common.{◌≡◌, ℕ, List, Option, Some, None, refl, subst}
 use Rattle.upon_types.specs.declared.types.Span.{Span}
 use Rattle.upon_types.specs.declared.types.token.Token.{Token}
 use Rattle.upon_types.specs.declared.types.token.Token.TheVariants.{BeginExpr, EndExpr, BeginBlock, EndBlock, BeginComment, EndComment}
-use Rattle.upon_types.specs.Place.{LiesIn}
+use Rattle.upon_types.specs.Span.{LiesIn}
 use Rattle.upon_lexer.specs.LexStep.{begin_after}
 use Rattle.upon_lexer.specs.OpenTags.{begin_of}
 use Rattle.upon_lexer.specs.declared.compile.tags.OpenTag.{OpenTag}

@@ -1,17 +1,17 @@
--- A lexer that has read some tokens has read one more behind it: where its open tag begins, and which brackets are open.
+-- A lexer that has read some tokens has read one more after it: where its open tag begins, and which brackets are open.
 use Rattle.std.proofs.Common.{◌≡◌, ℕ, List, [], ◌∷◌, ◌++◌, Bool, true, false, Option, Some, inl, inr, refl, sym, ap, ◌∙◌, subst, if◌then◌else◌}
 use Rattle.upon_types.specs.declared.types.Span.{Span}
 use Rattle.upon_types.specs.declared.types.token.Token.{Token}
 use Rattle.upon_types.specs.declared.types.token.Token.TheVariants.{Raw, BeginExpr, EndExpr, BeginBlock, EndBlock, BeginComment, EndComment}
-use Rattle.upon_language.specs.Search.{Pair}
+use Rattle.upon_language.specs.Search.{DelimiterText}
 use Rattle.upon_language.specs.Delimiters.{Sort, expression, block, comment, begin_token, end_token}
-use Rattle.upon_language.specs.Inside.{Extent, path_after}
-use Rattle.upon_language.specs.Cut.{Lexeme, Mode, outside, in_tag, in_comment, Step, going_on, mode_after}
+use Rattle.upon_language.specs.Inside.{Extent, in_path_after}
+use Rattle.upon_language.specs.Cut.{Lexeme, Mode, outside, in_tag, in_comment, IsToken, same_mode, mode_after}
 use Rattle.upon_language.specs.Reading.{opens_tag, from_begin, open_tag, first_span, brackets_after, brackets_from, open_brackets, ReadsTo, last_of}
-use Rattle.upon_language.specs.Lexing.{Left, HasRead, begin_in, brackets_in, is_trimming_end}
-use Rattle.upon_lexer.specs.LexStep.{IsNext, Fits, begin_after, left_behind}
+use Rattle.upon_language.specs.Lexing.{LexerState, HasRead, begin_in, brackets_in, is_trimming_end}
+use Rattle.upon_lexer.specs.LexStep.{IsNext, Fits, begin_after, state_after}
 use Rattle.upon_language.specs.CutFaults.{ClearTo}
-use Rattle.upon_language.proofs.OneCut.{cut_more}
+use Rattle.upon_language.proofs.OneCut.Cut.{cut_more}
 
 pub last_more : (ls : List Lexeme) (l : Lexeme) → last_of (ls ++ l ∷ []) ≡ Some l
 last_more [] l = refl
@@ -50,10 +50,10 @@ has_tag l ls = some_if (opens_tag l.token) (from_begin (l ∷ []) ls) (from_begi
 first_kept : (tag : List Lexeme) (l : Lexeme) → HasTag tag → first_span (tag ++ l ∷ []) ≡ first_span tag
 first_kept tag l h = ap (λ x. first_span (x ++ l ∷ [])) h.2 ∙ ap first_span (sym h.2)
 
--- where the text reads to a place in a tag or a comment, there is a token before
-inside_has_tag : (pairs : List Pair) (s : List ℕ) (mode : Mode) (p : ℕ) (ls : List Lexeme) → (outside ≡ mode → ⊥) → ReadsTo pairs s ls mode p → HasTag (open_tag ls)
-inside_has_tag pairs s mode p [] inside h = absurd (inside h.0)
-inside_has_tag pairs s mode p (l ∷ ls) inside h = has_tag l ls
+-- where the text reads to a span in a tag or a comment, there is a token before
+inside_has_tag : (delimiters : List DelimiterText) (s : List ℕ) (mode : Mode) (p : ℕ) (ls : List Lexeme) → (outside ≡ mode → ⊥) → ReadsTo delimiters s ls mode p → HasTag (open_tag ls)
+inside_has_tag delimiters s mode p [] inside h = absurd (inside h.0)
+inside_has_tag delimiters s mode p (l ∷ ls) inside h = has_tag l ls
 
 abbrev awaits_raw : Mode → Type 0
 awaits_raw (in_tag sort path) = ⊥
@@ -61,7 +61,7 @@ awaits_raw mode = Unit {0}
 
 -- a token inside a tag neither begins nor ends one
 abbrev PlainInside : Token → Type 0
-PlainInside t = (opens_tag t ≡ false) × ((mode : Mode) → mode_after mode t ≡ going_on mode t) × ((span : Span) (begin : Option Span) → begin_after t span begin ≡ begin)
+PlainInside t = (opens_tag t ≡ false) × ((mode : Mode) → mode_after mode t ≡ same_mode mode t) × ((span : Span) (begin : Option Span) → begin_after t span begin ≡ begin)
 
 plain_inside : (s : List ℕ) (t : Token) (m n : ℕ) → Extent s t m n → PlainInside t
 plain_inside s Raw m n h = absurd h
@@ -73,7 +73,7 @@ plain_inside s BeginComment m n h = absurd h
 plain_inside s EndComment m n h = absurd h
 plain_inside s t m n h = (refl, λ mode. refl, λ span begin. refl)
 
-module _ (pairs : List Pair) (s : List ℕ) (left : Left) (ls : List Lexeme) (r : HasRead pairs s left ls) (l : Lexeme) where
+module _ (delimiters : List DelimiterText) (s : List ℕ) (left : LexerState) (ls : List Lexeme) (r : HasRead delimiters s left ls) (l : Lexeme) where
   -- a token that opens no tag
   tag_goes_on : opens_tag l.token ≡ false → open_tag (ls ++ l ∷ []) ≡ open_tag ls ++ l ∷ []
   tag_goes_on h = from_more [] ls l ∙ ap (λ (b : Bool). if b then l ∷ [] else (open_tag ls ++ l ∷ [])) h
@@ -81,7 +81,7 @@ module _ (pairs : List Pair) (s : List ℕ) (left : Left) (ls : List Lexeme) (r 
   tag_begins : opens_tag l.token ≡ true → open_tag (ls ++ l ∷ []) ≡ l ∷ []
   tag_begins h = from_more [] ls l ∙ ap (λ (b : Bool). if b then l ∷ [] else (open_tag ls ++ l ∷ [])) h
 
-  -- what the open tag becomes behind a token of this kind
+  -- what the open tag becomes after a token of this kind
   abbrev Behind : Token → Type 0
   Behind t = (begin_in (mode_after left.mode t) (ls ++ l ∷ []) ≡ begin_after t l.span left.begin) × (brackets_in (mode_after left.mode t) (ls ++ l ∷ []) ≡ brackets_after left.brackets t l)
 
@@ -107,7 +107,7 @@ module _ (pairs : List Pair) (s : List ℕ) (left : Left) (ls : List Lexeme) (r 
   behind_raw : (mode : Mode) → left.mode ≡ mode → l.token ≡ Raw → awaits_raw mode → Behind Raw
   behind_raw outside e t a = (ap (λ m. begin_in (mode_after m Raw) (ls ++ l ∷ [])) e ∙ (rw e at r.begin), ap (λ m. brackets_in (mode_after m Raw) (ls ++ l ∷ [])) e ∙ no_brackets e)
   behind_raw in_comment e t a = (
-    ap (λ m. begin_in (mode_after m Raw) (ls ++ l ∷ [])) e ∙ ap first_span (tag_goes_on (ap opens_tag t)) ∙ first_kept (open_tag ls) l (inside_has_tag pairs s left.mode left.place ls (λ o. let is = o ∙ e in cc) r.reads) ∙ (rw e at r.begin),
+    ap (λ m. begin_in (mode_after m Raw) (ls ++ l ∷ [])) e ∙ ap first_span (tag_goes_on (ap opens_tag t)) ∙ first_kept (open_tag ls) l (inside_has_tag delimiters s left.mode left.offset ls (λ o. let is = o ∙ e in cc) r.reads) ∙ (rw e at r.begin),
     ap (λ m. brackets_in (mode_after m Raw) (ls ++ l ∷ [])) e ∙ (rw e at r.brackets),
   )
   behind_raw (in_tag sort path) e t a = absurd a
@@ -115,27 +115,27 @@ module _ (pairs : List Pair) (s : List ℕ) (left : Left) (ls : List Lexeme) (r 
   behind_inner : (sort : Sort) (path : Bool) (t : Token) → left.mode ≡ in_tag sort path → l.token ≡ t → PlainInside t → Behind t
   behind_inner sort path t e is plain =
       let goes = tag_goes_on (ap opens_tag is ∙ plain.0) in
-      let mode : mode_after left.mode t ≡ in_tag sort (path_after path t) = ap (λ m. mode_after m t) e ∙ plain.1 (in_tag sort path) in (
-        ap (λ m. begin_in m (ls ++ l ∷ [])) mode ∙ ap first_span goes ∙ first_kept (open_tag ls) l (inside_has_tag pairs s left.mode left.place ls (λ o. let is = o ∙ e in cc) r.reads) ∙ (rw e at r.begin) ∙ sym (plain.2 l.span left.begin),
+      let mode : mode_after left.mode t ≡ in_tag sort (in_path_after path t) = ap (λ m. mode_after m t) e ∙ plain.1 (in_tag sort path) in (
+        ap (λ m. begin_in m (ls ++ l ∷ [])) mode ∙ ap first_span goes ∙ first_kept (open_tag ls) l (inside_has_tag delimiters s left.mode left.offset ls (λ o. let is = o ∙ e in cc) r.reads) ∙ (rw e at r.begin) ∙ sym (plain.2 l.span left.begin),
         ap (λ m. brackets_in m (ls ++ l ∷ [])) mode ∙ ap (brackets_from []) goes ∙ brackets_more [] (open_tag ls) l ∙ ap (λ x. brackets_after (open_brackets ls) x l) is ∙ ap (λ x. brackets_after x t l) (rw e at r.brackets),
       )
 
   -- a token more
-  behind : (mode : Mode) → left.mode ≡ mode → Step pairs s mode l.token l.hyphen left.place l.span.n → Fits left.brackets l.token → Behind l.token
+  behind : (mode : Mode) → left.mode ≡ mode → IsToken delimiters s mode l.token l.hyphen left.offset l.span.n → Fits left.brackets l.token → Behind l.token
   behind outside e (inl raw) fits = subst Behind (sym raw.0) (behind_raw outside e raw.0 tt)
   behind outside e (inr begin) fits = subst Behind (sym begin.1) (behind_begin begin.0 e begin.1)
   behind (in_tag sort path) e (inl end) fits = subst Behind (sym end.0) (behind_end sort (subst (Fits left.brackets) end.0 fits))
-  behind (in_tag sort path) e (inr inner) fits = behind_inner sort path l.token e refl (plain_inside s l.token left.place l.span.n inner.1.extent)
+  behind (in_tag sort path) e (inr inner) fits = behind_inner sort path l.token e refl (plain_inside s l.token left.offset l.span.n inner.1.extent)
   behind in_comment e (inl raw) fits = subst Behind (sym raw.0) (behind_raw in_comment e raw.0 tt)
   behind in_comment e (inr end) fits = subst Behind (sym end.0) (behind_end comment (subst (Fits left.brackets) end.0 fits))
 
-  pub read_more : IsNext pairs s left l → ClearTo pairs s l.span.n → HasRead pairs s (left_behind left l) (ls ++ l ∷ [])
+  pub read_more : IsNext delimiters s left l → ClearTo delimiters s l.span.n → HasRead delimiters s (state_after left l) (ls ++ l ∷ [])
   read_more next clear =
       let step = behind left.mode refl next.step next.fits in record {
-        reads = cut_more pairs s outside left.mode 0 left.place ls l r.reads next.from next.step;
+        reads = cut_more delimiters s outside left.mode 0 left.offset ls l r.reads next.from next.step;
         clear = clear;
         begin = step.0;
         brackets = step.1;
         trims = ap is_trimming_end (last_more ls l);
-        going = refl;
+        not_over = refl;
       }

@@ -4,19 +4,19 @@ use Rattle.std.proofs.lemmas.List.{append-nil}
 use Rattle.std.proofs.lemmas.Str.{encodes-append}
 use Rattle.upon_language.specs.Search.{Occurs}
 use Rattle.upon_language.specs.Words.{EachPasses, IsRun}
-use Rattle.upon_language.specs.Bounds.{drop-Occurs, Occurs-from_drop, occurs_within}
-use Rattle.upon_language.specs.OneRun.{one_char, one_run, run_first, char_has_bytes}
+use Rattle.upon_language.proofs.SpansLieIn.Offsets.{drop-Occurs, Occurs-from_drop, occurs_within}
+use Rattle.upon_language.proofs.OneCut.Run.{one_char, one_run, run_first, char_has_bytes}
 
--- characters that pass stand from m to n, perhaps none
+-- characters that pass are from m to n, perhaps none
 pub record Passes (test : ℕ → Bool) (s : List ℕ) (m n : ℕ) : Type 0 where
   pub characters : List ℕ
   pub each : EachPasses test characters
-  pub stand : drop m s ≡ encode_utf8_all characters ++ drop n s
+  pub occurs : drop m s ≡ encode_utf8_all characters ++ drop n s
   pub to : n ≡ m + length (encode_utf8_all characters)
 
 module _ (test : ℕ → Bool) (s : List ℕ) (m : ℕ) where
   pub passes_none : Passes test s m m
-  passes_none = record { characters = []; each = tt; stand = refl; to = sym (add-zero m) }
+  passes_none = record { characters = []; each = tt; occurs = refl; to = sym (add-zero m) }
 
   each_more : (cs : List ℕ) (c : ℕ) → EachPasses test cs → test c ≡ true → EachPasses test (cs ++ c ∷ [])
   each_more [] c h k = (k, tt)
@@ -37,7 +37,7 @@ module _ (test : ℕ → Bool) (s : List ℕ) (m : ℕ) where
   passes_more n c k h o passes ends = record {
     characters = h.characters ++ c ∷ [];
     each = each_more h.characters c h.each passes;
-    stand = stand_more h.characters n c k h.stand o ends;
+    occurs = stand_more h.characters n c k h.occurs o ends;
     to = omega (arith, ap length (pushed h.characters c), length-append (encode_utf8_all h.characters) (encode_utf8 c), h.to, ends);
   }
 
@@ -49,7 +49,7 @@ module _ (test : ℕ → Bool) (s : List ℕ) (m : ℕ) where
 
   -- where no more pass, a run ends
   pub run_or_none : (n : ℕ) → Passes test s m n → ((c : ℕ) → Occurs s n (encode_utf8 c) → test c ≡ false) → (n ≡ m) ⊎ IsRun test s m n
-  run_or_none n h longest = go n h.characters h.each h.stand h.to longest
+  run_or_none n h longest = go n h.characters h.each h.occurs h.to longest
     where
       go : (n : ℕ) (cs : List ℕ) → EachPasses test cs → drop m s ≡ encode_utf8_all cs ++ drop n s → n ≡ m + length (encode_utf8_all cs) → ((c : ℕ) → Occurs s n (encode_utf8 c) → test c ≡ false) → (n ≡ m) ⊎ IsRun test s m n
       go n [] each stand to longest = inl (to ∙ add-zero m)
@@ -57,7 +57,7 @@ module _ (test : ℕ → Bool) (s : List ℕ) (m : ℕ) where
         first = c;
         others = cs;
         each = each;
-        stand = Occurs-from_drop s m (encode_utf8_all (c ∷ cs)) (drop n s) stand;
+        occurs = Occurs-from_drop s m (encode_utf8_all (c ∷ cs)) (drop n s) stand;
         to = to;
         longest = longest;
       })
@@ -71,7 +71,7 @@ module _ (test : ℕ → Bool) (s : List ℕ) (m : ℕ) where
       absurd (cc)
   whole_run n (inr read) longest k run = one_run test s m k n run read
 
-  -- a character that passes stands there, so there is a run
+  -- a character that passes is there, so there is a run
   pub some_run : (n : ℕ) → (n ≡ m) ⊎ IsRun test s m n → ((c : ℕ) → Occurs s n (encode_utf8 c) → test c ≡ false) → (c : ℕ) → Occurs s m (encode_utf8 c) → test c ≡ true → IsRun test s m n
   some_run n (inl e) longest c o passes =
       let F : ℕ → Type 0 = λ x. Occurs s x (encode_utf8 c) in

@@ -5,26 +5,26 @@ use Rattle.upon_types.specs.declared.types.Span.{Span}
 use Rattle.upon_types.specs.declared.types.token.Token.{Token}
 use Rattle.upon_types.specs.declared.types.token.Token.TheVariants.{Whitespace}
 use Rattle.upon_types.specs.declared.error.Error.{Error}
-use Rattle.upon_language.specs.Search.{Pair}
+use Rattle.upon_language.specs.Search.{DelimiterText}
 use Rattle.upon_language.specs.Words.{is_tag_space, IsRun}
 use Rattle.upon_language.specs.Delimiters.{comment, begin_token, end_token}
-use Rattle.upon_language.specs.Cut.{Lexeme, Mode, outside, in_tag, in_comment, Step, Cut, mode_after}
-use Rattle.upon_language.specs.OneRun.{run_first}
+use Rattle.upon_language.specs.Cut.{Lexeme, Mode, outside, in_tag, in_comment, IsToken, Cut, mode_after}
+use Rattle.upon_language.proofs.OneCut.Run.{run_first}
 use Rattle.upon_language.specs.Tokens.{is_space}
-use Rattle.upon_language.proofs.InsideTag.{end_is_no_space}
-use Rattle.upon_language.proofs.NextToken.{begin_is_no_space}
-use Rattle.upon_language.specs.Lexing.{Left, HasRead, Lexes, LexesBehindSpace, IsNoSpace}
+use Rattle.upon_language.proofs.NoTreeWithFault.InsideTag.{end_is_no_space}
+use Rattle.upon_language.proofs.NoTreeWithFault.NextToken.{begin_is_no_space}
+use Rattle.upon_language.specs.Lexing.{LexerState, HasRead, Lexes, LexesAfterSpace, IsNoSpace}
 
 -- the last step of a cut
-pub record LastStep (pairs : List Pair) (s : List ℕ) (mode : Mode) (m : ℕ) (ls : List Lexeme) (l : Lexeme) (n : ℕ) : Type 0 where
+pub record LastStep (delimiters : List DelimiterText) (s : List ℕ) (mode : Mode) (m : ℕ) (ls : List Lexeme) (l : Lexeme) (n : ℕ) : Type 0 where
   pub before : Mode
   pub from : ℕ
-  pub cut : Cut pairs s mode m ls before from
-  pub step : Step pairs s before l.token l.hyphen from l.span.n
+  pub cut : Cut delimiters s mode m ls before from
+  pub step : IsToken delimiters s before l.token l.hyphen from l.span.n
   pub to : l.span.n ≡ n
 
-module _ (pairs : List Pair) (s : List ℕ) where
-  last_step : (mode mode' : Mode) (m n : ℕ) (ls : List Lexeme) (l : Lexeme) → Cut pairs s mode m (ls ++ l ∷ []) mode' n → LastStep pairs s mode m ls l n
+module _ (delimiters : List DelimiterText) (s : List ℕ) where
+  last_step : (mode mode' : Mode) (m n : ℕ) (ls : List Lexeme) (l : Lexeme) → Cut delimiters s mode m (ls ++ l ∷ []) mode' n → LastStep delimiters s mode m ls l n
   last_step mode mode' m n [] l h = record { before = mode; from = m; cut = (refl, refl); step = h.1; to = h.2.1 }
   last_step mode mode' m n (k ∷ ks) l h =
       let rest = last_step (mode_after mode k.token) mode' k.span.n n ks l h.2 in
@@ -33,7 +33,7 @@ module _ (pairs : List Pair) (s : List ℕ) where
   differ : (t : Token) → Whitespace ≡ t → is_space t ≡ false → ⊥
   differ t e none = let spaced = ap is_space e in cc
 
-  space_run : (mode : Mode) (hyphen : Bool) (m n : ℕ) → Step pairs s mode Whitespace hyphen m n → IsRun is_tag_space s m n
+  space_run : (mode : Mode) (hyphen : Bool) (m n : ℕ) → IsToken delimiters s mode Whitespace hyphen m n → IsRun is_tag_space s m n
   space_run outside hyphen m n (inl raw) = let is = raw.0 in absurd (cc)
   space_run outside hyphen m n (inr begin) = absurd (differ (begin_token begin.0) begin.1 (begin_is_no_space begin.0))
   space_run (in_tag sort path) hyphen m n (inl end) = absurd (differ (end_token sort) end.0 (end_is_no_space sort))
@@ -51,12 +51,12 @@ module _ (pairs : List Pair) (s : List ℕ) where
       let fails = a.longest b.first (run_first is_tag_space s n k b) in
       cc
 
-  no_two_spaces : (left : Left) (ls : List Lexeme) (a b : Lexeme) → is_space a.token ≡ true → is_space b.token ≡ true → HasRead pairs s left ((ls ++ a ∷ []) ++ b ∷ []) → ⊥
+  no_two_spaces : (left : LexerState) (ls : List Lexeme) (a b : Lexeme) → is_space a.token ≡ true → is_space b.token ≡ true → HasRead delimiters s left ((ls ++ a ∷ []) ++ b ∷ []) → ⊥
   no_two_spaces left ls a b spaced spaced' r =
-      let second = last_step outside left.mode 0 left.place (ls ++ a ∷ []) b r.reads in
+      let second = last_step outside left.mode 0 left.offset (ls ++ a ∷ []) b r.reads in
       let first = last_step outside second.before 0 second.from ls a second.cut in
-      let F : Token → Type 0 = λ t. Step pairs s first.before t a.hyphen first.from a.span.n in
-      let G : Token → Type 0 = λ t. Step pairs s second.before t b.hyphen second.from b.span.n in
+      let F : Token → Type 0 = λ t. IsToken delimiters s first.before t a.hyphen first.from a.span.n in
+      let G : Token → Type 0 = λ t. IsToken delimiters s second.before t b.hyphen second.from b.span.n in
       let H : ℕ → Type 0 = λ n. IsRun is_tag_space s first.from n in
       no_run_twice first.from second.from b.span.n
       (subst H first.to (space_run first.before a.hyphen first.from a.span.n (subst F (is_whitespace a.token spaced) first.step)))
@@ -66,31 +66,31 @@ module _ (pairs : List Pair) (s : List ℕ) where
   no_space true h = absurd (h refl)
   no_space false h = refl
 
-  -- what is given behind whitespace is none
-  pub no_space_behind : (behind : Left) (ls : List Lexeme) (a : Lexeme) (result : Result (Option (Token × Span)) Error) (after : Left) → is_space a.token ≡ true → Lexes pairs s behind (ls ++ a ∷ []) result after → IsNoSpace result
+  -- what is given after whitespace is none
+  pub no_space_behind : (behind : LexerState) (ls : List Lexeme) (a : Lexeme) (result : Result (Option (Token × Span)) Error) (after : LexerState) → is_space a.token ≡ true → Lexes delimiters s behind (ls ++ a ∷ []) result after → IsNoSpace result
   no_space_behind behind ls a (Ok (Some given)) after spaced h = no_space (is_space given.0) (λ e. no_two_spaces after ls a h.0 spaced (ap is_space h.1 ∙ e) h.3)
   no_space_behind behind ls a (Ok None) after spaced h = tt
   no_space_behind behind ls a (Err e) after spaced h = tt
 
-  -- a call that gives no whitespace, and one behind the whitespace that a call gave
-  pub at_once : (left : Left) (ls : List Lexeme) (result : Result (Option (Token × Span)) Error) (after : Left) → HasRead pairs s left ls → Lexes pairs s left ls result after → IsNoSpace result → LexesBehindSpace pairs s ls result after
+  -- a call that gives no whitespace, and one after the whitespace that a call gave
+  pub at_once : (left : LexerState) (ls : List Lexeme) (result : Result (Option (Token × Span)) Error) (after : LexerState) → HasRead delimiters s left ls → Lexes delimiters s left ls result after → IsNoSpace result → LexesAfterSpace delimiters s ls result after
   at_once left ls result after r h counts =
-      let F : List Lexeme → Type 0 = λ x. HasRead pairs s left x in
-      let G : List Lexeme → Type 0 = λ x. Lexes pairs s left x result after in
+      let F : List Lexeme → Type 0 = λ x. HasRead delimiters s left x in
+      let G : List Lexeme → Type 0 = λ x. Lexes delimiters s left x result after in
       record {
         spaces = [];
         each = tt;
-        behind = left;
+        start = left;
         gives = subst G (sym (append-nil ls)) h;
         has_read = subst F (sym (append-nil ls)) r;
         counts = counts;
       }
 
-  pub behind_space : (behind : Left) (ls : List Lexeme) (a : Lexeme) (result : Result (Option (Token × Span)) Error) (after : Left) → is_space a.token ≡ true → HasRead pairs s behind (ls ++ a ∷ []) → Lexes pairs s behind (ls ++ a ∷ []) result after → LexesBehindSpace pairs s ls result after
+  pub behind_space : (behind : LexerState) (ls : List Lexeme) (a : Lexeme) (result : Result (Option (Token × Span)) Error) (after : LexerState) → is_space a.token ≡ true → HasRead delimiters s behind (ls ++ a ∷ []) → Lexes delimiters s behind (ls ++ a ∷ []) result after → LexesAfterSpace delimiters s ls result after
   behind_space behind ls a result after spaced r h = record {
     spaces = a ∷ [];
     each = (spaced, tt);
-    behind = behind;
+    start = behind;
     gives = h;
     has_read = r;
     counts = no_space_behind behind ls a result after spaced h;

@@ -7,6 +7,7 @@ use Rattle.upon_language.specs.Inside.{continues_number}
 use Rattle.upon_lexer.specs.declared.compile.chars.CharClass.{CharClass}
 use Rattle.upon_lexer.specs.declared.compile.chars.CharClass.TheVariants.{Space, Name, Number, Digit}
 
+-- whether a character is of the class
 abbrev pub class_test : CharClass → ℕ → Bool
 class_test Space = is_tag_space
 class_test Name = is_xid_continue

@@ -3,26 +3,30 @@ use Rattle.std.specs.Prelude.{ℕ, List, Option, Result}
 use Rattle.upon_types.specs.declared.types.Span.{Span}
 use Rattle.upon_types.specs.declared.types.token.Token.{Token}
 use Rattle.upon_types.specs.declared.error.Error.{Error}
-use Rattle.upon_language.specs.Search.{Pair}
-use Rattle.upon_lexer.specs.Searcher.{pairs_of}
-use Rattle.upon_language.specs.Lexing.{Left, HasRead, Lexes, LexesBehindSpace}
+use Rattle.upon_language.specs.Search.{DelimiterText}
+use Rattle.upon_lexer.specs.Searcher.{searcher_delimiters}
+use Rattle.upon_language.specs.Lexing.{LexerState, HasRead, Lexes, LexesAfterSpace}
 use Rattle.upon_lexer.specs.LexStep.{IsNext, IsWrong}
 use Rattle.upon_lexer.specs.OpenTags.{begin_of, mode_of}
 use Rattle.upon_lexer.specs.Brackets.{brackets_of}
+use Rattle.upon_lexer.specs.Reasons.{reason_of}
 use Rattle.upon_language.specs.Cut.{Lexeme}
-use Rattle.upon_lexer.specs.declared.compile.inner.Wrong.{Wrong}
-use Rattle.upon_lexer.specs.declared.compile.lex.Found.{Found}
+use Rattle.upon_lexer.specs.declared.compile.fault.Wrong.{Wrong}
+use Rattle.upon_lexer.specs.declared.compile.lex.NextToken.{NextToken}
 use Rattle.upon_lexer.specs.declared.compile.lex.Lexer.{Lexer}
 
-abbrev pub text_of : Lexer → List ℕ
-text_of lexer = lexer.source.now
+-- the text that a lexer reads
+abbrev pub lexer_text : Lexer → List ℕ
+lexer_text lexer = lexer.source.now
 
-abbrev pub delimiters_of : Lexer → List Pair
-delimiters_of lexer = pairs_of lexer.searcher.now
+-- its delimiters
+abbrev pub lexer_delimiters : Lexer → List DelimiterText
+lexer_delimiters lexer = searcher_delimiters lexer.searcher.now
 
-abbrev pub left_of : Lexer → Left
-left_of lexer = record {
-  place = lexer.at;
+-- how far it has read
+abbrev pub lexer_state : Lexer → LexerState
+lexer_state lexer = record {
+  offset = lexer.offset;
   mode = mode_of lexer.tag;
   begin = begin_of lexer.tag;
   brackets = brackets_of lexer.brackets.items;
@@ -31,23 +35,28 @@ left_of lexer = record {
 }
 
 -- the token that was found
-abbrev pub found_lexeme : Found → Lexeme
-found_lexeme found = record { token = found.token; hyphen = found.hyphen; span = found.span }
+abbrev pub next_lexeme : NextToken → Lexeme
+next_lexeme found = record { token = found.token; hyphen = found.hyphen; span = found.span }
 
--- these are the tokens before the lexer's place
+-- these are the tokens before the lexer's offset
 abbrev pub ReadSoFar : Lexer → List Lexeme → Type 0
-ReadSoFar lexer ls = HasRead (delimiters_of lexer) (text_of lexer) (left_of lexer) ls
+ReadSoFar lexer ls = HasRead (lexer_delimiters lexer) (lexer_text lexer) (lexer_state lexer) ls
 
 -- what a call gives to one who knows them
 abbrev pub Gives : Lexer → List Lexeme → Result (Option (Token × Span)) Error → Lexer → Type 0
-Gives before ls result after = Lexes (delimiters_of before) (text_of before) (left_of before) ls result (left_of after)
+Gives before ls result after = Lexes (lexer_delimiters before) (lexer_text before) (lexer_state before) ls result
+    (lexer_state after)
 
-abbrev pub GivesBehindSpace : Lexer → List Lexeme → Result (Option (Token × Span)) Error → Lexer → Type 0
-GivesBehindSpace before ls result after = LexesBehindSpace (delimiters_of before) (text_of before) ls result (left_of after)
+-- the same after whitespace
+abbrev pub GivesAfterSpace : Lexer → List Lexeme → Result (Option (Token × Span)) Error → Lexer → Type 0
+GivesAfterSpace before ls result after = LexesAfterSpace (lexer_delimiters before) (lexer_text before) ls result
+    (lexer_state after)
 
--- what stands where the lexer does: a token, or a fault that ends the cutting
-abbrev pub Finds : Lexer → Found → Type 0
-Finds lexer found = IsNext (delimiters_of lexer) (text_of lexer) (left_of lexer) (found_lexeme found)
+-- what is where the lexer does: a token, or a fault that ends the cutting
+abbrev pub Finds : Lexer → NextToken → Type 0
+Finds lexer found = IsNext (lexer_delimiters lexer) (lexer_text lexer) (lexer_state lexer) (next_lexeme found)
 
+-- a fault that ends the cutting holds where the lexer is
 abbrev pub GoesWrong : Lexer → Wrong → Type 0
-GoesWrong lexer wrong = IsWrong (delimiters_of lexer) (text_of lexer) (left_of lexer) wrong.place wrong.reason.now
+GoesWrong lexer wrong = IsWrong (lexer_delimiters lexer) (lexer_text lexer) (lexer_state lexer) wrong.span
+    (reason_of wrong.fault)

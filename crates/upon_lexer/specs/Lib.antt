@@ -1,9 +1,12 @@
-pub mod Entry
+pub mod Entries
+pub mod Syntax
 pub mod Searcher
+pub mod Longest
 pub mod Class
-pub mod Marks
+pub mod Roles
 pub mod Brackets
-pub mod Inner
-pub mod LexStep
+pub mod InsideStart
+pub mod Reasons
 pub mod OpenTags
+pub mod LexStep
 pub mod Lexers

@@ -1,9 +1,10 @@
 // The steps from a template's text to its tokens.
 mod brackets;
 pub mod chars;
-mod inner;
+mod fault;
+mod inside;
 pub mod lex;
-mod marks;
+mod roles;
 pub mod search;
 mod tags;
 mod trim;

@@ -1,16 +1,16 @@
 -- An outcome beside the one of a greater depth, and what keeps the two so.
 use Rattle.std.proofs.Common.{◌≡◌, ℕ, ◌+◌, List, [], ◌∷◌, ◌++◌, length, Bool, true, false, refl, sym, ap, ◌∙◌, append_assoc, append-nil, subst}
-use Rattle.upon_types.specs.Path.{Word}
+use Rattle.upon_types.specs.Path.{Ident}
 use Rattle.upon_types.specs.Val.{Val}
-use Rattle.upon_render.specs.Environment.{Binding, Environment, turn}
-use Rattle.upon_render.specs.Found.{Found, found, at_fault}
-use Rattle.upon_render.specs.Source.{Said, says, refuses}
+use Rattle.upon_render.specs.Environment.{Binding, Environment, iteration}
+use Rattle.upon_render.specs.Finding.{Finding, found, at_fault}
+use Rattle.upon_render.specs.Source.{SourceAnswer, says, refuses}
 use Rattle.upon_meaning.specs.Alone.{on_template}
 use Rattle.upon_meaning.specs.Engine.{Template}
-use Rattle.upon_meaning.specs.Evaluation.{Evaluated}
+use Rattle.upon_meaning.specs.Evaluation.{Operand}
 use Rattle.upon_meaning.specs.GreaterDepth.{GoesOn}
-use Rattle.upon_meaning.specs.Meaning.{Running, Body, choose, each, each_of, on_value}
-use Rattle.upon_meaning.specs.Outcome.{End, good, fails, too_deep, Outcome, States, after, go_on, then_do, stopped}
+use Rattle.upon_meaning.specs.Meaning.{RunningTemplate, Body, choose, each, each_of, on_value}
+use Rattle.upon_meaning.specs.Outcome.{End, good, fails, too_deep, Outcome, States, with_text_before, go_on, then_do, too_deep_outcome}
 
 abbrev pub IsBeginning : List ℕ → List ℕ → Type 0
 IsBeginning text whole = (rest : List ℕ) × (whole ≡ text ++ rest)
@@ -41,12 +41,12 @@ module _ {Q : Type 0} where
   pub goes_on_of_deeper : (lesser greater : Outcome Q) → Deeper lesser greater → GoesOn lesser greater
   goes_on_of_deeper lesser greater h = goes_on_by lesser.end lesser.text lesser.next greater h
 
-  pub stopped_deeper : (q : Q) (o : Outcome Q) → Deeper (stopped q) o
+  pub stopped_deeper : (q : Q) (o : Outcome Q) → Deeper (too_deep_outcome q) o
   stopped_deeper q o = (o.text, refl)
 
-  by_after : (before : List ℕ) (end : End) (text : List ℕ) (q : Q) (o : Outcome Q) → DeeperBy end text q o → DeeperBy end (before ++ text) q (after before o)
-  by_after before good text q o h = ap (after before) h
-  by_after before (fails f) text q o h = ap (after before) h
+  by_after : (before : List ℕ) (end : End) (text : List ℕ) (q : Q) (o : Outcome Q) → DeeperBy end text q o → DeeperBy end (before ++ text) q (with_text_before before o)
+  by_after before good text q o h = ap (with_text_before before) h
+  by_after before (fails f) text q o h = ap (with_text_before before) h
   by_after before too_deep text q o h = (h.0, ap (λ l. before ++ l) h.1 ∙ sym (append_assoc before text h.0))
 
   begins_go_on : (text : List ℕ) (end : End) (q : Q) (go : Q → Outcome Q) → IsBeginning text (go_on text end q go).text
@@ -58,7 +58,7 @@ module _ {Q : Type 0} where
   begins_then text o go h = let more = begins_go_on o.text o.end o.next go in (h.0 ++ more.0, more.1 ∙ ap (λ l. l ++ more.0) h.1 ∙ append_assoc text h.0 more.0)
 
   by_then : (end : End) (text : List ℕ) (q : Q) (o : Outcome Q) (f g : Q → Outcome Q) → DeeperBy end text q o → ((q : Q) → Deeper (f q) (g q)) → Deeper (go_on text end q f) (then_do o g)
-  by_then good text q o f g h k = let P : Outcome Q → Type 0 = λ o. Deeper (after text (f q)) (then_do o g) in subst P h (by_after text (f q).end (f q).text (f q).next (g q) (k q))
+  by_then good text q o f g h k = let P : Outcome Q → Type 0 = λ o. Deeper (with_text_before text (f q)) (then_do o g) in subst P h (by_after text (f q).end (f q).text (f q).next (g q) (k q))
   by_then (fails x) text q o f g h k = ap (λ o. then_do o g) h
   by_then too_deep text q o f g h k = begins_then text o g h
 
@@ -67,9 +67,9 @@ module _ {Q : Type 0} where
 
   deeper_each : (f g : Body Q) → ((env : Environment) (q : Q) → Deeper (f env q) (g env q)) → (count index : ℕ) (items : List (List Binding)) (env : Environment) (q : Q) → Deeper (each f count index items env q) (each g count index items env q)
   deeper_each f g h count index [] env q = refl
-  deeper_each f g h count index (bs ∷ items) env q = deeper_then (f (turn index count bs env) q) (g (turn index count bs env) q) _ _ (h (turn index count bs env) q) (deeper_each f g h count (index + 1) items env)
+  deeper_each f g h count index (bs ∷ items) env q = deeper_then (f (iteration index count bs env) q) (g (iteration index count bs env) q) _ _ (h (iteration index count bs env) q) (deeper_each f g h count (index + 1) items env)
 
-  pub deeper_each_of : (f g : Body Q) → ((env : Environment) (q : Q) → Deeper (f env q) (g env q)) → (from : Running) (x : Found (List (List Binding))) (env : Environment) (q : Q) → Deeper (each_of f from x env q) (each_of g from x env q)
+  pub deeper_each_of : (f g : Body Q) → ((env : Environment) (q : Q) → Deeper (f env q) (g env q)) → (from : RunningTemplate) (x : Finding (List (List Binding))) (env : Environment) (q : Q) → Deeper (each_of f from x env q) (each_of g from x env q)
   deeper_each_of f g h from (found items) env q = deeper_each f g h (length items) 0 items env q
   deeper_each_of f g h from (at_fault x) env q = refl
 
@@ -77,11 +77,11 @@ module _ {Q : Type 0} where
   deeper_choose true f f' g g' h k q = h q
   deeper_choose false f f' g g' h k q = k q
 
-  pub deeper_template : (from : Running) (word : Word) (x : Said Template) (q : Q) (f g : Template → Q → Outcome Q) → ((t : Template) (q : Q) → Deeper (f t q) (g t q)) → Deeper (on_template from word x q f) (on_template from word x q g)
+  pub deeper_template : (from : RunningTemplate) (word : Ident) (x : SourceAnswer Template) (q : Q) (f g : Template → Q → Outcome Q) → ((t : Template) (q : Q) → Deeper (f t q) (g t q)) → Deeper (on_template from word x q f) (on_template from word x q g)
   deeper_template from word (says t) q f g h = h t q
   deeper_template from word (refuses x) q f g h = refl
 
 module _ {V T : Type 0} where
-  pub deeper_value : (from : Running) (x : Found Evaluated) (s : States V T) (f g : Val → States V T → Outcome (States V T)) → ((v : Val) (s : States V T) → Deeper (f v s) (g v s)) → Deeper (on_value from x s f) (on_value from x s g)
+  pub deeper_value : (from : RunningTemplate) (x : Finding Operand) (s : States V T) (f g : Val → States V T → Outcome (States V T)) → ((v : Val) (s : States V T) → Deeper (f v s) (g v s)) → Deeper (on_value from x s f) (on_value from x s g)
   deeper_value from (found o) s f g h = h o.value s
   deeper_value from (at_fault x) s f g h = refl

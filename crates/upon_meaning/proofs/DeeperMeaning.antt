@@ -1,20 +1,20 @@
 -- What statements, includes and templates give at a greater depth, beside what they give at a lesser one.
 use Rattle.std.proofs.Common.{ℕ, zero, suc, ◌≤◌, List, Option, Some, None, refl, arith}
 use Rattle.upon_types.specs.Expression.{expression_span}
-use Rattle.upon_types.specs.Path.{Word}
+use Rattle.upon_types.specs.Path.{Ident}
 use Rattle.upon_types.specs.Tree.{Statement, raw, inline_expr, include, if_else, for_loop, with, Statements, no_statements, statement_then, Else, no_else, otherwise}
-use Rattle.upon_render.specs.Environment.{Environment, Root, bare, alone_over, with_name}
+use Rattle.upon_render.specs.Environment.{Environment, Root, root_environment, alone_over, with_name}
 use Rattle.upon_render.specs.Items.{items_of}
 use Rattle.upon_meaning.specs.Alone.{running, included, alone_within, includes_left, alone}
 use Rattle.upon_meaning.specs.Emission.{emit}
 use Rattle.upon_meaning.specs.Engine.{Template, Calls, Resolver, Rendering}
 use Rattle.upon_meaning.specs.Evaluation.{evaluate}
 use Rattle.upon_meaning.specs.GreaterDepth.{GoesOn}
-use Rattle.upon_meaning.specs.Meaning.{Running, Inclusion, condition, in_template, statement_means, statements_mean, else_means}
+use Rattle.upon_meaning.specs.Meaning.{RunningTemplate, Inclusion, condition, in_template, statement_means, statements_mean, else_means}
 use Rattle.upon_meaning.specs.Outcome.{States}
 use Rattle.upon_meaning.proofs.Deeper.{Deeper, deeper_same, goes_on_of_deeper, stopped_deeper, deeper_then, deeper_each_of, deeper_choose, deeper_template, deeper_value}
 
-module _ {V T : Type 0} (calls : Calls V) (run : Running) (i j : Inclusion V T) (h : (from : Running) (word : Word) (env : Environment) (s : States V T) → Deeper (i from word env s) (j from word env s)) where
+module _ {V T : Type 0} (calls : Calls V) (run : RunningTemplate) (i j : Inclusion V T) (h : (from : RunningTemplate) (word : Ident) (env : Environment) (s : States V T) → Deeper (i from word env s) (j from word env s)) where
   mutual
     pub deeper_statement : (t : Statement) (env : Environment) (s : States V T) → Deeper (statement_means calls i run t env s) (statement_means calls j run t env s)
     deeper_statement (raw span) env s = refl
@@ -34,7 +34,7 @@ module _ {V T : Type 0} (calls : Calls V) (run : Running) (i j : Inclusion V T) 
     deeper_else (otherwise body) env s = deeper_statements body env s
 
 module _ {V T : Type 0} (calls : Calls V) (resolve : Resolver T) where
-  pub deeper_included : (a b : ℕ) → a ≤ b → (from : Running) (word : Word) (env : Environment) (s : States V T) → Deeper (included calls resolve a from word env s) (included calls resolve b from word env s)
+  pub deeper_included : (a b : ℕ) → a ≤ b → (from : RunningTemplate) (word : Ident) (env : Environment) (s : States V T) → Deeper (included calls resolve a from word env s) (included calls resolve b from word env s)
   deeper_included zero zero le from word env s = deeper_same (included calls resolve zero from word env s)
   deeper_included zero (suc b) le from word env s = deeper_template from word (resolve s.templates word.text).answer _ _ _ (λ t s'. stopped_deeper s' (statements_mean calls (included calls resolve b) (running t (Some word.text)) t.tree env s'))
   deeper_included (suc a) zero le from word env s = absurd (omega (arith, le))
@@ -45,7 +45,7 @@ module _ {V T : Type 0} (calls : Calls V) (resolve : Resolver T) where
   deeper_template_in a b le t name env s = deeper_statements calls (running t name) (included calls resolve a) (included calls resolve b) (deeper_included a b le) t.tree env s
 
   pub deeper_alone_within : (a b : ℕ) → a ≤ b → (t : Template) (name : Option (List ℕ)) (root : Root) (s : States V T) → Deeper (alone_within calls resolve a t name root s) (alone_within calls resolve b t name root s)
-  deeper_alone_within a b le t name root s = deeper_template_in a b le t name (bare root) s
+  deeper_alone_within a b le t name root s = deeper_template_in a b le t name (root_environment root) s
 
 includes_left-le : (a b : ℕ) → a ≤ b → includes_left a ≤ includes_left b
 includes_left-le a b le = omega (arith, le)

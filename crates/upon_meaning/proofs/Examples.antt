@@ -1,4 +1,3 @@
-pub mod Short
 pub mod Texts
 pub mod Conditions
 pub mod Trimming
@@ -12,3 +11,4 @@ pub mod Formatters
 pub mod Sources
 pub mod Faults
 pub mod Pictures
+pub mod ShortContexts

@@ -1,10 +1,10 @@
--- A name that bindings do not have is found behind them, and what is found answers whatever the root.
+-- A name that bindings do not have is found after them, and what is found answers whatever the root.
 use Rattle.std.proofs.Common.{◌≡◌, ℕ, List, [], ◌∷◌, ◌++◌, Bool, true, false, Some, inl, inr, refl, sym, ap, ◌∙◌, bytes_eq, if◌then◌else◌}
 use Rattle.std.proofs.lemmas.Slice.Eq.{bytes_eq-Decides}
-use Rattle.upon_types.specs.Path.{Selector, by_index, by_key, Step}
+use Rattle.upon_types.specs.Path.{Access, by_index, by_key, Member}
 use Rattle.upon_types.specs.Val.{Val}
-use Rattle.upon_render.specs.Environment.{Binding, Root, Environment, bind, bind_all, first_bound, bound_to}
-use Rattle.upon_render.specs.Found.{Found, found, at_fault, reply}
+use Rattle.upon_render.specs.Environment.{Binding, Root, Environment, bind, bind_all, first_bound, binding_of}
+use Rattle.upon_render.specs.Finding.{Finding, found, at_fault, reply}
 use Rattle.upon_render.specs.Lookup.{maybe_bound, bound_value, or_root, lookup}
 use Rattle.upon_render.specs.Source.{Source}
 use Rattle.upon_render.specs.Walk.{as_some}
@@ -28,17 +28,17 @@ found_there : (name : List ℕ) (inside : List Binding) (b : Binding) (rest : Li
 found_there name inside b rest same none =
     found_behind name inside (b ∷ rest) none ∙ taken (bytes_eq name b.name) (Some b.bound) (first_bound name rest) ((bytes_eq-Decides name b.name).1 (sym same))
 
-answers : {V : Type 0} (ask : Source V) (x : Found Val) (root : Root) (first : Step) (rest : List Step) (q : V) → or_root (as_some x) ask root first rest q ≡ reply x q
+answers : {V : Type 0} (ask : Source V) (x : Finding Val) (root : Root) (first : Member) (rest : List Member) (q : V) → or_root (as_some x) ask root first rest q ≡ reply x q
 answers ask (found v) root first rest q = refl
 answers ask (at_fault fault) root first rest q = refl
 
 module _ {V : Type 0} (ask : Source V) (name : List ℕ) (inside : List Binding) (b : Binding) (env : Environment) (same : b.name ≡ name) (none : Binds name inside → ⊥) where
-  by_selector : (selector : Selector) (first : Step) (rest : List Step) (q : V) → IsName name selector → or_root (maybe_bound (bound_to selector (inside ++ b ∷ env.bindings)) rest) ask env.root first rest q ≡ reply (bound_value b.bound rest) q
+  by_selector : (selector : Access) (first : Member) (rest : List Member) (q : V) → IsName name selector → or_root (maybe_bound (binding_of selector (inside ++ b ∷ env.bindings)) rest) ask env.root first rest q ≡ reply (bound_value b.bound rest) q
   by_selector (by_index n span) first rest q h = absurd h
   by_selector (by_key word) first rest q h =
       ap (λ x. or_root (maybe_bound x rest) ask env.root first rest q) (ap (λ n. first_bound n (inside ++ b ∷ env.bindings)) h ∙ found_there name inside b env.bindings same none)
       ∙ answers ask (bound_value b.bound rest) env.root first rest q
 
   -- a path that begins with the name is one in what the innermost binding of it binds
-  pub innermost_answers : (first : Step) (rest : List Step) (q : V) → IsName name first.selector → lookup ask (bind_all inside (bind b env)) first rest q ≡ reply (bound_value b.bound rest) q
-  innermost_answers first rest q h = by_selector first.selector first rest q h
+  pub innermost_answers : (first : Member) (rest : List Member) (q : V) → IsName name first.access → lookup ask (bind_all inside (bind b env)) first rest q ≡ reply (bound_value b.bound rest) q
+  innermost_answers first rest q h = by_selector first.access first rest q h

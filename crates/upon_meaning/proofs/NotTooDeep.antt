@@ -1,16 +1,16 @@
--- Outcomes that do not end because includes stand too deep, and what keeps them so.
+-- Outcomes that do not end because includes are too deep, and what keeps them so.
 use Rattle.std.proofs.Common.{◌≢◌, ℕ, ◌+◌, List, [], ◌∷◌, length, Option, Some, None, Bool, true, false}
 use Rattle.upon_types.specs.declared.types.Span.{Span}
 use Rattle.upon_types.specs.Expression.{Expression, base, filtered, Base, var, literal, list, mapping, paren, call}
-use Rattle.upon_types.specs.Path.{Word}
+use Rattle.upon_types.specs.Path.{Ident}
 use Rattle.upon_types.specs.Val.{Val}
-use Rattle.upon_render.specs.Environment.{Binding, Environment, turn}
-use Rattle.upon_render.specs.Found.{Found, found, at_fault, Reply}
+use Rattle.upon_render.specs.Environment.{Binding, Environment, iteration}
+use Rattle.upon_render.specs.Finding.{Finding, found, at_fault, Reply}
 use Rattle.upon_types.specs.Answers.{FormatEnd, well, refused, Formatter, Callable, formatter, function}
-use Rattle.upon_meaning.specs.Emission.{end_of, shown_or_fault, formatted_by, emitted, emit_applied, emit_value, emit, emit_base}
+use Rattle.upon_meaning.specs.Emission.{end_of, or_fault, formatter_outcome, callable_outcome, emit_call, emit_value, emit, emit_base}
 use Rattle.upon_meaning.specs.Engine.{Calls}
-use Rattle.upon_meaning.specs.Evaluation.{Evaluated, values_of, answered, evaluated_then, evaluate, evaluate_base, evaluate_arguments}
-use Rattle.upon_meaning.specs.Meaning.{Running, ends_in, Body, choose, each, each_of, on_value}
+use Rattle.upon_meaning.specs.Evaluation.{Operand, values_of, answer_value, append_operand, evaluate, evaluate_base, evaluate_arguments}
+use Rattle.upon_meaning.specs.Meaning.{RunningTemplate, ends_in, Body, choose, each, each_of, on_value}
 use Rattle.upon_meaning.specs.Outcome.{End, good, fails, too_deep, Outcome, States, go_on, then_do}
 
 abbrev pub NotTooDeep : End → Type 0
@@ -23,7 +23,7 @@ is_not_too_deep good h e = cc
 is_not_too_deep (fails f) h e = cc
 is_not_too_deep too_deep h e = h
 
-pub ends_not_too_deep : (from : Running) (end : End) → NotTooDeep end → NotTooDeep (ends_in from end)
+pub ends_not_too_deep : (from : RunningTemplate) (end : End) → NotTooDeep end → NotTooDeep (ends_in from end)
 ends_not_too_deep from good h = tt
 ends_not_too_deep from (fails f) h = tt
 ends_not_too_deep from too_deep h = h
@@ -39,9 +39,9 @@ module _ {Q : Type 0} where
 
   each_not_too_deep : (body : Body Q) → ((env : Environment) (q : Q) → NotTooDeep (body env q).end) → (count index : ℕ) (items : List (List Binding)) (env : Environment) (q : Q) → NotTooDeep (each body count index items env q).end
   each_not_too_deep body h count index [] env q = tt
-  each_not_too_deep body h count index (bs ∷ items) env q = then_not_too_deep (body (turn index count bs env) q) _ (h (turn index count bs env) q) (each_not_too_deep body h count (index + 1) items env)
+  each_not_too_deep body h count index (bs ∷ items) env q = then_not_too_deep (body (iteration index count bs env) q) _ (h (iteration index count bs env) q) (each_not_too_deep body h count (index + 1) items env)
 
-  pub each_of_not_too_deep : (body : Body Q) → ((env : Environment) (q : Q) → NotTooDeep (body env q).end) → (from : Running) (x : Found (List (List Binding))) (env : Environment) (q : Q) → NotTooDeep (each_of body from x env q).end
+  pub each_of_not_too_deep : (body : Body Q) → ((env : Environment) (q : Q) → NotTooDeep (body env q).end) → (from : RunningTemplate) (x : Finding (List (List Binding))) (env : Environment) (q : Q) → NotTooDeep (each_of body from x env q).end
   each_of_not_too_deep body h from (found items) env q = each_not_too_deep body h (length items) 0 items env q
   each_of_not_too_deep body h from (at_fault f) env q = tt
 
@@ -50,7 +50,7 @@ module _ {Q : Type 0} where
   choose_not_too_deep false f g h k q = k q
 
 module _ {V T : Type 0} where
-  pub value_not_too_deep : (from : Running) (x : Found Evaluated) (s : States V T) (go : Val → States V T → Outcome (States V T)) → ((v : Val) (s : States V T) → NotTooDeep (go v s).end) → NotTooDeep (on_value from x s go).end
+  pub value_not_too_deep : (from : RunningTemplate) (x : Finding Operand) (s : States V T) (go : Val → States V T → Outcome (States V T)) → ((v : Val) (s : States V T) → NotTooDeep (go v s).end) → NotTooDeep (on_value from x s go).end
   value_not_too_deep from (found o) s go h = h o.value s
   value_not_too_deep from (at_fault f) s go h = tt
 
@@ -60,31 +60,31 @@ format_not_too_deep well at = tt
 format_not_too_deep (refused message) at = tt
 
 module _ {V : Type 0} where
-  shown_not_too_deep : {A : Type 0} (x : Found A) (q : V) (go : A → V → Outcome V) → ((a : A) (q : V) → NotTooDeep (go a q).end) → NotTooDeep (shown_or_fault x q go).end
+  shown_not_too_deep : {A : Type 0} (x : Finding A) (q : V) (go : A → V → Outcome V) → ((a : A) (q : V) → NotTooDeep (go a q).end) → NotTooDeep (or_fault x q go).end
   shown_not_too_deep (found a) q go h = h a q
   shown_not_too_deep (at_fault f) q go h = tt
 
-  formatted_not_too_deep : (f : Formatter) (name : Word) (given : List Evaluated) (q : V) → NotTooDeep (formatted_by f name given q).end
+  formatted_not_too_deep : (f : Formatter) (name : Ident) (given : List Operand) (q : V) → NotTooDeep (formatter_outcome f name given q).end
   formatted_not_too_deep f name [] q = tt
   formatted_not_too_deep f name (o ∷ []) q = format_not_too_deep (f o.value).end name.span
   formatted_not_too_deep f name (o ∷ p ∷ given) q = tt
 
-  emitted_not_too_deep : (default : Formatter) (name : Word) (whole : Span) (given : List Evaluated) (callable : Option Callable) (q : V) → NotTooDeep (emitted default name whole given callable q).end
+  emitted_not_too_deep : (default : Formatter) (name : Ident) (whole : Span) (given : List Operand) (callable : Option Callable) (q : V) → NotTooDeep (callable_outcome default name whole given callable q).end
   emitted_not_too_deep default name whole given None q = tt
   emitted_not_too_deep default name whole given (Some (formatter f)) q = formatted_not_too_deep f name given q
-  emitted_not_too_deep default name whole given (Some (function f)) q = shown_not_too_deep (answered name name.span given (f (values_of given))) q _ (λ v q'. format_not_too_deep (default v).end whole)
+  emitted_not_too_deep default name whole given (Some (function f)) q = shown_not_too_deep (answer_value name name.span given (f (values_of given))) q _ (λ v q'. format_not_too_deep (default v).end whole)
 
-  applied_not_too_deep : (calls : Calls V) (name : Word) (whole : Span) (r : Reply V (Found (List Evaluated))) → NotTooDeep (emit_applied calls name whole r).end
+  applied_not_too_deep : (calls : Calls V) (name : Ident) (whole : Span) (r : Reply V (Finding (List Operand))) → NotTooDeep (emit_call calls name whole r).end
   applied_not_too_deep calls name whole r = shown_not_too_deep r.answer r.next _ (λ os q. emitted_not_too_deep calls.default_formatter name whole os (calls.callables name.text) q)
 
-  emit_value_not_too_deep : (calls : Calls V) (r : Reply V (Found Evaluated)) → NotTooDeep (emit_value calls r).end
-  emit_value_not_too_deep calls r = shown_not_too_deep r.answer r.next _ (λ o q. format_not_too_deep (calls.default_formatter o.value).end o.place)
+  emit_value_not_too_deep : (calls : Calls V) (r : Reply V (Finding Operand)) → NotTooDeep (emit_value calls r).end
+  emit_value_not_too_deep calls r = shown_not_too_deep r.answer r.next _ (λ o q. format_not_too_deep (calls.default_formatter o.value).end o.span)
 
 module _ {V : Type 0} (calls : Calls V) where
   mutual
     pub emit_not_too_deep : (e : Expression) (env : Environment) (q : V) → NotTooDeep (emit calls e env q).end
     emit_not_too_deep (base b) env q = emit_base_not_too_deep b env q
-    emit_not_too_deep (filtered receiver name args span) env q = applied_not_too_deep calls name span (evaluated_then (evaluate calls receiver env q) (evaluate_arguments calls args env))
+    emit_not_too_deep (filtered receiver name args span) env q = applied_not_too_deep calls name span (append_operand (evaluate calls receiver env q) (evaluate_arguments calls args env))
 
     emit_base_not_too_deep : (b : Base) (env : Environment) (q : V) → NotTooDeep (emit_base calls b env q).end
     emit_base_not_too_deep (paren e span) env q = emit_not_too_deep e env q

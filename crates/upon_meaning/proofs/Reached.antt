@@ -2,13 +2,13 @@
 use Rattle.std.proofs.Common.{◌≡◌, ℕ, List, [], ◌∷◌, ◌++◌, Option, Some, None, inr, ap}
 use Rattle.upon_types.specs.Tree.{Statements}
 use Rattle.upon_render.specs.Source.{says}
-use Rattle.upon_meaning.specs.Engine.{Template, Table, held, from_table}
+use Rattle.upon_meaning.specs.Engine.{Template, Table, table_answer, from_table}
 use Rattle.upon_meaning.specs.Includes.{Includes, ReachesBy, Reaches}
 use Rattle.upon_meaning.specs.Names.{Reads}
 use Rattle.upon_meaning.proofs.SameLookups.{Any}
 use Rattle.upon_meaning.proofs.SameIncludes.{Closed}
 
-held_says : (o : Option Template) (t : Template) → held o ≡ says t → o ≡ Some t
+held_says : (o : Option Template) (t : Template) → table_answer o ≡ says t → o ≡ Some t
 held_says None t e = absurd (cc)
 held_says (Some u) t e = let same : u ≡ t = cc in ap Some same
 

@@ -1,4 +1,4 @@
--- Entries stay in the order of their keys as one more is put in its place, and tell what stands at each key.
+-- Entries stay in the order of their keys as one more is put in its place, and say what is at each key.
 use Rattle.std.proofs.Common.{◌≡◌, ℕ, List, ◌∷◌, Bool, true, false, Some, Less, Equal, Greater, T, nat_cmp, refl, sym, ap, subst, ◌∙◌, bytes_eq, cond, if◌then◌else◌}
 use Rattle.std.specs.declared.cmp.Ordering.{Ordering}
 use Rattle.std.proofs.lemmas.Cmp.{nat_list_cmp_total}
@@ -39,7 +39,7 @@ cond_is : {A : Type 0} (b : Bool) (x y : A) → cond b x y ≡ (if b then x else
 cond_is true x y = refl
 cond_is false x y = refl
 
--- what stands at a key behind one more
+-- what is at a key after one more
 pub entry_more : (key other : List ℕ) (v : Val) (es : Entries) → entry_at other (with_entry key v es) ≡ (if bytes_eq other key then Some v else entry_at other es)
 entry_more key other v es =
     let R = slice_cmp nat_cmp in

@@ -2,45 +2,45 @@
 use Rattle.std.proofs.Common.{◌≡◌, ℕ, List, [], ◌∷◌, ◌++◌, Bool, true, false, Option, Some, inl, inr, refl, sym, ap, ◌∙◌, bytes_eq, if◌then◌else◌}
 use Rattle.upon_types.specs.declared.types.Span.{Span}
 use Rattle.upon_types.specs.declared.types.ast.path.AccessOp.{AccessOp}
-use Rattle.upon_types.specs.Path.{Word, Selector, by_index, by_key, Step}
+use Rattle.upon_types.specs.Path.{Ident, Access, by_index, by_key, Member}
 use Rattle.upon_types.specs.Val.{Val}
 use Rattle.upon_render.specs.Environment.{Bound, Binding, Root, Environment, bind, bind_all, first_bound}
-use Rattle.upon_render.specs.Found.{Found, found, at_fault}
+use Rattle.upon_render.specs.Finding.{Finding, found, at_fault}
 use Rattle.upon_render.specs.Lookup.{maybe_bound, bound_value, or_root, lookup}
 use Rattle.upon_render.specs.Walk.{as_some}
 use Rattle.upon_render.specs.Source.{Source}
 use Rattle.upon_meaning.specs.Shadowing.{Binds}
 
 -- the first member is an index, or one of the names
-abbrev pub Known : (List ℕ → Type 0) → Selector → Type 0
+abbrev pub Known : (List ℕ → Type 0) → Access → Type 0
 Known names (by_index n span) = Unit {0}
 Known names (by_key word) = names word.text
 
 -- every path that begins with one of the names is found alike
 abbrev pub FoundAlike : {V : Type 0} → Source V → (List ℕ → Type 0) → Environment → Environment → Type 0
-FoundAlike {V} ask names env env' = (first : Step) (rest : List Step) (q : V) → Known names first.selector → lookup ask env first rest q ≡ lookup ask env' first rest q
+FoundAlike {V} ask names env env' = (first : Member) (rest : List Member) (q : V) → Known names first.access → lookup ask env first rest q ≡ lookup ask env' first rest q
 
 module _ {V : Type 0} (ask : Source V) where
   -- what is bound answers, whatever the root
-  bound_alike : (x : Found Val) (root root' : Root) (first : Step) (rest : List Step) (q : V) → or_root (as_some x) ask root first rest q ≡ or_root (as_some x) ask root' first rest q
+  bound_alike : (x : Finding Val) (root root' : Root) (first : Member) (rest : List Member) (q : V) → or_root (as_some x) ask root first rest q ≡ or_root (as_some x) ask root' first rest q
   bound_alike (found v) root root' first rest q = refl
   bound_alike (at_fault fault) root root' first rest q = refl
 
   module _ (names : List ℕ → Type 0) (b : Binding) (env env' : Environment) (alike : FoundAlike ask names env env') where
-    by_test : (x : Bool) (op : AccessOp) (word : Word) (span : Span) (rest : List Step) (q : V) → names word.text →
-        or_root (maybe_bound (if x then Some b.bound else first_bound word.text env.bindings) rest) ask env.root (record { op = op; selector = by_key word; span = span }) rest q
-        ≡ or_root (maybe_bound (if x then Some b.bound else first_bound word.text env'.bindings) rest) ask env'.root (record { op = op; selector = by_key word; span = span }) rest q
-    by_test true op word span rest q known = bound_alike (bound_value b.bound rest) env.root env'.root (record { op = op; selector = by_key word; span = span }) rest q
-    by_test false op word span rest q known = alike (record { op = op; selector = by_key word; span = span }) rest q known
+    by_test : (x : Bool) (op : AccessOp) (word : Ident) (span : Span) (rest : List Member) (q : V) → names word.text →
+        or_root (maybe_bound (if x then Some b.bound else first_bound word.text env.bindings) rest) ask env.root (record { op = op; access = by_key word; span = span }) rest q
+        ≡ or_root (maybe_bound (if x then Some b.bound else first_bound word.text env'.bindings) rest) ask env'.root (record { op = op; access = by_key word; span = span }) rest q
+    by_test true op word span rest q known = bound_alike (bound_value b.bound rest) env.root env'.root (record { op = op; access = by_key word; span = span }) rest q
+    by_test false op word span rest q known = alike (record { op = op; access = by_key word; span = span }) rest q known
 
-    by_selector : (selector : Selector) (op : AccessOp) (span : Span) (rest : List Step) (q : V) → Known names selector →
-        lookup ask (bind b env) (record { op = op; selector = selector; span = span }) rest q ≡ lookup ask (bind b env') (record { op = op; selector = selector; span = span }) rest q
-    by_selector (by_index n at) op span rest q known = alike (record { op = op; selector = by_index n at; span = span }) rest q known
+    by_selector : (selector : Access) (op : AccessOp) (span : Span) (rest : List Member) (q : V) → Known names selector →
+        lookup ask (bind b env) (record { op = op; access = selector; span = span }) rest q ≡ lookup ask (bind b env') (record { op = op; access = selector; span = span }) rest q
+    by_selector (by_index n at) op span rest q known = alike (record { op = op; access = by_index n at; span = span }) rest q known
     by_selector (by_key word) op span rest q known = by_test (bytes_eq word.text b.name) op word span rest q known
 
     -- one binding more on both sides
     pub alike_bind : FoundAlike ask names (bind b env) (bind b env')
-    alike_bind first rest q known = by_selector first.selector first.op first.span rest q known
+    alike_bind first rest q known = by_selector first.access first.op first.span rest q known
 
   pub alike_bind_all : (names : List ℕ → Type 0) (bs : List Binding) (env env' : Environment) → FoundAlike ask names env env' → FoundAlike ask names (bind_all bs env) (bind_all bs env')
   alike_bind_all names [] env env' alike = alike
@@ -50,7 +50,7 @@ module _ {V : Type 0} (ask : Source V) where
 abbrev pub Any : List ℕ → Type 0
 Any name = Unit {0}
 
--- a binding hides another of its name that stands further out
+-- a binding hides another of its name that is further out
 module _ (b : Binding) (outer : List Binding) where
   abbrev Hidden : List ℕ → List Binding → Type 0
   Hidden w bs = first_bound w (bs ++ b ∷ outer) ≡ first_bound w (bs ++ outer)
@@ -70,14 +70,14 @@ module _ (b : Binding) (outer : List Binding) where
   hidden w (c ∷ bs) (inr behind) = both (bytes_eq w c.name) c.bound (first_bound w (bs ++ b ∷ outer)) (first_bound w (bs ++ outer)) (λ e. hidden w bs behind)
 
 module _ {V : Type 0} (ask : Source V) (b : Binding) (bs : List Binding) (env : Environment) (binds : Binds b.name bs) where
-  hidden_at : (selector : Selector) (op : AccessOp) (span : Span) (rest : List Step) (q : V) →
-      lookup ask (bind_all bs (bind b env)) (record { op = op; selector = selector; span = span }) rest q ≡ lookup ask (bind_all bs env) (record { op = op; selector = selector; span = span }) rest q
+  hidden_at : (selector : Access) (op : AccessOp) (span : Span) (rest : List Member) (q : V) →
+      lookup ask (bind_all bs (bind b env)) (record { op = op; access = selector; span = span }) rest q ≡ lookup ask (bind_all bs env) (record { op = op; access = selector; span = span }) rest q
   hidden_at (by_index n at) op span rest q = refl
   hidden_at (by_key word) op span rest q =
-      ap (λ x. or_root (maybe_bound x rest) ask env.root (record { op = op; selector = by_key word; span = span }) rest q) (hidden b env.bindings word.text bs binds)
+      ap (λ x. or_root (maybe_bound x rest) ask env.root (record { op = op; access = by_key word; span = span }) rest q) (hidden b env.bindings word.text bs binds)
 
   pub hides : FoundAlike ask Any (bind_all bs (bind b env)) (bind_all bs env)
-  hides first rest q known = hidden_at first.selector first.op first.span rest q
+  hides first rest q known = hidden_at first.access first.op first.span rest q
 
 -- what is bound among the first is bound among all
 pub binds_more : (name : List ℕ) (bs cs : List Binding) → Binds name bs → Binds name (bs ++ cs)

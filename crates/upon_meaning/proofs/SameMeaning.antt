@@ -1,18 +1,18 @@
 -- What a tree means stays the same where the names that it reads are found alike, and its includes mean the same.
 use Rattle.std.proofs.Common.{◌≡◌, ℕ, ◌+◌, List, [], ◌∷◌, length, Some, None, inl, inr, refl, codes}
 use Rattle.upon_types.specs.Expression.{Expression, base, filtered, Base, var, literal, list, mapping, paren, call, Bases, no_bases, base_then, Items, no_items, item_then, Arguments, no_arguments, arguments, expression_span}
-use Rattle.upon_types.specs.Path.{Word, Selector, by_index, by_key, path_span}
+use Rattle.upon_types.specs.Path.{Ident, Access, by_index, by_key, path_span}
 use Rattle.upon_types.specs.Tree.{Statement, raw, inline_expr, include, if_else, for_loop, with, Statements, no_statements, statement_then, Else, no_else, otherwise}
 use Rattle.upon_types.specs.Val.{Entries, no_entries}
-use Rattle.upon_render.specs.Environment.{Binding, binding, plain, Environment, bind_all, with_name, alone_over, turn, loop_state}
-use Rattle.upon_render.specs.Found.{Found, found, at_fault, with_found}
+use Rattle.upon_render.specs.Environment.{Binding, binding, plain, Environment, bind_all, with_name, alone_over, iteration, loop_state}
+use Rattle.upon_render.specs.Finding.{Finding, found, at_fault, with_found}
 use Rattle.upon_render.specs.Items.{items_of}
-use Rattle.upon_meaning.specs.Emission.{emit, emit_base, emit_applied, emit_value}
+use Rattle.upon_meaning.specs.Emission.{emit, emit_base, emit_call, emit_value}
 use Rattle.upon_meaning.specs.Engine.{Calls}
 use Rattle.upon_meaning.specs.Entries.{with_entry}
-use Rattle.upon_meaning.specs.Evaluation.{evaluated_then, placed, as_list, as_map, applied, evaluate, evaluate_base, evaluate_bases, evaluate_items, evaluate_arguments}
+use Rattle.upon_meaning.specs.Evaluation.{append_operand, with_span, as_list, as_map, apply, evaluate, evaluate_base, evaluate_bases, evaluate_items, evaluate_arguments}
 use Rattle.upon_meaning.specs.Includes.{StatementIncludes, Includes, ElseIncludes}
-use Rattle.upon_meaning.specs.Meaning.{Running, Inclusion, in_template, with_value, choose, condition, each, each_of, statement_means, statements_mean, else_means}
+use Rattle.upon_meaning.specs.Meaning.{RunningTemplate, Inclusion, in_template, with_value, choose, condition, each, each_of, statement_means, statements_mean, else_means}
 use Rattle.upon_meaning.specs.Names.{IsName, ExpressionReads, BaseReads, BasesRead, ItemsRead, ArgumentsRead, StatementReads, StatementsRead, ElseReads}
 use Rattle.upon_meaning.specs.Outcome.{Outcome, States, then_do}
 use Rattle.upon_meaning.proofs.SameLookups.{Known, FoundAlike, alike_bind, alike_bind_all}
@@ -21,7 +21,7 @@ use Rattle.upon_meaning.proofs.SameLookups.{Known, FoundAlike, alike_bind, alike
 abbrev pub Within : (List ℕ → Type 0) → (List ℕ → Type 0) → Type 0
 Within some names = (name : List ℕ) → some name → names name
 
-known : (names : List ℕ → Type 0) (selector : Selector) → Within (λ name. IsName name selector) names → Known names selector
+known : (names : List ℕ → Type 0) (selector : Access) → Within (λ name. IsName name selector) names → Known names selector
 known names (by_index n span) h = tt
 known names (by_key word) h = h word.text refl
 
@@ -31,19 +31,19 @@ module _ {V : Type 0} (calls : Calls V) (names : List ℕ → Type 0) (env env' 
     pub same_value : (e : Expression) → Within (λ name. ExpressionReads name e) names → (q : V) → evaluate calls e env q ≡ evaluate calls e env' q
     same_value (base b) h q = same_base b h q
     same_value (filtered receiver name args span) h q =
-        λ i. applied calls name span (evaluated_then (same_value receiver (λ n r. h n (inl r)) q i) (λ q'. same_arguments args (λ n r. h n (inr r)) q' i))
+        λ i. apply calls name span (append_operand (same_value receiver (λ n r. h n (inl r)) q i) (λ q'. same_arguments args (λ n r. h n (inr r)) q' i))
 
     same_base : (b : Base) → Within (λ name. BaseReads name b) names → (q : V) → evaluate_base calls b env q ≡ evaluate_base calls b env' q
-    same_base (var first rest) h q = λ i. placed (alike first rest q (known names first.selector h) i) (path_span first rest)
+    same_base (var first rest) h q = λ i. with_span (alike first rest q (known names first.access h) i) (path_span first rest)
     same_base (literal v span) h q = refl
     same_base (list bases span) h q = λ i. as_list (same_bases bases h q i) span
     same_base (mapping items span) h q = λ i. as_map (same_items items no_entries h q i) span
     same_base (paren e span) h q = same_value e h q
-    same_base (call name args span) h q = λ i. applied calls name span (same_arguments args h q i)
+    same_base (call name args span) h q = λ i. apply calls name span (same_arguments args h q i)
 
     same_bases : (bs : Bases) → Within (λ name. BasesRead name bs) names → (q : V) → evaluate_bases calls bs env q ≡ evaluate_bases calls bs env' q
     same_bases no_bases h q = refl
-    same_bases (base_then b bs) h q = λ i. evaluated_then (same_base b (λ n r. h n (inl r)) q i) (λ q'. same_bases bs (λ n r. h n (inr r)) q' i)
+    same_bases (base_then b bs) h q = λ i. append_operand (same_base b (λ n r. h n (inl r)) q i) (λ q'. same_bases bs (λ n r. h n (inr r)) q' i)
 
     same_items : (items : Items) (es : Entries) → Within (λ name. ItemsRead name items) names → (q : V) → evaluate_items calls items es env q ≡ evaluate_items calls items es env' q
     same_items no_items es h q = refl
@@ -58,38 +58,38 @@ module _ {V : Type 0} (calls : Calls V) (names : List ℕ → Type 0) (env env' 
     pub same_text : (e : Expression) → Within (λ name. ExpressionReads name e) names → (q : V) → emit calls e env q ≡ emit calls e env' q
     same_text (base b) h q = same_base_text b h q
     same_text (filtered receiver name args span) h q =
-        λ i. emit_applied calls name span (evaluated_then (same_value receiver (λ n r. h n (inl r)) q i) (λ q'. same_arguments args (λ n r. h n (inr r)) q' i))
+        λ i. emit_call calls name span (append_operand (same_value receiver (λ n r. h n (inl r)) q i) (λ q'. same_arguments args (λ n r. h n (inr r)) q' i))
 
     same_base_text : (b : Base) → Within (λ name. BaseReads name b) names → (q : V) → emit_base calls b env q ≡ emit_base calls b env' q
     same_base_text (paren e span) h q = same_text e h q
-    same_base_text (call name args span) h q = λ i. emit_applied calls name span (same_arguments args h q i)
+    same_base_text (call name args span) h q = λ i. emit_call calls name span (same_arguments args h q i)
     same_base_text (var first rest) h q = λ i. emit_value calls (same_base (var first rest) h q i)
     same_base_text (literal v span) h q = λ i. emit_value calls (same_base (literal v span) h q i)
     same_base_text (list bases span) h q = λ i. emit_value calls (same_base (list bases span) h q i)
     same_base_text (mapping items span) h q = λ i. emit_value calls (same_base (mapping items span) h q i)
 
 -- statements, where includes of these names mean the same wherever those names are found alike
-module _ {V T : Type 0} (calls : Calls V) (running : Running) (names included_names : List ℕ → Type 0) (inc inc' : Inclusion V T) where
+module _ {V T : Type 0} (calls : Calls V) (running : RunningTemplate) (names included_names : List ℕ → Type 0) (inc inc' : Inclusion V T) where
   abbrev Alike : Environment → Environment → Type 0
   Alike env env' = FoundAlike calls.ask names env env'
 
   abbrev SameBody : (Environment → States V T → Outcome (States V T)) → (Environment → States V T → Outcome (States V T)) → Type 0
   SameBody body body' = (env env' : Environment) → Alike env env' → (s : States V T) → body env s ≡ body' env' s
 
-  module _ (body body' : Environment → States V T → Outcome (States V T)) (same : SameBody body body') (from : Running) (env env' : Environment) (alike : Alike env env') where
+  module _ (body body' : Environment → States V T → Outcome (States V T)) (same : SameBody body body') (from : RunningTemplate) (env env' : Environment) (alike : Alike env env') where
     same_each : (count index : ℕ) (items : List (List Binding)) (s : States V T) → each body count index items env s ≡ each body' count index items env' s
     same_each count index [] s = refl
     same_each count index (bs ∷ items) s =
         λ i. then_do
-        (same (turn index count bs env) (turn index count bs env')
+        (same (iteration index count bs env) (iteration index count bs env')
         (alike_bind calls.ask names (binding (codes "loop") (loop_state index count)) (bind_all bs env) (bind_all bs env') (alike_bind_all calls.ask names bs env env' alike)) s i)
         (λ s'. same_each count (index + 1) items s' i)
 
-    same_each_of : (items : Found (List (List Binding))) (s : States V T) → each_of body from items env s ≡ each_of body' from items env' s
+    same_each_of : (items : Finding (List (List Binding))) (s : States V T) → each_of body from items env s ≡ each_of body' from items env' s
     same_each_of (found items) s = same_each (length items) 0 items s
     same_each_of (at_fault f) s = refl
 
-  module _ (same_include : (from : Running) (word : Word) → included_names word.text → SameBody (inc from word) (inc' from word)) where
+  module _ (same_include : (from : RunningTemplate) (word : Ident) → included_names word.text → SameBody (inc from word) (inc' from word)) where
     mutual
       pub same_statement : (t : Statement) → Within (λ name. StatementReads name t) names → Within (λ name. StatementIncludes name t) included_names → SameBody (statement_means calls inc running t) (statement_means calls inc' running t)
       same_statement (raw span) h k env env' alike s = refl

@@ -2,18 +2,18 @@
 use Rattle.std.proofs.Common.{◌≡◌, List, [], ◌∷◌, Option, Some, None, refl, ap, ◌∙◌}
 use Rattle.upon_types.specs.declared.types.Span.{Span}
 use Rattle.upon_types.specs.Expression.{Expression, base, filtered, Base, var, literal, list, mapping, paren, call, Bases, no_bases, base_then, Items, no_items, item_then, Arguments, no_arguments, arguments}
-use Rattle.upon_types.specs.Path.{Word, Step, path_span}
+use Rattle.upon_types.specs.Path.{Ident, Member, path_span}
 use Rattle.upon_types.specs.Val.{Val, list_val, map_val, Entries, no_entries}
 use Rattle.upon_types.specs.View.{vals_of}
 use Rattle.upon_render.specs.Environment.{Binding, Environment, context}
-use Rattle.upon_render.specs.Found.{Found, found, at_fault, Reply, reply, on_found, with_found}
+use Rattle.upon_render.specs.Finding.{Finding, found, at_fault, Reply, reply, on_found, with_found}
 use Rattle.upon_render.specs.Lookup.{bindings_walk, or_root, lookup}
 use Rattle.upon_render.specs.Source.{refuses, Source}
 use Rattle.upon_types.specs.Answers.{Formatter, Callable, formatter, function}
-use Rattle.upon_meaning.specs.Emission.{shown, shown_or_fault, emit_found, formatted_by, emitted, emit_applied, emit_value, emit, emit_base}
+use Rattle.upon_meaning.specs.Emission.{format_outcome, or_fault, emit_found, formatter_outcome, callable_outcome, emit_call, emit_value, emit, emit_base}
 use Rattle.upon_meaning.specs.Engine.{Calls}
 use Rattle.upon_meaning.specs.Entries.{with_entry}
-use Rattle.upon_meaning.specs.Evaluation.{Evaluated, evaluated, values_of, answered, called, placed, ahead, evaluated_then, as_list, as_map, applied, evaluate, evaluate_base, evaluate_bases, evaluate_items, evaluate_arguments}
+use Rattle.upon_meaning.specs.Evaluation.{Operand, operand, values_of, answer_value, call_value, with_span, prepend, append_operand, as_list, as_map, apply, evaluate, evaluate_base, evaluate_bases, evaluate_items, evaluate_arguments}
 use Rattle.upon_meaning.specs.Outcome.{Outcome}
 
 -- the environment of bindings over a context
@@ -32,43 +32,43 @@ abbrev pub keep_end : {V : Type 0} → V → Outcome (Unit {0}) → Outcome V
 keep_end q o = record { text = o.text; end = o.end; next = q }
 
 module _ {V : Type 0} (q : V) where
-  by_found : {A B : Type 0} (x : Found A) (u : Unit {0}) (go : A → V → Reply V (Found B)) (pure : A → Unit {0} → Reply (Unit {0}) (Found B)) → ((a : A) (u : Unit {0}) → go a q ≡ keep q (pure a u)) → on_found x q go ≡ keep q (on_found x u pure)
+  by_found : {A B : Type 0} (x : Finding A) (u : Unit {0}) (go : A → V → Reply V (Finding B)) (pure : A → Unit {0} → Reply (Unit {0}) (Finding B)) → ((a : A) (u : Unit {0}) → go a q ≡ keep q (pure a u)) → on_found x q go ≡ keep q (on_found x u pure)
   by_found (found a) u go pure h = h a u
   by_found (at_fault f) u go pure h = refl
 
-  found_keeps : {A B : Type 0} (r : Reply V (Found A)) (o : Reply (Unit {0}) (Found A)) (go : A → V → Reply V (Found B)) (pure : A → Unit {0} → Reply (Unit {0}) (Found B)) → r ≡ keep q o → ((a : A) (u : Unit {0}) → go a q ≡ keep q (pure a u)) → with_found r go ≡ keep q (with_found o pure)
+  found_keeps : {A B : Type 0} (r : Reply V (Finding A)) (o : Reply (Unit {0}) (Finding A)) (go : A → V → Reply V (Finding B)) (pure : A → Unit {0} → Reply (Unit {0}) (Finding B)) → r ≡ keep q o → ((a : A) (u : Unit {0}) → go a q ≡ keep q (pure a u)) → with_found r go ≡ keep q (with_found o pure)
   found_keeps r o go pure e h = ap (λ r. with_found r go) e ∙ by_found o.answer o.next go pure h
 
-  lookup_keeps : (x : Found (Option Val)) (ask : Source V) (silent : Source (Unit {0})) (v : Val) (first : Step) (rest : List Step) (u : Unit {0}) → or_root x ask (context v) first rest q ≡ keep q (or_root x silent (context v) first rest u)
+  lookup_keeps : (x : Finding (Option Val)) (ask : Source V) (silent : Source (Unit {0})) (v : Val) (first : Member) (rest : List Member) (u : Unit {0}) → or_root x ask (context v) first rest q ≡ keep q (or_root x silent (context v) first rest u)
   lookup_keeps (found (Some w)) ask silent v first rest u = refl
   lookup_keeps (found None) ask silent v first rest u = refl
   lookup_keeps (at_fault f) ask silent v first rest u = refl
 
-  placed_keeps : (r : Reply V (Found Val)) (o : Reply (Unit {0}) (Found Val)) (at : Span) → r ≡ keep q o → placed r at ≡ keep q (placed o at)
-  placed_keeps r o at e = found_keeps r o (λ v p. reply (found (evaluated v at)) p) (λ v p. reply (found (evaluated v at)) p) e (λ v u. refl)
+  placed_keeps : (r : Reply V (Finding Val)) (o : Reply (Unit {0}) (Finding Val)) (at : Span) → r ≡ keep q o → with_span r at ≡ keep q (with_span o at)
+  placed_keeps r o at e = found_keeps r o (λ v p. reply (found (operand v at)) p) (λ v p. reply (found (operand v at)) p) e (λ v u. refl)
 
-  ahead_keeps : (x : Evaluated) (r : Reply V (Found (List Evaluated))) (o : Reply (Unit {0}) (Found (List Evaluated))) → r ≡ keep q o → ahead x r ≡ keep q (ahead x o)
+  ahead_keeps : (x : Operand) (r : Reply V (Finding (List Operand))) (o : Reply (Unit {0}) (Finding (List Operand))) → r ≡ keep q o → prepend x r ≡ keep q (prepend x o)
   ahead_keeps x r o e = found_keeps r o (λ os p. reply (found (x ∷ os)) p) (λ os p. reply (found (x ∷ os)) p) e (λ v u. refl)
 
-  evaluated_then_keeps : (r : Reply V (Found Evaluated)) (o : Reply (Unit {0}) (Found Evaluated)) (others : V → Reply V (Found (List Evaluated))) (pure : Unit {0} → Reply (Unit {0}) (Found (List Evaluated))) → r ≡ keep q o → ((u : Unit {0}) → others q ≡ keep q (pure u)) → evaluated_then r others ≡ keep q (evaluated_then o pure)
-  evaluated_then_keeps r o others pure e h = found_keeps r o (λ x p. ahead x (others p)) (λ x p. ahead x (pure p)) e (λ x u. ahead_keeps x (others q) (pure u) (h u))
+  evaluated_then_keeps : (r : Reply V (Finding Operand)) (o : Reply (Unit {0}) (Finding Operand)) (others : V → Reply V (Finding (List Operand))) (pure : Unit {0} → Reply (Unit {0}) (Finding (List Operand))) → r ≡ keep q o → ((u : Unit {0}) → others q ≡ keep q (pure u)) → append_operand r others ≡ keep q (append_operand o pure)
+  evaluated_then_keeps r o others pure e h = found_keeps r o (λ x p. prepend x (others p)) (λ x p. prepend x (pure p)) e (λ x u. ahead_keeps x (others q) (pure u) (h u))
 
-  as_list_keeps : (r : Reply V (Found (List Evaluated))) (o : Reply (Unit {0}) (Found (List Evaluated))) (at : Span) → r ≡ keep q o → as_list r at ≡ keep q (as_list o at)
-  as_list_keeps r o at e = found_keeps r o (λ os p. reply (found (evaluated (list_val (vals_of (values_of os))) at)) p) (λ os p. reply (found (evaluated (list_val (vals_of (values_of os))) at)) p) e (λ os u. refl)
+  as_list_keeps : (r : Reply V (Finding (List Operand))) (o : Reply (Unit {0}) (Finding (List Operand))) (at : Span) → r ≡ keep q o → as_list r at ≡ keep q (as_list o at)
+  as_list_keeps r o at e = found_keeps r o (λ os p. reply (found (operand (list_val (vals_of (values_of os))) at)) p) (λ os p. reply (found (operand (list_val (vals_of (values_of os))) at)) p) e (λ os u. refl)
 
-  as_map_keeps : (r : Reply V (Found Entries)) (o : Reply (Unit {0}) (Found Entries)) (at : Span) → r ≡ keep q o → as_map r at ≡ keep q (as_map o at)
-  as_map_keeps r o at e = found_keeps r o (λ es p. reply (found (evaluated (map_val es) at)) p) (λ es p. reply (found (evaluated (map_val es) at)) p) e (λ es u. refl)
+  as_map_keeps : (r : Reply V (Finding Entries)) (o : Reply (Unit {0}) (Finding Entries)) (at : Span) → r ≡ keep q o → as_map r at ≡ keep q (as_map o at)
+  as_map_keeps r o at e = found_keeps r o (λ es p. reply (found (operand (map_val es) at)) p) (λ es p. reply (found (operand (map_val es) at)) p) e (λ es u. refl)
 
-  applied_keeps : (calls : Calls V) (name : Word) (whole : Span) (r : Reply V (Found (List Evaluated))) (o : Reply (Unit {0}) (Found (List Evaluated))) → r ≡ keep q o → applied calls name whole r ≡ keep q (applied (sourceless calls) name whole o)
+  applied_keeps : (calls : Calls V) (name : Ident) (whole : Span) (r : Reply V (Finding (List Operand))) (o : Reply (Unit {0}) (Finding (List Operand))) → r ≡ keep q o → apply calls name whole r ≡ keep q (apply (sourceless calls) name whole o)
   applied_keeps calls name whole r o e =
-      found_keeps r o (λ os p. placed (reply (called name whole os (calls.callables name.text)) p) whole) (λ os p. placed (reply (called name whole os (calls.callables name.text)) p) whole) e (λ os u. placed_keeps (reply (called name whole os (calls.callables name.text)) q) (reply (called name whole os (calls.callables name.text)) u) whole refl)
+      found_keeps r o (λ os p. with_span (reply (call_value name whole os (calls.callables name.text)) p) whole) (λ os p. with_span (reply (call_value name whole os (calls.callables name.text)) p) whole) e (λ os u. placed_keeps (reply (call_value name whole os (calls.callables name.text)) q) (reply (call_value name whole os (calls.callables name.text)) u) whole refl)
 
 module _ {V : Type 0} (calls : Calls V) (bindings : List Binding) (v : Val) (q : V) where
   mutual
     pub evaluate_keeps : (e : Expression) (u : Unit {0}) → evaluate calls e (above bindings v) q ≡ keep q (evaluate (sourceless calls) e (above bindings v) u)
     evaluate_keeps (base b) u = base_keeps b u
     evaluate_keeps (filtered receiver name args span) u =
-        applied_keeps q calls name span (evaluated_then (evaluate calls receiver (above bindings v) q) (evaluate_arguments calls args (above bindings v))) (evaluated_then (evaluate (sourceless calls) receiver (above bindings v) u) (evaluate_arguments (sourceless calls) args (above bindings v))) (evaluated_then_keeps q (evaluate calls receiver (above bindings v) q) (evaluate (sourceless calls) receiver (above bindings v) u) (evaluate_arguments calls args (above bindings v)) (evaluate_arguments (sourceless calls) args (above bindings v)) (evaluate_keeps receiver u) (arguments_keep args))
+        applied_keeps q calls name span (append_operand (evaluate calls receiver (above bindings v) q) (evaluate_arguments calls args (above bindings v))) (append_operand (evaluate (sourceless calls) receiver (above bindings v) u) (evaluate_arguments (sourceless calls) args (above bindings v))) (evaluated_then_keeps q (evaluate calls receiver (above bindings v) q) (evaluate (sourceless calls) receiver (above bindings v) u) (evaluate_arguments calls args (above bindings v)) (evaluate_arguments (sourceless calls) args (above bindings v)) (evaluate_keeps receiver u) (arguments_keep args))
 
     base_keeps : (b : Base) (u : Unit {0}) → evaluate_base calls b (above bindings v) q ≡ keep q (evaluate_base (sourceless calls) b (above bindings v) u)
     base_keeps (var first rest) u = placed_keeps q (lookup calls.ask (above bindings v) first rest q) (lookup (sourceless calls).ask (above bindings v) first rest u) (path_span first rest) (lookup_keeps q (bindings_walk bindings first rest) calls.ask (sourceless calls).ask v first rest u)
@@ -92,28 +92,28 @@ module _ {V : Type 0} (calls : Calls V) (bindings : List Binding) (v : Val) (q :
 
 -- what an expression writes
 module _ {V : Type 0} (q : V) where
-  by_shown : {A : Type 0} (x : Found A) (u : Unit {0}) (go : A → V → Outcome V) (pure : A → Unit {0} → Outcome (Unit {0})) → ((a : A) (u : Unit {0}) → go a q ≡ keep_end q (pure a u)) → shown_or_fault x q go ≡ keep_end q (shown_or_fault x u pure)
+  by_shown : {A : Type 0} (x : Finding A) (u : Unit {0}) (go : A → V → Outcome V) (pure : A → Unit {0} → Outcome (Unit {0})) → ((a : A) (u : Unit {0}) → go a q ≡ keep_end q (pure a u)) → or_fault x q go ≡ keep_end q (or_fault x u pure)
   by_shown (found a) u go pure h = h a u
   by_shown (at_fault f) u go pure h = refl
 
-  emit_found_keeps : {A : Type 0} (r : Reply V (Found A)) (o : Reply (Unit {0}) (Found A)) (go : A → V → Outcome V) (pure : A → Unit {0} → Outcome (Unit {0})) → r ≡ keep q o → ((a : A) (u : Unit {0}) → go a q ≡ keep_end q (pure a u)) → emit_found r go ≡ keep_end q (emit_found o pure)
+  emit_found_keeps : {A : Type 0} (r : Reply V (Finding A)) (o : Reply (Unit {0}) (Finding A)) (go : A → V → Outcome V) (pure : A → Unit {0} → Outcome (Unit {0})) → r ≡ keep q o → ((a : A) (u : Unit {0}) → go a q ≡ keep_end q (pure a u)) → emit_found r go ≡ keep_end q (emit_found o pure)
   emit_found_keeps r o go pure e h = ap (λ r. emit_found r go) e ∙ by_shown o.answer o.next go pure h
 
-  formatted_keeps : (f : Formatter) (name : Word) (given : List Evaluated) (u : Unit {0}) → formatted_by f name given q ≡ keep_end q (formatted_by f name given u)
+  formatted_keeps : (f : Formatter) (name : Ident) (given : List Operand) (u : Unit {0}) → formatter_outcome f name given q ≡ keep_end q (formatter_outcome f name given u)
   formatted_keeps f name [] u = refl
   formatted_keeps f name (o ∷ []) u = refl
   formatted_keeps f name (o ∷ p ∷ given) u = refl
 
-  emitted_keeps : (default : Formatter) (name : Word) (whole : Span) (given : List Evaluated) (callable : Option Callable) (u : Unit {0}) → emitted default name whole given callable q ≡ keep_end q (emitted default name whole given callable u)
+  emitted_keeps : (default : Formatter) (name : Ident) (whole : Span) (given : List Operand) (callable : Option Callable) (u : Unit {0}) → callable_outcome default name whole given callable q ≡ keep_end q (callable_outcome default name whole given callable u)
   emitted_keeps default name whole given None u = refl
   emitted_keeps default name whole given (Some (formatter f)) u = formatted_keeps f name given u
-  emitted_keeps default name whole given (Some (function f)) u = by_shown (answered name name.span given (f (values_of given))) u (λ v p. shown (default v) whole p) (λ v p. shown (default v) whole p) (λ v u'. refl)
+  emitted_keeps default name whole given (Some (function f)) u = by_shown (answer_value name name.span given (f (values_of given))) u (λ v p. format_outcome (default v) whole p) (λ v p. format_outcome (default v) whole p) (λ v u'. refl)
 
-  emit_applied_keeps : (calls : Calls V) (name : Word) (whole : Span) (r : Reply V (Found (List Evaluated))) (o : Reply (Unit {0}) (Found (List Evaluated))) → r ≡ keep q o → emit_applied calls name whole r ≡ keep_end q (emit_applied (sourceless calls) name whole o)
-  emit_applied_keeps calls name whole r o e = emit_found_keeps r o (λ os p. emitted calls.default_formatter name whole os (calls.callables name.text) p) (λ os p. emitted calls.default_formatter name whole os (calls.callables name.text) p) e (λ os u. emitted_keeps calls.default_formatter name whole os (calls.callables name.text) u)
+  emit_applied_keeps : (calls : Calls V) (name : Ident) (whole : Span) (r : Reply V (Finding (List Operand))) (o : Reply (Unit {0}) (Finding (List Operand))) → r ≡ keep q o → emit_call calls name whole r ≡ keep_end q (emit_call (sourceless calls) name whole o)
+  emit_applied_keeps calls name whole r o e = emit_found_keeps r o (λ os p. callable_outcome calls.default_formatter name whole os (calls.callables name.text) p) (λ os p. callable_outcome calls.default_formatter name whole os (calls.callables name.text) p) e (λ os u. emitted_keeps calls.default_formatter name whole os (calls.callables name.text) u)
 
-  emit_value_keeps : (calls : Calls V) (r : Reply V (Found Evaluated)) (o : Reply (Unit {0}) (Found Evaluated)) → r ≡ keep q o → emit_value calls r ≡ keep_end q (emit_value (sourceless calls) o)
-  emit_value_keeps calls r o e = emit_found_keeps r o (λ x p. shown (calls.default_formatter x.value) x.place p) (λ x p. shown (calls.default_formatter x.value) x.place p) e (λ x u. refl)
+  emit_value_keeps : (calls : Calls V) (r : Reply V (Finding Operand)) (o : Reply (Unit {0}) (Finding Operand)) → r ≡ keep q o → emit_value calls r ≡ keep_end q (emit_value (sourceless calls) o)
+  emit_value_keeps calls r o e = emit_found_keeps r o (λ x p. format_outcome (calls.default_formatter x.value) x.span p) (λ x p. format_outcome (calls.default_formatter x.value) x.span p) e (λ x u. refl)
 
 module _ {V : Type 0} (calls : Calls V) (bindings : List Binding) (v : Val) (q : V) where
   emit_plain_keeps : (b : Base) (u : Unit {0}) → emit_value calls (evaluate_base calls b (above bindings v) q) ≡ keep_end q (emit_value (sourceless calls) (evaluate_base (sourceless calls) b (above bindings v) u))
@@ -123,7 +123,7 @@ module _ {V : Type 0} (calls : Calls V) (bindings : List Binding) (v : Val) (q :
     pub emit_keeps : (e : Expression) (u : Unit {0}) → emit calls e (above bindings v) q ≡ keep_end q (emit (sourceless calls) e (above bindings v) u)
     emit_keeps (base b) u = emit_base_keeps b u
     emit_keeps (filtered receiver name args span) u =
-        emit_applied_keeps q calls name span (evaluated_then (evaluate calls receiver (above bindings v) q) (evaluate_arguments calls args (above bindings v))) (evaluated_then (evaluate (sourceless calls) receiver (above bindings v) u) (evaluate_arguments (sourceless calls) args (above bindings v))) (evaluated_then_keeps q (evaluate calls receiver (above bindings v) q) (evaluate (sourceless calls) receiver (above bindings v) u) (evaluate_arguments calls args (above bindings v)) (evaluate_arguments (sourceless calls) args (above bindings v)) (evaluate_keeps calls bindings v q receiver u) (arguments_keep calls bindings v q args))
+        emit_applied_keeps q calls name span (append_operand (evaluate calls receiver (above bindings v) q) (evaluate_arguments calls args (above bindings v))) (append_operand (evaluate (sourceless calls) receiver (above bindings v) u) (evaluate_arguments (sourceless calls) args (above bindings v))) (evaluated_then_keeps q (evaluate calls receiver (above bindings v) q) (evaluate (sourceless calls) receiver (above bindings v) u) (evaluate_arguments calls args (above bindings v)) (evaluate_arguments (sourceless calls) args (above bindings v)) (evaluate_keeps calls bindings v q receiver u) (arguments_keep calls bindings v q args))
 
     emit_base_keeps : (b : Base) (u : Unit {0}) → emit_base calls b (above bindings v) q ≡ keep_end q (emit_base (sourceless calls) b (above bindings v) u)
     emit_base_keeps (paren e span) u = emit_keeps e u

@@ -1,19 +1,19 @@
 -- Over a context a template means what it means where there is no value source, and the source's state stays.
 use Rattle.std.proofs.Common.{◌≡◌, ℕ, zero, suc, ◌+◌, List, [], ◌∷◌, ◌++◌, length, Option, Some, None, Bool, true, false, refl, sym, ap, ◌∙◌, codes}
 use Rattle.upon_types.specs.Expression.{expression_span}
-use Rattle.upon_types.specs.Path.{Word}
+use Rattle.upon_types.specs.Path.{Ident}
 use Rattle.upon_types.specs.Tree.{Statement, raw, inline_expr, include, if_else, for_loop, with, Statements, no_statements, statement_then, Else, no_else, otherwise}
 use Rattle.upon_types.specs.Val.{Val}
 use Rattle.upon_render.specs.Environment.{Binding, binding, plain, loop_state, context}
-use Rattle.upon_render.specs.Found.{Found, found, at_fault, Reply}
+use Rattle.upon_render.specs.Finding.{Finding, found, at_fault, Reply}
 use Rattle.upon_render.specs.Items.{items_of}
-use Rattle.upon_render.specs.Source.{Said, says, refuses, Source}
+use Rattle.upon_render.specs.Source.{SourceAnswer, says, refuses, Source}
 use Rattle.upon_meaning.specs.Alone.{running, on_template, included, alone_within}
 use Rattle.upon_meaning.specs.Engine.{Template, Calls, Resolver}
-use Rattle.upon_meaning.specs.Evaluation.{Evaluated}
-use Rattle.upon_meaning.specs.Meaning.{Running, Inclusion, Body, choose, condition, each, each_of, in_template, on_value, with_value, statement_means, statements_mean, else_means}
-use Rattle.upon_meaning.specs.Outcome.{End, good, fails, too_deep, Outcome, States, states, after, go_on, then_do}
-use Rattle.upon_meaning.specs.ValueSource.{asking, SameBesideValues}
+use Rattle.upon_meaning.specs.Evaluation.{Operand}
+use Rattle.upon_meaning.specs.Meaning.{RunningTemplate, Inclusion, Body, choose, condition, each, each_of, in_template, on_value, with_value, statement_means, statements_mean, else_means}
+use Rattle.upon_meaning.specs.Outcome.{End, good, fails, too_deep, Outcome, States, states, with_text_before, go_on, then_do}
+use Rattle.upon_meaning.specs.ValueSource.{with_source, SameBesideValues}
 use Rattle.upon_meaning.proofs.UnaskedExpressions.{above, sourceless, keep, evaluate_keeps, emit_keeps}
 
 -- states without a value source
@@ -30,7 +30,7 @@ module _ {V T : Type 0} (q : V) where
   Keeps f pure = (s : Sourceless T) → f (states q s.templates) ≡ keep_values q (pure s)
 
   by_go_on : (text : List ℕ) (end : End) (s : Sourceless T) (f : States V T → Outcome (States V T)) (pure : Sourceless T → Outcome (Sourceless T)) → Keeps f pure → go_on text end (states q s.templates) f ≡ keep_values q (go_on text end s pure)
-  by_go_on text good s f pure h = ap (after text) (h s)
+  by_go_on text good s f pure h = ap (with_text_before text) (h s)
   by_go_on text (fails x) s f pure h = refl
   by_go_on text too_deep s f pure h = refl
 
@@ -41,14 +41,14 @@ module _ {V T : Type 0} (q : V) where
   choose_keeps true f g pure other h k s = h s
   choose_keeps false f g pure other h k s = k s
 
-  by_value : (from : Running) (x : Found Evaluated) (s : Sourceless T) (f : Val → States V T → Outcome (States V T)) (pure : Val → Sourceless T → Outcome (Sourceless T)) → ((w : Val) → Keeps (f w) (pure w)) → on_value from x (states q s.templates) f ≡ keep_values q (on_value from x s pure)
+  by_value : (from : RunningTemplate) (x : Finding Operand) (s : Sourceless T) (f : Val → States V T → Outcome (States V T)) (pure : Val → Sourceless T → Outcome (Sourceless T)) → ((w : Val) → Keeps (f w) (pure w)) → on_value from x (states q s.templates) f ≡ keep_values q (on_value from x s pure)
   by_value from (found o) s f pure h = h o.value s
   by_value from (at_fault x) s f pure h = refl
 
-  value_keeps : (from : Running) (templates : T) (r : Reply V (Found Evaluated)) (o : Reply (Unit {0}) (Found Evaluated)) (f : Val → States V T → Outcome (States V T)) (pure : Val → Sourceless T → Outcome (Sourceless T)) → r ≡ keep q o → ((w : Val) → Keeps (f w) (pure w)) → with_value from templates r f ≡ keep_values q (with_value from templates o pure)
+  value_keeps : (from : RunningTemplate) (templates : T) (r : Reply V (Finding Operand)) (o : Reply (Unit {0}) (Finding Operand)) (f : Val → States V T → Outcome (States V T)) (pure : Val → Sourceless T → Outcome (Sourceless T)) → r ≡ keep q o → ((w : Val) → Keeps (f w) (pure w)) → with_value from templates r f ≡ keep_values q (with_value from templates o pure)
   value_keeps from templates r o f pure e h = ap (λ r. with_value from templates r f) e ∙ by_value from o.answer (states o.next templates) f pure h
 
-  template_keeps : (from : Running) (word : Word) (x : Said Template) (s : Sourceless T) (f : Template → States V T → Outcome (States V T)) (pure : Template → Sourceless T → Outcome (Sourceless T)) → ((t : Template) → Keeps (f t) (pure t)) → on_template from word x (states q s.templates) f ≡ keep_values q (on_template from word x s pure)
+  template_keeps : (from : RunningTemplate) (word : Ident) (x : SourceAnswer Template) (s : Sourceless T) (f : Template → States V T → Outcome (States V T)) (pure : Template → Sourceless T → Outcome (Sourceless T)) → ((t : Template) → Keeps (f t) (pure t)) → on_template from word x (states q s.templates) f ≡ keep_values q (on_template from word x s pure)
   template_keeps from word (says t) s f pure h = h t s
   template_keeps from word (refuses x) s f pure h = refl
 
@@ -62,15 +62,15 @@ module _ {V T : Type 0} (q : V) where
     each_keeps body pure h count index (bs ∷ items) bindings s =
         let inner : List Binding = binding (codes "loop") (loop_state index count) ∷ (bs ++ bindings) in then_keeps (body (above inner v) (states q s.templates)) (pure (above inner v) s) _ _ (h inner s) (each_keeps body pure h count (index + 1) items bindings)
 
-    each_of_keeps : (body : Body (States V T)) (pure : Body (Sourceless T)) → BodyKeeps body pure → (from : Running) (x : Found (List (List Binding))) (bindings : List Binding) → Keeps (each_of body from x (above bindings v)) (each_of pure from x (above bindings v))
+    each_of_keeps : (body : Body (States V T)) (pure : Body (Sourceless T)) → BodyKeeps body pure → (from : RunningTemplate) (x : Finding (List (List Binding))) (bindings : List Binding) → Keeps (each_of body from x (above bindings v)) (each_of pure from x (above bindings v))
     each_of_keeps body pure h from (found items) bindings s = each_keeps body pure h (length items) 0 items bindings s
     each_of_keeps body pure h from (at_fault x) bindings s = refl
 
 -- includes that give the same over any context
 abbrev InclusionKeeps : {V T : Type 0} → V → Inclusion V T → Inclusion (Unit {0}) T → Type 0
-InclusionKeeps q i pure = (from : Running) (word : Word) (v : Val) → BodyKeeps q v (i from word) (pure from word)
+InclusionKeeps q i pure = (from : RunningTemplate) (word : Ident) (v : Val) → BodyKeeps q v (i from word) (pure from word)
 
-module _ {V T : Type 0} (calls : Calls V) (i : Inclusion V T) (pure : Inclusion (Unit {0}) T) (q : V) (same : InclusionKeeps q i pure) (run : Running) (v : Val) where
+module _ {V T : Type 0} (calls : Calls V) (i : Inclusion V T) (pure : Inclusion (Unit {0}) T) (q : V) (same : InclusionKeeps q i pure) (run : RunningTemplate) (v : Val) where
   mutual
     statement_keeps : (t : Statement) (bindings : List Binding) (s : Sourceless T) → statement_means calls i run t (above bindings v) (states q s.templates) ≡ keep_values q (statement_means (sourceless calls) pure run t (above bindings v) s)
     statement_keeps (raw span) bindings s = refl
@@ -110,8 +110,8 @@ pub unasked : {V T : Type 0} (calls : Calls V) (ask : Source V) (resolve : Resol
 unasked calls ask resolve left t name v s = alone_keeps (record calls { ask = ask }) resolve left t name v s ∙ sym (alone_keeps calls resolve left t name v s)
 
 module _ {V W T : Type 0} (calls : Calls V) (ask : Source W) (resolve : Resolver T) where
-  pub replaced : (left : ℕ) (t : Template) (name : Option (List ℕ)) (v : Val) (values : V) (others : W) (templates : T) → SameBesideValues (alone_within calls resolve left t name (context v) (states values templates)) (alone_within (asking ask calls) resolve left t name (context v) (states others templates))
+  pub replaced : (left : ℕ) (t : Template) (name : Option (List ℕ)) (v : Val) (values : V) (others : W) (templates : T) → SameBesideValues (alone_within calls resolve left t name (context v) (states values templates)) (alone_within (with_source ask calls) resolve left t name (context v) (states others templates))
   replaced left t name v values others templates =
       let one = alone_keeps calls resolve left t name v (states values templates) in
-      let other = alone_keeps (asking ask calls) resolve left t name v (states others templates) in
+      let other = alone_keeps (with_source ask calls) resolve left t name v (states others templates) in
       record { text = ap (λ o. o.text) one ∙ sym (ap (λ o. o.text) other); end = ap (λ o. o.end) one ∙ sym (ap (λ o. o.end) other); templates = ap (λ o. o.next.templates) one ∙ sym (ap (λ o. o.next.templates) other) }

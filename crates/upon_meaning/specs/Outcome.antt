@@ -2,12 +2,13 @@
 use Rattle.std.specs.Prelude.{ℕ, List, [], ◌++◌}
 use Rattle.upon_types.specs.Fault.{Fault}
 
--- well, with a fault, or where an include would stand too deep inside others
+-- well, with a fault, or where an include would are too deep inside others
 pub data End : Type 0 where
   good : End
   fails : Fault → End
   too_deep : End
 
+-- a text, how it ends, and the next state
 pub record Outcome (Q : Type 0) : Type 0 where
   pub text : List ℕ
   pub end : End
@@ -18,27 +19,29 @@ pub record States (V T : Type 0) : Type 0 where
   pub values : V
   pub templates : T
 
+-- the states of both sources
 abbrev pub states : {V T : Type 0} → V → T → States V T
 states values templates = record { values = values; templates = templates }
 
 -- a text that ends well
-abbrev pub written : {Q : Type 0} → List ℕ → Q → Outcome Q
-written text next = record { text = text; end = good; next = next }
+abbrev pub text_outcome : {Q : Type 0} → List ℕ → Q → Outcome Q
+text_outcome text next = record { text = text; end = good; next = next }
 
 -- a fault before any text
-abbrev pub fault : {Q : Type 0} → Fault → Q → Outcome Q
-fault f next = record { text = []; end = fails f; next = next }
+abbrev pub fault_outcome : {Q : Type 0} → Fault → Q → Outcome Q
+fault_outcome f next = record { text = []; end = fails f; next = next }
 
 -- one include too many, before any text
-abbrev pub stopped : {Q : Type 0} → Q → Outcome Q
-stopped next = record { text = []; end = too_deep; next = next }
+abbrev pub too_deep_outcome : {Q : Type 0} → Q → Outcome Q
+too_deep_outcome next = record { text = []; end = too_deep; next = next }
 
 -- an outcome with a text before it
-abbrev pub after : {Q : Type 0} → List ℕ → Outcome Q → Outcome Q
-after text o = record o { text = text ++ o.text }
+abbrev pub with_text_before : {Q : Type 0} → List ℕ → Outcome Q → Outcome Q
+with_text_before text o = record o { text = text ++ o.text }
 
+-- a text that ends so, and then another outcome where it ends well
 abbrev pub go_on : {Q : Type 0} → List ℕ → End → Q → (Q → Outcome Q) → Outcome Q
-go_on text good q go = after text (go q)
+go_on text good q go = with_text_before text (go q)
 go_on text (fails f) q go = record { text = text; end = fails f; next = q }
 go_on text too_deep q go = record { text = text; end = too_deep; next = q }
 

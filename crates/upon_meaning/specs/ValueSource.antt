@@ -5,8 +5,8 @@ use Rattle.upon_meaning.specs.Engine.{Calls}
 use Rattle.upon_meaning.specs.Outcome.{Outcome, States}
 
 -- the same callables and default formatter, with another value source, whose states may be others
-abbrev pub asking : {V W : Type 0} → Source W → Calls V → Calls W
-asking ask calls = record { callables = calls.callables; default_formatter = calls.default_formatter; ask = ask }
+abbrev pub with_source : {V W : Type 0} → Source W → Calls V → Calls W
+with_source ask calls = record { callables = calls.callables; default_formatter = calls.default_formatter; ask = ask }
 
 -- the same text, end and next state of the template source
 pub record SameBesideValues {V W T : Type 0} (one : Outcome (States V T)) (other : Outcome (States W T)) : Type 0 where

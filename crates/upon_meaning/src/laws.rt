@@ -2,7 +2,7 @@
 // branches of a negated condition.
 ghost use Rattle.std.specs.Prelude.{◌≡◌, ◌≢◌, ℕ, suc, ◌≤◌, ◌<◌, List, Option, Some, true, false};
 ghost use Rattle.upon_types.specs.Expression.{Expression};
-ghost use Rattle.upon_types.specs.Path.{Word};
+ghost use Rattle.upon_types.specs.Path.{Ident};
 ghost use Rattle.upon_types.specs.Tree.{Statements, include, if_else, otherwise};
 ghost use Rattle.upon_types.specs.Val.{Val};
 ghost use Rattle.upon_render.specs.Environment.{Environment, Root, context};
@@ -12,15 +12,15 @@ ghost use Rattle.upon_meaning.specs.Engine.{Template, Engine, Calls, Resolver, R
 ghost use Rattle.upon_meaning.specs.GreaterDepth.{GoesOn};
 ghost use Rattle.upon_meaning.specs.IncludeFinds.{IncludeFinds};
 ghost use Rattle.upon_meaning.specs.Includes.{IsNumbered};
-ghost use Rattle.upon_meaning.specs.Meaning.{Running, Inclusion, statement_means};
+ghost use Rattle.upon_meaning.specs.Meaning.{RunningTemplate, Inclusion, statement_means};
 ghost use Rattle.upon_meaning.specs.Outcome.{States, states, too_deep};
-ghost use Rattle.upon_meaning.specs.ValueSource.{asking, SameBesideValues};
+ghost use Rattle.upon_meaning.specs.ValueSource.{with_source, SameBesideValues};
 
 pub mod maps;
 pub mod names;
 pub mod scopes;
 
-/// A greater depth gives the same text, end and next states where the lesser one does not end because includes stand too
+/// A greater depth gives the same text, end and next states where the lesser one does not end because includes are too
 /// deep; where it does, its text is a beginning of the greater one's.
 pub fn greater_depth<V, T>()
     ensures { (rendering : Rendering V T) (a b : ℕ) (t : Template) (name : Option (List ℕ)) (root : Root)
@@ -30,7 +30,7 @@ pub fn greater_depth<V, T>()
 {}
 
 /// With the engine's templates: where a template has the number k, and it and those that it reaches have numbers greater
-/// than those of the stored templates that they include, it never ends because includes stand too deep, at any depth above
+/// than those of the stored templates that they include, it never ends because includes are too deep, at any depth above
 /// k.
 pub fn numbered_depth<V, T>()
     ensures { (engine : Engine) (ask : Source V) (depth : Option ℕ) (number : List ℕ → ℕ) (k : ℕ) (t : Template)
@@ -42,14 +42,14 @@ pub fn numbered_depth<V, T>()
 /// An include of a template with a value gives what that template gives alone on the value, with the depth that is left:
 /// the same text, end and next states, whatever is bound around the include, over any root, from any states.
 pub fn included_alone<V, T>()
-    ensures within { (calls : Calls V) (resolve : Resolver T) (running : Running) (left : ℕ) (word : Word)
+    ensures within { (calls : Calls V) (resolve : Resolver T) (running : RunningTemplate) (left : ℕ) (word : Ident)
         (e : Expression) (env : Environment) (s : States V T) (v : Val) (t : Template) (next : States V T)
         → IncludeFinds calls resolve word e env s v t next
         → statement_means calls (included calls resolve (suc left)) running (include word (Some e)) env s
         ≡ alone_within calls resolve left t (Some word.text) (context v) next }
 
     // As a depth, where the included template itself counts as one.
-    ensures of_depth { (rendering : Rendering V T) (running : Running) (left : ℕ) (word : Word)
+    ensures of_depth { (rendering : Rendering V T) (running : RunningTemplate) (left : ℕ) (word : Ident)
         (e : Expression) (env : Environment) (s : States V T) (v : Val) (t : Template) (next : States V T)
         → IncludeFinds rendering.calls rendering.resolve word e env s v t next
         → statement_means rendering.calls (included rendering.calls rendering.resolve (suc left)) running
@@ -85,12 +85,12 @@ pub fn value_source_replaced<V, W, T>()
     ensures { (calls : Calls V) (ask : Source W) (resolve : Resolver T) (left : ℕ) (t : Template)
         (name : Option (List ℕ)) (v : Val) (values : V) (others : W) (templates : T)
         → SameBesideValues (alone_within calls resolve left t name (context v) (states values templates))
-        (alone_within (asking ask calls) resolve left t name (context v) (states others templates)) }
+        (alone_within (with_source ask calls) resolve left t name (context v) (states others templates)) }
 {}
 
-/// `if not c` with branches `a` and `b` means what `if c` with branches `b` and `a` means, wherever it stands.
+/// `if not c` with branches `a` and `b` means what `if c` with branches `b` and `a` means, wherever it is.
 pub fn negated_condition<V, T>()
-    ensures { (calls : Calls V) (include_means : Inclusion V T) (running : Running) (c : Expression) (a b : Statements)
+    ensures { (calls : Calls V) (include_means : Inclusion V T) (running : RunningTemplate) (c : Expression) (a b : Statements)
         (env : Environment) (s : States V T)
         → statement_means calls include_means running (if_else true c a (otherwise b)) env s
         ≡ statement_means calls include_means running (if_else false c b (otherwise a)) env s }

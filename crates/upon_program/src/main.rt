@@ -2,17 +2,26 @@
 #![tactic(auto)]
 
 use std::fs::File;
+use std::io::Write;
 use std::process::ExitCode;
 use std::{env, io};
+
+/// The status where the arguments can't be read.
+const UNREADABLE_ARGUMENTS: u8 = 2;
 
 fn main(rt: HostRuntime) -> ExitCode {
     let alloc = rt.alloc();
     let mut out = io::writer(&rt);
     let mut err = rt.stderr();
     let Ok(words) = env::args(&rt) else {
-        return ExitCode::FAILURE;
+        let _ = writeln!(
+            err,
+            "upon-render: an argument is not UTF-8, or memory is out"
+        );
+        return ExitCode::from(UNREADABLE_ARGUMENTS);
     };
     let Ok(args) = words.skip(1).collect::<Vec<String>>(alloc) else {
+        let _ = writeln!(err, "out of memory");
         return ExitCode::FAILURE;
     };
     let file = match args.first() {

@@ -1,4 +1,3 @@
-pub mod Found
 pub mod Vals
 pub mod LookupFaults
 pub mod Walk
@@ -6,3 +5,4 @@ pub mod Environment
 pub mod Items
 pub mod Source
 pub mod Lookup
+pub mod Finding

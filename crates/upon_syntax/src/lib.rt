@@ -4,3 +4,4 @@
 pub mod compile;
 
 pub use upon_language::laws;
+pub use upon_lexer::types;

@@ -1,4 +1,4 @@
-// Errors: what the calls that make them and the getters tell.
+// Errors: what the calls that make them and the getters say.
 use std::test::Fail;
 use std::{fmt, io};
 use upon::Error;
@@ -25,8 +25,8 @@ fn lines(rt: HostRuntime) -> Result<(), Fail> {
 #[test]
 fn parts(rt: HostRuntime) -> Result<(), Fail> {
     let alloc = rt.alloc();
-    let place = Span::from(1..3);
-    let error = Error::from_parts(alloc, ErrorKind::Render, None, Some(("abcd", place)));
+    let span = Span::from(1..3);
+    let error = Error::from_parts(alloc, ErrorKind::Render, None, Some(("abcd", span)));
     let error = error.with_name(alloc, "t");
     assert_eq!(rt; error.template_name(), Some("t"));
     assert_eq!(rt; error.reason(), None);
@@ -48,7 +48,7 @@ fn from_other_errors(rt: HostRuntime) -> Result<(), Fail> {
 }
 
 #[test]
-fn places(rt: HostRuntime) {
+fn spans(rt: HostRuntime) {
     let span = Span { m: 2, n: 4 }.combine(Span { m: 1, n: 3 });
     assert_eq!(rt; span, Span { m: 1, n: 4 });
     assert_eq!(rt; slice("abcdef", span), "bcd");

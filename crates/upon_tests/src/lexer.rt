@@ -12,7 +12,7 @@ type Piece = (Token, &'static str);
 /// A source and the tokens that it is cut into.
 type Cut = (&'static str, &'static [Piece]);
 
-/// A source, the tokens before its fault, the fault's reason, and where its place begins and ends.
+/// A source, the tokens before its fault, the fault's reason, and where its span begins and ends.
 type Refusal = (&'static str, &'static [Piece], &'static str, usize, usize);
 
 const BEGIN: Piece = (Token::BeginExpr, "{{");
@@ -28,7 +28,7 @@ macro_rules! cut_rows {
     };
 }
 
-// Rows of sources, each with the tokens before its fault, the fault's reason and its place.
+// Rows of sources, each with the tokens before its fault, the fault's reason and its span.
 macro_rules! refusal_rows {
     ($($source:literal => $($token:ident $part:literal),*; $reason:literal at $m:literal..$n:literal;)*) => {
         &[$(($source, &[$((Token::$token, $part)),*], $reason, $m, $n)),*]
@@ -57,13 +57,13 @@ fn ends(rt: &impl Abort, lexer: &mut Lexer, source: &str) -> Result<(), Fail> {
     Ok(())
 }
 
-// The error tells that a source is refused, for this reason, at this place.
-fn tells(
+// The error reports that a source is refused, for this reason, at this span.
+fn reports(
     rt: &impl Abort,
     alloc: Global,
     error: &upon::Error,
     reason: &str,
-    place: Span,
+    span: Span,
     source: &str,
 ) -> Result<(), Fail> {
     let line = error.to_string(alloc)?;
@@ -72,7 +72,7 @@ fn tells(
         Some(reason),
         "of {source}"
     );
-    assert_eq!(rt; error.place(), Some(place), "of {source}");
+    assert_eq!(rt; error.place(), Some(span), "of {source}");
     Ok(())
 }
 
@@ -100,20 +100,20 @@ fn holds(rt: &impl Abort, alloc: Global, token: Token, part: &str) -> Result<(),
     )
 }
 
-// Behind these tokens the source is refused, for this reason, at this place.
+// After these tokens the source is refused, for this reason, at this span.
 fn refuses(
     rt: &impl Abort,
     alloc: Global,
     source: &str,
     wanted: &[(Token, &str)],
     reason: &str,
-    place: Span,
+    span: Span,
 ) -> Result<(), Fail> {
     let searcher = Searcher::new();
     let mut lexer = Lexer::new(alloc, &searcher, source);
     gives(rt, &mut lexer, source, wanted)?;
     let error = lexer.lex().err().ok_or("no fault")?;
-    tells(rt, alloc, &error, reason, place, source)?;
+    reports(rt, alloc, &error, reason, span, source)?;
     ends(rt, &mut lexer, source)?;
     ends(rt, &mut lexer, source)
 }
@@ -195,7 +195,7 @@ fn next_refuses(rt: HostRuntime) -> Result<(), Fail> {
         Some((Token::BeginExpr, Span { m: 0, n: 2 }))
     );
     let error = lexer.next().err().ok_or("no fault")?;
-    tells(
+    reports(
         &rt,
         alloc,
         &error,
@@ -545,8 +545,8 @@ fn trimming(rt: HostRuntime) -> Result<(), Fail> {
     all_cut(&rt, rt.alloc(), TRIMMED)
 }
 
-// The place of the first token that is empty.
-fn empty_place(alloc: Global, source: &str) -> Result<Option<Span>, Fail> {
+// The span of the first token that is empty.
+fn empty_span(alloc: Global, source: &str) -> Result<Option<Span>, Fail> {
     let searcher = Searcher::new();
     let mut lexer = Lexer::new(alloc, &searcher, source);
     for _ in source.bytes() {
@@ -560,7 +560,7 @@ fn empty_place(alloc: Global, source: &str) -> Result<Option<Span>, Fail> {
 }
 
 #[test]
-fn places_of_what_trimming_empties(rt: HostRuntime) -> Result<(), Fail> {
+fn spans_of_what_trimming_empties(rt: HostRuntime) -> Result<(), Fail> {
     for (source, at) in [
         ("lorem {{ -}}  {{- }} dolor", 12),
         ("{{ a -}}   {{- b }}", 8),
@@ -569,13 +569,9 @@ fn places_of_what_trimming_empties(rt: HostRuntime) -> Result<(), Fail> {
         ("{{ a -}}\u{a0} ", 11),
         (" \u{3000}{%- a %}", 0),
     ] {
-        let place = Span { m: at, n: at };
-        assert_eq!(rt;
-            empty_place(rt.alloc(), source)?,
-            Some(place),
-            "in {source}"
-        );
+        let span = Span { m: at, n: at };
+        assert_eq!(rt; empty_span(rt.alloc(), source)?, Some(span), "in {source}");
     }
-    assert_eq!(rt; empty_place(rt.alloc(), "{{ a -}}{{- b }}")?, None);
+    assert_eq!(rt; empty_span(rt.alloc(), "{{ a -}}{{- b }}")?, None);
     Ok(())
 }

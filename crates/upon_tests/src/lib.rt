@@ -6,6 +6,8 @@ mod faults;
 #[cfg(test)]
 mod lexer;
 #[cfg(test)]
+mod pictures;
+#[cfg(test)]
 mod program;
 #[cfg(test)]
 mod rendering;

@@ -1,4 +1,4 @@
-// The program's work: statuses, what it shows, and what it tells on standard error.
+// The program's work: its statuses, the text that it shows, and what it reports on standard error.
 use std::alloc::{AllocError, Global};
 use std::io;
 use std::process::Abort;
@@ -86,21 +86,29 @@ fn refuses_files(rt: HostRuntime) -> Result<(), Fail> {
 }
 
 #[test]
-fn tells_faults(rt: HostRuntime) -> Result<(), Fail> {
+fn reports_faults(rt: HostRuntime) -> Result<(), Fail> {
     let alloc = rt.alloc();
     ends(
         &rt,
         alloc,
         &["t"],
         Some(b"{{"),
-        (1, "", "invalid syntax: unsupported template\n"),
+        (
+            1,
+            "",
+            "invalid syntax\n\n  --> t:1:1\n   |\n 1 | {{\n   | ^--\n   |\n   = reason: unsupported template\n",
+        ),
     )?;
     ends(
         &rt,
         alloc,
-        &["t"],
-        Some(b"x{{ y }}"),
-        (1, "", "render error: not found in this scope\n"),
+        &["hello.txt"],
+        Some(b"Hello {{ name }}!"),
+        (
+            1,
+            "",
+            "render error\n\n  --> hello.txt:1:10\n   |\n 1 | Hello {{ name }}!\n   |          ^^^^\n   |\n   = reason: not found in this scope\n",
+        ),
     )
 }
 
@@ -122,6 +130,61 @@ impl io::Write for Broken {
     fn flush(&mut self) -> io::Result<()> {
         Err(io::Error::from(io::ErrorKind::NotFound))
     }
+}
+
+/// Takes all bytes, and fails when it is flushed.
+#[derive(Drop)]
+struct Unflushed {
+    bytes: Vec<u8>,
+}
+
+impl io::Write for Unflushed {
+    fn write(&mut self, bytes: &[u8]) -> io::Result<usize> {
+        self.bytes.write(bytes)
+    }
+
+    fn flush(&mut self) -> io::Result<()> {
+        Err(io::Error::from(io::ErrorKind::NotFound))
+    }
+}
+
+/// A file for which there is no memory.
+#[derive(Drop)]
+struct TooLarge;
+
+impl io::Read for TooLarge {
+    fn read(&mut self, _buffer: &mut [u8]) -> io::Result<usize> {
+        Err(io::Error::from(io::ErrorKind::OutOfMemory))
+    }
+}
+
+#[test]
+fn flush_fails_alone(rt: HostRuntime) -> Result<(), Fail> {
+    let alloc = rt.alloc();
+    let args = vec![in alloc; String::from_str(alloc, "t")?]?;
+    let file: Option<&[u8]> = Some(b"x");
+    let mut out = Unflushed {
+        bytes: Vec::new(alloc),
+    };
+    let mut err = Vec::new(alloc);
+    assert_eq!(rt; run(alloc, args.as_slice(), file, &mut out, &mut err), 1);
+    assert_eq!(rt; out.bytes.as_slice(), b"x".as_slice());
+    assert_eq!(rt; err.as_slice(), b"io error\n".as_slice());
+    Ok(())
+}
+
+#[test]
+fn no_memory_for_the_file(rt: HostRuntime) -> Result<(), Fail> {
+    let alloc = rt.alloc();
+    let args = vec![in alloc; String::from_str(alloc, "t")?]?;
+    let mut out = Vec::new(alloc);
+    let mut err = Vec::new(alloc);
+    assert_eq!(rt;
+        run(alloc, args.as_slice(), Some(TooLarge), &mut out, &mut err),
+        1
+    );
+    assert_eq!(rt; err.as_slice(), b"out of memory\n".as_slice());
+    Ok(())
 }
 
 #[test]

@@ -53,30 +53,30 @@ fn gives(
     Ok(())
 }
 
-// The template gives a fault with this line at this place, and no template's name.
+// The template gives a fault with this line at this span, and no template's name.
 fn faults(
     rt: &impl Abort,
     alloc: Global,
     source: &str,
     context: &Value,
     line: &str,
-    place: Span,
+    span: Span,
 ) -> Result<(), Fail> {
     match render(alloc, source, context) {
         Ok(_) => Err(Fail::from("no fault")),
-        Err(e) => tells(rt, alloc, &e, line, Some(place)),
+        Err(e) => reports(rt, alloc, &e, line, Some(span)),
     }
 }
 
-fn tells(
+fn reports(
     rt: &impl Abort,
     alloc: Global,
     error: &Error,
     line: &str,
-    place: Option<Span>,
+    span: Option<Span>,
 ) -> Result<(), Fail> {
     assert_eq!(rt; error.to_string(alloc)?.as_str(), line);
-    assert_eq!(rt; error.place(), place, "of {line}");
+    assert_eq!(rt; error.place(), span, "of {line}");
     assert!(rt; error.template_name().is_none(), "of {line}");
     Ok(())
 }

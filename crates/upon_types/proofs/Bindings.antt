@@ -1,4 +1,4 @@
--- Entries whose keys rise are known by what stands at each key, and those of a library map are such entries.
+-- Entries whose keys rise are known by what is at each key, and those of a library map are such entries.
 use Rattle.std.proofs.Common.{◌≡◌, ℕ, List, [], ◌∷◌, true, Less, String, Global, T, nat_cmp, string_bytes, string_cmp, refl, sym, ap, subst, ◌∙◌}
 use Rattle.std.proofs.lemmas.Cmp.{nat_list_cmp_total}
 use Rattle.std.proofs.lemmas.Map.Text.{is_eq-slice_cmp}
@@ -37,7 +37,7 @@ pub entry_at-find : (key : List ℕ) (es : Entries) → entry_at key es ≡ fin.
 entry_at-find key no_entries = refl
 entry_at-find key (entry_then k v es) = rw (is_eq-slice_cmp, entry_at-find key es)
 
--- ---- so what stands at each key tells all
+-- ---- so what is at each key says all
 pub one_map : (es fs : Entries) → rises es ≡ true → rises fs ≡ true → ((key : List ℕ) → entry_at key es ≡ entry_at key fs) → es ≡ fs
 one_map es fs es_rise fs_rise agree =
     let R = slice_cmp nat_cmp in

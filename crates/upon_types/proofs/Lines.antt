@@ -19,7 +19,7 @@ module _ {X : Type 0} (p : X → Bool) where
       let one = ap length (slice_split_none p xs (λ k d lt. fails_before_first p xs k d (omega (arith, lt, h)))) in
       omega (arith, one, length-slice_split p xs)
 
-  -- ---- what stands behind the last that passes
+  -- ---- what is after the last that passes
   prefix_stops : (xs : List X) (y : X) (ys : List X) → p y ≡ true → prefix_len (λ x. not (p x)) (xs ++ y ∷ ys) ≡ prefix_len (λ x. not (p x)) xs
   prefix_stops [] y ys h = rw h refl
   prefix_stops (x ∷ xs) y ys h = ap (λ n. cond (not (p x)) (1 + n) 0) (prefix_stops xs y ys h)

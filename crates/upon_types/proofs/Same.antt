@@ -1,14 +1,15 @@
 -- What equality says of lists and maps of values.
 use Rattle.std.proofs.Common.{◌≡◌, ◌≢◌, ◌↔◌, ℕ, suc, List, [], ◌∷◌, length, Bool, true, false, IsTrue, refl, sym, ap, ◌∙◌}
 use Rattle.std.proofs.lemmas.Bool.{and_right}
-use Rattle.upon_types.specs.Same.{vals_eq, entries_eq, entries_eq-Decides}
+use Rattle.upon_types.specs.Same.{vals_eq, entries_eq}
+use Rattle.upon_types.specs.ValueEquality.{entries_eq-Decides}
 use Rattle.upon_types.specs.Val.{Entries, entry_at, rises}
 use Rattle.upon_types.specs.View.{vals_view, entries_view}
 use Rattle.upon_types.specs.declared.value.Value.{Value}
 use Rattle.upon_types.proofs.Bindings.{one_map}
 use Rattle.upon_types.proofs.Views.{Entry}
 
--- ---- lengths tell them apart
+-- ---- lengths say them apart
 pub apart_items : (vs ws : List Value) → length vs ≢ length ws → vals_eq (vals_view vs) (vals_view ws) ≡ false
 apart_items [] [] apart = absurd (apart refl)
 apart_items [] (w ∷ ws) apart = refl

@@ -3,7 +3,7 @@
 use Rattle.std.proofs.Common.{◌≡◌, option_map, rules}
 use Rattle.upon_types.specs.Ast.{statement_of, for_of, if_of, scope_of, with_of, statements_of, else_of}
 use Rattle.upon_types.specs.AstExpression.{base_of, expression_of, arguments_of, call_of, filter_of, list_of, map_of, paren_of, maybe_arguments_of, bases_of, items_of}
-use Rattle.upon_types.specs.AstPath.{word_of_ident, word_of_string, loop_names_of, first_step, rest_steps}
+use Rattle.upon_types.specs.AstPath.{ident_of, string_of, loop_vars_of, first_member, rest_members}
 use Rattle.upon_types.specs.Expression.{base, filtered, var, literal, list, mapping, paren, call, arguments}
 use Rattle.upon_types.specs.Tree.{raw, inline_expr, include, if_else, for_loop, with}
 use Rattle.upon_types.specs.View.{view}
@@ -29,7 +29,7 @@ use Rattle.upon_types.specs.declared.types.ast.expression.Paren.{Paren}
 use Rattle.upon_types.specs.declared.types.ast.path.Var.{Var}
 
 -- ---- the variants of an expression
-pub view-Var : (path : Var) → base_of (VarBase path) ≡ var (first_step path) (rest_steps path)
+pub view-Var : (path : Var) → base_of (VarBase path) ≡ var (first_member path) (rest_members path)
 view-Var path = search (rules, the_lemmas)
 
 pub view-Literal : (value : Literal) → base_of (LiteralBase value) ≡ literal (view value.value) value.span
@@ -63,13 +63,13 @@ map_of-out m = search (rules, the_lemmas)
 pub paren_of-out : (p : Paren) → paren_of p ≡ paren (expression_of (out-Paren p).expr.value) (out-Paren p).span
 paren_of-out p = search (rules, the_lemmas)
 
-pub call_of-out : (c : Call) → call_of c ≡ call (word_of_ident (out-Call c).name) (maybe_arguments_of (out-Call c).args) (out-Call c).span
+pub call_of-out : (c : Call) → call_of c ≡ call (ident_of (out-Call c).name) (maybe_arguments_of (out-Call c).args) (out-Call c).span
 call_of-out c = search (rules, the_lemmas)
 
 pub arguments_of-out : (a : Args) → arguments_of a ≡ arguments (bases_of (out-Args a).values.items) (out-Args a).span
 arguments_of-out a = search (rules, the_lemmas)
 
-pub filter_of-out : (f : Filter) → filter_of f ≡ filtered (expression_of (out-Filter f).receiver.value) (word_of_ident (out-Filter f).name) (maybe_arguments_of (out-Filter f).args) (out-Filter f).span
+pub filter_of-out : (f : Filter) → filter_of f ≡ filtered (expression_of (out-Filter f).receiver.value) (ident_of (out-Filter f).name) (maybe_arguments_of (out-Filter f).args) (out-Filter f).span
 filter_of-out f = search (rules, the_lemmas)
 
 pub ruleset expression_views = (view-Var, view-Literal, view-List, view-Map, view-Paren, view-Call, view-Base, view-Filter, list_of-out, map_of-out, paren_of-out, call_of-out, arguments_of-out, filter_of-out)
@@ -81,7 +81,7 @@ view-Raw span = search (rules, statement_lemmas)
 pub view-InlineExpr : (e : InlineExpr) → statement_of (InlineStmt e) ≡ inline_expr (expression_of e.expr) e.span
 view-InlineExpr e = search (rules, statement_lemmas)
 
-pub view-Include : (i : Include) → statement_of (IncludeStmt i) ≡ include (word_of_string i.name) (option_map expression_of i.globals)
+pub view-Include : (i : Include) → statement_of (IncludeStmt i) ≡ include (string_of i.name) (option_map expression_of i.globals)
 view-Include i = search (rules, statement_lemmas)
 
 pub view-IfElse : (i : IfElse) → statement_of (IfStmt i) ≡ if_of i
@@ -97,10 +97,10 @@ view-With w = search (rules, statement_lemmas)
 pub if_of-out : (i : IfElse) → if_of i ≡ if_else (out-IfElse i).not (expression_of (out-IfElse i).cond) (scope_of (out-IfElse i).then_branch) (else_of (out-IfElse i).else_branch)
 if_of-out i = search (rules, statement_lemmas)
 
-pub for_of-out : (f : ForLoop) → for_of f ≡ for_loop (loop_names_of (out-ForLoop f).vars) (expression_of (out-ForLoop f).iterable) (scope_of (out-ForLoop f).body)
+pub for_of-out : (f : ForLoop) → for_of f ≡ for_loop (loop_vars_of (out-ForLoop f).vars) (expression_of (out-ForLoop f).iterable) (scope_of (out-ForLoop f).body)
 for_of-out f = search (rules, statement_lemmas)
 
-pub with_of-out : (w : With) → with_of w ≡ with (expression_of (out-With w).expr) (word_of_ident (out-With w).name) (scope_of (out-With w).body)
+pub with_of-out : (w : With) → with_of w ≡ with (expression_of (out-With w).expr) (ident_of (out-With w).name) (scope_of (out-With w).body)
 with_of-out w = search (rules, statement_lemmas)
 
 pub scope_of-out : (s : Scope) → scope_of s ≡ statements_of (out-Scope s).stmts.items

@@ -37,7 +37,7 @@ found_or_later : (here : Bool) (v : Value) (later : Option Value) (d : Option Va
 found_or_later true v later d is = refl
 found_or_later false v later d is = is
 
--- what the library's look-up by a text finds is what stands at that key
+-- what the library's look-up by a text finds is what is at that key
 pub view-lookup : (key : List ℕ) (es : List Entry) → option_map view (lookup (is_at (λ k. slice_cmp nat_cmp key (string_bytes k))) es) ≡ entry_at key (entries_view es)
 view-lookup key [] = refl
 view-lookup key (e ∷ es) = rw is_eq-slice_cmp (found_or_later _ _ _ _ (view-lookup key es))

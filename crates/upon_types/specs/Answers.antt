@@ -1,4 +1,4 @@
--- What functions and formatters answer, by the values that they are given. Want of memory is no answer.
+-- What functions and formatters answer, by the values that they are given. out of memory is no answer.
 use Rattle.std.specs.Prelude.{ℕ, List, Option}
 use Rattle.upon_types.specs.Val.{Val}
 
@@ -7,7 +7,8 @@ pub data Misfit : Type 0 where
   wrong_type : List ℕ → Misfit
   out_of_range : List ℕ → Misfit
 
--- a value, or why there is none: another number of arguments is wanted, the argument at an index does not fit, or the function refuses
+-- a value, or why there is none: another number of arguments is wanted, the argument at an index does not fit, or the
+-- function refuses
 pub data Answer : Type 0 where
   gives : Val → Answer
   wrong_number : ℕ → Answer
@@ -24,9 +25,11 @@ pub record Formatted : Type 0 where
   pub text : List ℕ
   pub end : FormatEnd
 
+-- what a function answers to values
 abbrev pub Function : Type 0
 Function = List Val → Answer
 
+-- what a formatter writes for a value
 abbrev pub Formatter : Type 0
 Formatter = Val → Formatted
 

@@ -1,7 +1,7 @@
 -- What the tree of the code stands for.
 use Rattle.std.specs.Prelude.{List, [], ◌∷◌, map, Option, Some, None, option_map}
 use Rattle.upon_types.specs.AstExpression.{expression_of}
-use Rattle.upon_types.specs.AstPath.{word_of_ident, word_of_string, loop_names_of}
+use Rattle.upon_types.specs.AstPath.{ident_of, string_of, loop_vars_of}
 use Rattle.upon_types.specs.Tree.{Statement, raw, inline_expr, include, if_else, for_loop, with, Statements, no_statements, statement_then, Else, no_else, otherwise}
 use Rattle.upon_types.specs.declared.types.ast.ForLoop.{ForLoop, fold-ForLoop}
 use Rattle.upon_types.specs.declared.types.ast.IfElse.{IfElse, fold-IfElse}
@@ -11,10 +11,12 @@ use Rattle.upon_types.specs.declared.types.ast.Stmt.TheOpen.{Stmt-F, ForLoop-F, 
 use Rattle.upon_types.specs.declared.types.ast.Template.{Template}
 use Rattle.upon_types.specs.declared.types.ast.With.{With, fold-With}
 
+-- statements one after the other
 abbrev pub statements_from : List Statement → Statements
 statements_from [] = no_statements
 statements_from (t ∷ ts) = statement_then t (statements_from ts)
 
+-- the other branch, where there is one
 abbrev pub else_from : Option Statements → Else
 else_from None = no_else
 else_from (Some ts) = otherwise ts
@@ -23,39 +25,48 @@ else_from (Some ts) = otherwise ts
 abbrev pub statement_level : Stmt-F Statement Statement Statement Statements Statement → Statement
 statement_level (Stmt-F.Raw span) = raw span
 statement_level (Stmt-F.InlineExpr e) = inline_expr (expression_of e.expr) e.span
-statement_level (Stmt-F.Include i) = include (word_of_string i.name) (option_map expression_of i.globals)
+statement_level (Stmt-F.Include i) = include (string_of i.name) (option_map expression_of i.globals)
 statement_level (Stmt-F.IfElse t) = t
 statement_level (Stmt-F.ForLoop t) = t
 statement_level (Stmt-F.With t) = t
 
+-- of a loop
 abbrev pub for_level : ForLoop-F Statement Statement Statement Statements Statement → Statement
-for_level f = for_loop (loop_names_of f.vars) (expression_of f.iterable) f.body
+for_level f = for_loop (loop_vars_of f.vars) (expression_of f.iterable) f.body
 
+-- of an `if`
 abbrev pub if_level : IfElse-F Statement Statement Statement Statements Statement → Statement
 if_level i = if_else i.not (expression_of i.cond) i.then_branch (else_from i.else_branch)
 
+-- of statements
 abbrev pub scope_level : Scope-F Statement Statement Statement Statements Statement → Statements
 scope_level s = statements_from s.stmts.items
 
+-- of a `with`
 abbrev pub with_level : With-F Statement Statement Statement Statements Statement → Statement
-with_level w = with (expression_of w.expr) (word_of_ident w.name) w.body
+with_level w = with (expression_of w.expr) (ident_of w.name) w.body
 
 -- the whole of each type
 abbrev pub statement_of : Stmt → Statement
 statement_of = fold-Stmt Statement Statement Statement Statements Statement statement_level for_level if_level scope_level with_level
 
+-- a loop
 abbrev pub for_of : ForLoop → Statement
 for_of = fold-ForLoop Statement Statement Statement Statements Statement statement_level for_level if_level scope_level with_level
 
+-- an `if`
 abbrev pub if_of : IfElse → Statement
 if_of = fold-IfElse Statement Statement Statement Statements Statement statement_level for_level if_level scope_level with_level
 
+-- statements
 abbrev pub scope_of : Scope → Statements
 scope_of = fold-Scope Statement Statement Statement Statements Statement statement_level for_level if_level scope_level with_level
 
+-- a `with`
 abbrev pub with_of : With → Statement
 with_of = fold-With Statement Statement Statement Statements Statement statement_level for_level if_level scope_level with_level
 
+-- the tree of a template
 abbrev pub tree_of : Template → Statements
 tree_of template = scope_of template.scope
 
@@ -63,5 +74,6 @@ tree_of template = scope_of template.scope
 abbrev pub statements_of : List Stmt → Statements
 statements_of ts = statements_from (map statement_of ts)
 
+-- the other branch of an `if`
 abbrev pub else_of : Option Scope → Else
 else_of branch = else_from (option_map scope_of branch)

@@ -1,6 +1,6 @@
 -- What the expressions of the code stand for.
 use Rattle.std.specs.Prelude.{List, [], ◌∷◌, map, Option, Some, None, option_map}
-use Rattle.upon_types.specs.AstPath.{word_of_ident, word_of_string, first_step, rest_steps}
+use Rattle.upon_types.specs.AstPath.{ident_of, string_of, first_member, rest_members}
 use Rattle.upon_types.specs.Expression.{Expression, base, filtered, Base, var, literal, list, mapping, paren, call, Bases, no_bases, base_then, Items, no_items, item_then, Arguments, no_arguments, arguments}
 use Rattle.upon_types.specs.View.{view}
 use Rattle.upon_types.specs.declared.types.ast.expression.Args.{Args, fold-Args}
@@ -14,46 +14,56 @@ use Rattle.upon_types.specs.declared.types.ast.expression.Map.{Map as MapExpr, f
 use Rattle.upon_types.specs.declared.types.ast.expression.Paren.{Paren, fold-Paren}
 use Rattle.upon_types.specs.declared.types.ast.expression.String.{String as Quoted}
 
+-- expressions one after the other
 abbrev pub bases_from : List Base → Bases
 bases_from [] = no_bases
 bases_from (b ∷ bs) = base_then b (bases_from bs)
 
+-- the entries of a map
 abbrev pub items_from : List (Quoted × Base) → Items
 items_from [] = no_items
-items_from (item ∷ items) = item_then (word_of_string item.0) item.1 (items_from items)
+items_from (item ∷ items) = item_then (string_of item.0) item.1 (items_from items)
 
+-- arguments, where there are some
 abbrev pub arguments_from : Option Arguments → Arguments
 arguments_from None = no_arguments
 arguments_from (Some args) = args
 
 -- one level of each type, where what is inside has been seen already
 abbrev pub base_level : BaseExpr-F Base Expression Arguments Base Expression Base Base Base → Base
-base_level (BaseExpr-F.Var path) = var (first_step path) (rest_steps path)
+base_level (BaseExpr-F.Var path) = var (first_member path) (rest_members path)
 base_level (BaseExpr-F.Literal value) = literal (view value.value) value.span
 base_level (BaseExpr-F.List b) = b
 base_level (BaseExpr-F.Map b) = b
 base_level (BaseExpr-F.Paren b) = b
 base_level (BaseExpr-F.Call b) = b
 
+-- of an expression with filters
 abbrev pub expression_level : Expr-F Base Expression Arguments Base Expression Base Base Base → Expression
 expression_level (Expr-F.Base b) = base b
 expression_level (Expr-F.Filter e) = e
 
+-- of arguments
 abbrev pub arguments_level : Args-F Base Expression Arguments Base Expression Base Base Base → Arguments
 arguments_level args = arguments (bases_from args.values.items) args.span
 
+-- of a call
 abbrev pub call_level : Call-F Base Expression Arguments Base Expression Base Base Base → Base
-call_level c = call (word_of_ident c.name) (arguments_from c.args) c.span
+call_level c = call (ident_of c.name) (arguments_from c.args) c.span
 
+-- of a filter
 abbrev pub filter_level : Filter-F Base Expression Arguments Base Expression Base Base Base → Expression
-filter_level f = filtered f.receiver.value (word_of_ident f.name) (arguments_from f.args) f.span
+filter_level f = filtered f.receiver.value (ident_of f.name) (arguments_from f.args) f.span
 
+-- of a list
 abbrev pub list_level : List-F Base Expression Arguments Base Expression Base Base Base → Base
 list_level l = list (bases_from l.items.items) l.span
 
+-- of a map
 abbrev pub map_level : Map-F Base Expression Arguments Base Expression Base Base Base → Base
 map_level m = mapping (items_from m.items.items) m.span
 
+-- of parentheses
 abbrev pub paren_level : Paren-F Base Expression Arguments Base Expression Base Base Base → Base
 paren_level p = paren p.expr.value p.span
 
@@ -61,24 +71,31 @@ paren_level p = paren p.expr.value p.span
 abbrev pub base_of : BaseExpr → Base
 base_of = fold-BaseExpr Base Expression Arguments Base Expression Base Base Base base_level expression_level arguments_level call_level filter_level list_level map_level paren_level
 
+-- an expression with filters
 abbrev pub expression_of : Expr → Expression
 expression_of = fold-Expr Base Expression Arguments Base Expression Base Base Base base_level expression_level arguments_level call_level filter_level list_level map_level paren_level
 
+-- arguments
 abbrev pub arguments_of : Args → Arguments
 arguments_of = fold-Args Base Expression Arguments Base Expression Base Base Base base_level expression_level arguments_level call_level filter_level list_level map_level paren_level
 
+-- a call
 abbrev pub call_of : Call → Base
 call_of = fold-Call Base Expression Arguments Base Expression Base Base Base base_level expression_level arguments_level call_level filter_level list_level map_level paren_level
 
+-- a filter
 abbrev pub filter_of : Filter → Expression
 filter_of = fold-Filter Base Expression Arguments Base Expression Base Base Base base_level expression_level arguments_level call_level filter_level list_level map_level paren_level
 
+-- a list
 abbrev pub list_of : ListExpr → Base
 list_of = fold-List Base Expression Arguments Base Expression Base Base Base base_level expression_level arguments_level call_level filter_level list_level map_level paren_level
 
+-- a map
 abbrev pub map_of : MapExpr → Base
 map_of = fold-Map Base Expression Arguments Base Expression Base Base Base base_level expression_level arguments_level call_level filter_level list_level map_level paren_level
 
+-- parentheses
 abbrev pub paren_of : Paren → Base
 paren_of = fold-Paren Base Expression Arguments Base Expression Base Base Base base_level expression_level arguments_level call_level filter_level list_level map_level paren_level
 
@@ -90,5 +107,6 @@ maybe_arguments_of args = arguments_from (option_map arguments_of args)
 abbrev pub bases_of : List BaseExpr → Bases
 bases_of bs = bases_from (map base_of bs)
 
+-- the entries of a map
 abbrev pub items_of : List (Quoted × BaseExpr) → Items
 items_of items = items_from (map (λ item. (item.0, base_of item.1)) items)

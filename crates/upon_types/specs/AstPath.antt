@@ -1,41 +1,47 @@
 -- What the names and the paths of the code stand for.
 use Rattle.std.specs.Prelude.{◌<◌, List, [], ◌∷◌, length, map, drop, string_bytes}
 use Rattle.std.proofs.Math.Nat.{lt_irrefl}
-use Rattle.upon_types.specs.Path.{Word, Selector, by_index, by_key, Step, LoopNames, item, key_value}
-use Rattle.upon_types.specs.declared.types.ast.LoopVars.{LoopVars}
+use Rattle.upon_types.specs.Path.{Ident, Access, by_index, by_key, Member, LoopVars, item, key_value}
+use Rattle.upon_types.specs.declared.types.ast.LoopVars.{LoopVars as AstLoopVars}
 use Rattle.upon_types.specs.declared.types.ast.LoopVars.TheVariants.{Item, KeyValue as KeyValueVars}
 use Rattle.upon_types.specs.declared.types.ast.expression.String.{String as Quoted}
-use Rattle.upon_types.specs.declared.types.ast.path.Access.{Access}
+use Rattle.upon_types.specs.declared.types.ast.path.Access.{Access as AstAccess}
 use Rattle.upon_types.specs.declared.types.ast.path.Access.TheVariants.{Index, Key}
-use Rattle.upon_types.specs.declared.types.ast.path.Ident.{Ident}
-use Rattle.upon_types.specs.declared.types.ast.path.Member.{Member}
+use Rattle.upon_types.specs.declared.types.ast.path.Ident.{Ident as AstIdent}
+use Rattle.upon_types.specs.declared.types.ast.path.Member.{Member as AstMember}
 use Rattle.upon_types.specs.declared.types.ast.path.Var.{Var}
 
-abbrev pub word_of_ident : Ident → Word
-word_of_ident ident = record { text = string_bytes ident.name; span = ident.span }
+-- a name
+abbrev pub ident_of : AstIdent → Ident
+ident_of ident = record { text = string_bytes ident.name; span = ident.span }
 
-abbrev pub word_of_string : Quoted → Word
-word_of_string quoted = record { text = string_bytes quoted.value; span = quoted.span }
+-- a string: the text that it stands for
+abbrev pub string_of : Quoted → Ident
+string_of quoted = record { text = string_bytes quoted.value; span = quoted.span }
 
-abbrev pub selector_of : Access → Selector
-selector_of (Index index) = by_index index.value index.span
-selector_of (Key ident) = by_key (word_of_ident ident)
+-- an index or a key
+abbrev pub access_of : AstAccess → Access
+access_of (Index index) = by_index index.value index.span
+access_of (Key ident) = by_key (ident_of ident)
 
-abbrev pub step_of : Member → Step
-step_of member = record { op = member.op; selector = selector_of member.access; span = member.span }
+-- a member of a path
+abbrev pub member_of : AstMember → Member
+member_of member = record { op = member.op; access = access_of member.access; span = member.span }
 
 -- the first of some members
-abbrev pub first_of_members : (members : List Member) → 0 < length members → Member
-first_of_members [] some = absurd (lt_irrefl 0 some)
-first_of_members (member ∷ members) some = member
+abbrev pub first_of : (members : List AstMember) → 0 < length members → AstMember
+first_of [] some = absurd (lt_irrefl 0 some)
+first_of (member ∷ members) some = member
 
 -- a path's first step, and the others
-abbrev pub first_step : Var → Step
-first_step var = step_of (first_of_members var.path.items var.not_empty)
+abbrev pub first_member : Var → Member
+first_member var = member_of (first_of var.path.items var.not_empty)
 
-abbrev pub rest_steps : Var → List Step
-rest_steps var = map step_of (drop 1 var.path.items)
+-- all members of a path but the first
+abbrev pub rest_members : Var → List Member
+rest_members var = map member_of (drop 1 var.path.items)
 
-abbrev pub loop_names_of : LoopVars → LoopNames
-loop_names_of (Item ident) = item (word_of_ident ident)
-loop_names_of (KeyValueVars both) = key_value (word_of_ident both.key) (word_of_ident both.value) both.span
+-- a loop's names
+abbrev pub loop_vars_of : AstLoopVars → LoopVars
+loop_vars_of (Item ident) = item (ident_of ident)
+loop_vars_of (KeyValueVars both) = key_value (ident_of both.key) (ident_of both.value) both.span

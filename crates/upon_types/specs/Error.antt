@@ -1,12 +1,14 @@
--- The fault that an `Error` tells.
-use Rattle.std.specs.Prelude.{option_map, string_bytes}
-use Rattle.upon_types.specs.Fault.{Kind, syntax, serialize, render, function, format, io, memory, Fault}
+-- The fault that an `Error` of the code is.
+use Rattle.std.specs.Prelude.{◌≡◌, ◌⊎◌, Option, Some, None, option_map, string_bytes}
+use Rattle.std.specs.declared.io.Error.{Error as IoError}
+use Rattle.upon_types.specs.Fault.{Kind, syntax, serialize, render, function, format, io, memory, Fault, out_of_memory}
 use Rattle.upon_types.specs.Picture.{Picture}
 use Rattle.upon_types.specs.declared.error.Error.{Error}
 use Rattle.upon_types.specs.declared.error.ErrorKind.{ErrorKind}
 use Rattle.upon_types.specs.declared.error.ErrorKind.TheVariants.{Syntax, Serialize, Render, Function, Format, Io, OutOfMemory}
 use Rattle.upon_types.specs.declared.error.excerpt.Excerpt.{Excerpt}
 
+-- the kind of fault that a kind of error is
 abbrev pub kind_of : ErrorKind → Kind
 kind_of Syntax = syntax
 kind_of Serialize = serialize
@@ -16,14 +18,34 @@ kind_of Format = format
 kind_of (Io e) = io
 kind_of OutOfMemory = memory
 
+-- the picture that an excerpt of a source shows
 abbrev pub picture_of : Excerpt → Picture
 picture_of e = record { number = e.number; column = e.column; width = e.width; line = string_bytes e.line }
 
+-- the fault: its kind, the template's name, the reason, the span, and the picture of the span
 abbrev pub fault_of : Error → Fault
 fault_of e = record {
   kind = kind_of e.kind;
   name = option_map string_bytes e.name;
   reason = option_map string_bytes e.reason;
-  place = e.place;
-  shown = option_map picture_of e.excerpt;
+  span = e.span;
+  picture = option_map picture_of e.excerpt;
 }
+
+-- an error's kind, with the writer's error where it is one of a writer
+abbrev pub error_kind : Error → ErrorKind
+error_kind e = e.kind
+
+-- the writer's error in a kind of error
+abbrev pub io_error_in : ErrorKind → Option IoError
+io_error_in Syntax = None
+io_error_in Serialize = None
+io_error_in Render = None
+io_error_in Function = None
+io_error_in Format = None
+io_error_in (Io e) = Some e
+io_error_in OutOfMemory = None
+
+-- the error has this kind, with the same writer's error, or is out of memory
+abbrev pub KeepsKind : ErrorKind → Error → Type 0
+KeepsKind kind e = (error_kind e ≡ kind) ⊎ (fault_of e ≡ out_of_memory)

@@ -1,8 +1,9 @@
--- A fault: its kind, the template's name, what is wrong, where, and the picture of that place.
+-- A fault: its kind, the template's name, what is wrong, where, and the picture of that offset.
 use Rattle.std.specs.Prelude.{◌≡◌, ◌⊎◌, ℕ, List, ◌++◌, Option, Some, None, option_map, codes}
 use Rattle.upon_types.specs.Picture.{Picture, picture}
 use Rattle.upon_types.specs.declared.types.Span.{Span}
 
+-- the kinds of faults
 pub data Kind : Type 0 where
   syntax : Kind
   serialize : Kind
@@ -13,39 +14,40 @@ pub data Kind : Type 0 where
   memory : Kind
   deriving IsSet as Kind-set
 
+-- a fault: its kind, the template's name, the reason, the span in its source and the picture of that
 pub record Fault : Type 0 where
   pub kind : Kind
   pub name : Option (List ℕ)
   pub reason : Option (List ℕ)
-  pub place : Option Span
-  pub shown : Option Picture
+  pub span : Option Span
+  pub picture : Option Picture
 
 -- a fault without a name and without a picture
-abbrev pub made : Kind → Option (List ℕ) → Option Span → Fault
-made kind reason place = record { kind = kind; name = None; reason = reason; place = place; shown = None }
+abbrev pub bare_fault : Kind → Option (List ℕ) → Option Span → Fault
+bare_fault kind reason place = record { kind = kind; name = None; reason = reason; span = place; picture = None }
 
--- the same fault with the picture of its place in a source
-abbrev pub shown_in : List ℕ → Fault → Fault
-shown_in source fault = record fault { shown = option_map (picture source) fault.place }
+-- the same fault with the picture of its span in a source
+abbrev pub fault_with_picture : List ℕ → Fault → Fault
+fault_with_picture source fault = record fault { picture = option_map (picture source) fault.span }
 
--- a fault without a name, at a place in a source, where they are given
-abbrev pub made_at : Kind → Option (List ℕ) → Option (List ℕ × Span) → Fault
-made_at kind reason None = made kind reason None
-made_at kind reason (Some at) = shown_in at.0 (made kind reason (Some at.1))
+-- a fault without a name, at an offset in a source, where they are given
+abbrev pub fault_at : Kind → Option (List ℕ) → Option (List ℕ × Span) → Fault
+fault_at kind reason None = bare_fault kind reason None
+fault_at kind reason (Some at) = fault_with_picture at.0 (bare_fault kind reason (Some at.1))
 
--- a fault that tells its kind alone
-abbrev pub plain : Kind → Fault
-plain kind = made kind None None
+-- a fault that says its kind alone
+abbrev pub fault_of_kind : Kind → Fault
+fault_of_kind kind = bare_fault kind None None
 
--- want of memory
+-- out of memory
 abbrev pub out_of_memory : Fault
-out_of_memory = plain memory
+out_of_memory = fault_of_kind memory
 
 -- the same fault in the template of a name
-abbrev pub named : List ℕ → Fault → Fault
-named name fault = record fault { name = Some name }
+abbrev pub fault_with_name : List ℕ → Fault → Fault
+fault_with_name name fault = record fault { name = Some name }
 
--- it is this fault, or want of memory was met while it was told
+-- it is this fault, or memory was out while it was reported
 abbrev pub OrMemory : Fault → Fault → Type 0
 OrMemory wanted fault = (fault ≡ wanted) ⊎ (fault ≡ out_of_memory)
 
@@ -59,11 +61,11 @@ kind_text format = codes "format error"
 kind_text io = codes "io error"
 kind_text memory = codes "out of memory"
 
--- the reason behind the kind, where there is one
+-- the reason after the kind, where there is one
 abbrev pub reason_text : Option (List ℕ) → List ℕ
 reason_text None = codes ""
 reason_text (Some reason) = codes ": " ++ reason
 
--- the one line that tells a fault
+-- the one line that reports a fault
 abbrev pub line : Fault → List ℕ
 line fault = kind_text fault.kind ++ reason_text fault.reason

@@ -1,11 +1,12 @@
 -- Template values as mathematics sees them. A text is its bytes. A map is its entries, in the order of the bytes
--- of their keys; `rises` says that they stand so.
+-- of their keys; `rises` says that they are so.
 use Rattle.std.specs.Prelude.{ℕ, ℤ, List, [], ◌∷◌, Bool, Option, Some, None, codes, bytes_eq, if◌then◌else◌}
 use Rattle.std.specs.Cmp.Lexicographic.{slice_cmp}
 use Rattle.std.specs.FinMap.{is_sorted}
 use Rattle.std.specs.Ordering.{nat_cmp}
 
 mutual
+  -- a value: none, a truth value, an integer, a text, a list or a map
   pub data Val : Type 0 where
     none_val : Val
     bool_val : Bool → Val
@@ -15,11 +16,13 @@ mutual
     map_val : Entries → Val
     deriving IsSet as Val-set
 
+  -- values one after the other
   pub data Vals : Type 0 where
     no_vals : Vals
     val_then : Val → Vals → Vals
     deriving IsSet as Vals-set
 
+  -- keys with their values
   pub data Entries : Type 0 where
     no_entries : Entries
     entry_then : List ℕ → Val → Entries → Entries
@@ -34,7 +37,7 @@ kind_word (text_val bytes) = codes "string"
 kind_word (list_val vs) = codes "list"
 kind_word (map_val es) = codes "map"
 
--- the value that stands at a key
+-- the value that is at a key
 abbrev pub entry_at : List ℕ → Entries → Option Val
 entry_at key no_entries = None
 entry_at key (entry_then k v es) = if bytes_eq key k then Some v else entry_at key es

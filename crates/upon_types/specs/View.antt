@@ -5,10 +5,12 @@ use Rattle.upon_types.specs.Val.{Val, none_val, bool_val, int_val, text_val, lis
 use Rattle.upon_types.specs.declared.value.Value.{Value, fold-Value}
 use Rattle.upon_types.specs.declared.value.Value.TheOpen.{Value-F}
 
+-- values one after the other
 abbrev pub vals_of : List Val → Vals
 vals_of [] = no_vals
 vals_of (v ∷ vs) = val_then v (vals_of vs)
 
+-- keys with their values
 abbrev pub entries_of : List (String Global × Val) → Entries
 entries_of [] = no_entries
 entries_of (e ∷ es) = entry_then (string_bytes e.0) e.1 (entries_of es)
@@ -22,6 +24,7 @@ level (Value-F.String s) = text_val (string_bytes s)
 level (Value-F.List items) = list_val (vals_of items.items)
 level (Value-F.Map entries) = map_val (entries_of entries.entries)
 
+-- the value that a `Value` stands for
 abbrev pub view : Value → Val
 view = fold-Value Val level
 

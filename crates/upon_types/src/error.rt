@@ -1,21 +1,21 @@
-// Faults, and the texts that tell each.
+// Faults, and the texts that report each.
 ghost use Rattle.std.specs.Prelude.{◌≡◌, ◌⊎◌, Some, None, IsSome, IfOk, option_map, string_bytes, ◌↔◌};
 ghost use Rattle.std.specs.Option.{ForSome};
-ghost use Rattle.upon_types.specs.Place.{LiesIn};
-ghost use Rattle.upon_types.specs.Fault.{io, format, line, plain, out_of_memory, made_at, named, OrMemory};
-ghost use Rattle.upon_types.specs.Error.{fault_of, kind_of, picture_of};
+ghost use Rattle.upon_types.specs.Span.{LiesIn};
+ghost use Rattle.upon_types.specs.Fault.{io, format, line, fault_of_kind, out_of_memory, fault_at, fault_with_name, OrMemory};
+ghost use Rattle.upon_types.specs.Error.{error_kind, fault_of, io_error_in, kind_of, picture_of, KeepsKind};
 ghost use Rattle.upon_types.specs.Picture.{picture};
 ghost use Rattle.upon_types.specs.Pretty.{pretty};
 
 use crate::types::Span;
 use excerpt::Excerpt;
-use std::alloc::{AllocError, Global};
+use std::alloc::{AllocError, AllocFailed, Global};
 use std::{fmt, io};
 
 mod excerpt;
 mod pretty;
 
-/// What kind of fault an error tells.
+/// What kind of fault an error is.
 #[derive(Debug, Drop)]
 pub enum ErrorKind {
     /// The text is no template.
@@ -40,7 +40,7 @@ pub struct Error {
     kind: ErrorKind,
     name: Option<String>,
     reason: Option<String>,
-    place: Option<Span>,
+    span: Option<Span>,
     excerpt: Option<Excerpt>,
 }
 
@@ -48,8 +48,8 @@ pub struct Error {
 pub type Result<T> = std::result::Result<T, Error>;
 
 impl Error {
-    /// The error of a kind, with a reason and a place in a source, where they are given.
-    /// It bears no template's name. Where there is no memory for the reason, it tells that instead.
+    /// The error of a kind, with a reason and a span in a source, where they are given. It has no template's name.
+    /// Where there is no memory for the reason or for the line that a picture shows, the kind is `OutOfMemory`.
     pub fn from_parts(
         alloc: Global,
         kind: ErrorKind,
@@ -57,52 +57,61 @@ impl Error {
         at: Option<(&str, Span)>,
     ) -> Error
         requires { ForSome at (λ place. LiesIn place.0.now place.1) }
-        ensures { OrMemory
-            (made_at
+        ensures fault { OrMemory
+            (fault_at
             (kind_of kind)
             (option_map (λ r. r.now) reason.entry)
             (option_map (λ place. (place.0.now, place.1)) at.entry))
             (fault_of result) }
+        ensures kind { KeepsKind kind result }
     {
         match copied(alloc, reason) {
-            Ok(reason) => Error::at(alloc, kind, reason, at),
+            Ok(reason) => Error::from_owned_parts(alloc, kind, reason, at),
             Err(e) => e.into(),
         }
     }
 
-    fn at(alloc: Global, kind: ErrorKind, reason: Option<String>, at: Option<(&str, Span)>) -> Error
+    /// The same as [`Error::from_parts`], with a reason that is moved in.
+    pub fn from_owned_parts(
+        alloc: Global,
+        kind: ErrorKind,
+        reason: Option<String>,
+        at: Option<(&str, Span)>,
+    ) -> Error
         requires { ForSome at (λ place. LiesIn place.0.now place.1) }
-        ensures { OrMemory
-            (made_at
+        ensures fault { OrMemory
+            (fault_at
             (kind_of kind)
             (option_map string_bytes reason)
             (option_map (λ place. (place.0.now, place.1)) at.entry))
             (fault_of result) }
+        ensures kind { KeepsKind kind result }
     {
-        let Some((source, place)) = at else {
+        let Some((source, span)) = at else {
             return Error {
                 kind,
                 name: None,
                 reason,
-                place: None,
+                span: None,
                 excerpt: None,
             };
         };
-        match Excerpt::of(alloc, source, place) {
+        match Excerpt::of(alloc, source, span) {
             Ok(excerpt) => Error {
                 kind,
                 name: None,
                 reason,
-                place: Some(place),
+                span: Some(span),
                 excerpt: Some(excerpt),
             },
             Err(e) => e.into(),
         }
     }
 
-    /// The same fault in the template of this name. Where there is no memory for the name, it tells that instead.
+    /// The same fault in the template of this name. Where there is no memory for the name, the kind is `OutOfMemory`.
     pub fn with_name(self, alloc: Global, name: &str) -> Error
-        ensures { OrMemory (named name.now (fault_of self)) (fault_of result) }
+        ensures fault { OrMemory (fault_with_name name.now (fault_of self)) (fault_of result) }
+        ensures kind { KeepsKind (error_kind self) result }
     {
         match String::from_str(alloc, name) {
             Ok(name) => Error {
@@ -115,7 +124,8 @@ impl Error {
 
     /// What kind of fault it is.
     pub fn kind(&self) -> &ErrorKind
-        ensures { kind_of result.now ≡ (fault_of self.now).kind }
+        ensures kind { result.now ≡ error_kind self.now }
+        ensures fault { kind_of result.now ≡ (fault_of self.now).kind }
     {
         &self.kind
     }
@@ -134,14 +144,15 @@ impl Error {
         as_text(&self.reason)
     }
 
-    /// The place in the template's source where it lies, in bytes.
+    /// The span in the template's source where it lies, in bytes.
     pub fn place(&self) -> Option<Span>
-        ensures { result ≡ (fault_of self.now).place }
+        ensures { result ≡ (fault_of self.now).span }
     {
-        self.place
+        self.span
     }
 
-    /// The text that tells the fault, with the line of the source in which it lies.
+    /// The fault in several lines, with a picture of its span: the line of the source in which it begins, and marks
+    /// under it. Without a reason or a span it is the one line. It fails where there is no memory for the text.
     pub fn pretty(&self, alloc: Global) -> std::result::Result<String, AllocError>
         ensures { IfOk result (λ text. string_bytes text ≡ pretty (fault_of self.now)) }
     {
@@ -155,7 +166,8 @@ impl Error {
 
     /// The writer's error, where that is the fault.
     pub fn io_error(&self) -> Option<&io::Error>
-        ensures { IsSome result ↔ ((fault_of self.now).kind ≡ io) }
+        ensures some { IsSome result ↔ ((fault_of self.now).kind ≡ io) }
+        ensures error { option_map (λ e. e.now) result ≡ io_error_in (error_kind self.now) }
     {
         match &self.kind {
             ErrorKind::Io(error) => Some(error),
@@ -190,35 +202,45 @@ impl From<AllocError> for Error {
             kind: ErrorKind::OutOfMemory,
             name: None,
             reason: None,
-            place: None,
+            span: None,
             excerpt: None,
         }
     }
 }
 
+impl<T: Drop> From<AllocFailed<T>> for Error {
+    ghost from_gives = { λ _ error. fault_of error ≡ out_of_memory };
+
+    fn from(_: AllocFailed<T>) -> Error {
+        AllocError.into()
+    }
+}
+
 impl From<io::Error> for Error {
-    ghost from_gives = { λ _ error. fault_of error ≡ plain io };
+    ghost use Rattle.upon_types.specs.declared.error.ErrorKind.TheVariants.{Io};
+
+    ghost from_gives = { λ given error. (fault_of error ≡ fault_of_kind io) × (error_kind error ≡ Io given) };
 
     fn from(error: io::Error) -> Error {
         Error {
             kind: ErrorKind::Io(error),
             name: None,
             reason: None,
-            place: None,
+            span: None,
             excerpt: None,
         }
     }
 }
 
 impl From<fmt::Error> for Error {
-    ghost from_gives = { λ _ error. fault_of error ≡ plain format };
+    ghost from_gives = { λ _ error. fault_of error ≡ fault_of_kind format };
 
     fn from(_: fmt::Error) -> Error {
         Error {
             kind: ErrorKind::Format,
             name: None,
             reason: None,
-            place: None,
+            span: None,
             excerpt: None,
         }
     }

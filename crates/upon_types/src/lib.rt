@@ -1,4 +1,4 @@
-// The values, places, trees and faults that every part of the template engine speaks of.
+// The values, spans, trees and faults that every part of the template engine speaks of.
 #![tactic(auto)]
 
 pub mod error;

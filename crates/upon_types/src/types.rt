@@ -1,6 +1,6 @@
-// Places in a template's source, and the kinds of delimiters.
+// Spans in a template's source, and the kinds of delimiters.
 ghost use Rattle.std.specs.Prelude.{◌≡◌, min, max};
-ghost use Rattle.upon_types.specs.Place.{LiesIn, part};
+ghost use Rattle.upon_types.specs.Span.{LiesIn, slice};
 
 use std::ops::Range;
 pub use token::Token;
@@ -9,7 +9,7 @@ pub mod ast;
 pub mod first;
 pub mod token;
 
-/// A place in a template's source: the bytes from `m` on, up to `n` and without it.
+/// A span in a template's source: the bytes from `m` on, up to `n` and without it.
 #[derive(Clone, Copy, Debug, PartialEq, Eq)]
 pub struct Span {
     pub m: usize,
@@ -17,7 +17,7 @@ pub struct Span {
 }
 
 impl Span {
-    /// The least place that covers both.
+    /// The least span that covers both.
     pub fn combine(self, other: Span) -> Span
         ensures start { result.m ≡ min self.m other.m }
         ensures end { result.n ≡ max self.n other.n }
@@ -40,10 +40,10 @@ impl From<Range<usize>> for Span {
     }
 }
 
-/// The bytes of a text at a place, which has to lie in the text, on character boundaries.
+/// The bytes of a text at an offset, which has to lie in the text, on character boundaries.
 pub fn slice(source: &str, span: Span) -> &str
     requires { LiesIn source.now span }
-    ensures { result.now ≡ part source.now span }
+    ensures { result.now ≡ slice source.now span }
 {
     &source[span.m..span.n]
 }

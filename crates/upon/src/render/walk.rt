@@ -1,9 +1,9 @@
 // The walk over a template's tree that writes its text.
 ghost use Rattle.std.specs.Prelude.{None, string_bytes};
-ghost use Rattle.upon_types.specs.First.{statement_of, statements_of};
-ghost use Rattle.upon_types.specs.Place.{LiesIn};
+ghost use Rattle.upon_types.specs.FirstStage.View.{statement_of, statements_of};
+ghost use Rattle.upon_types.specs.Span.{LiesIn};
 ghost use Rattle.upon_types.specs.View.{view};
-ghost use Rattle.upon_language.specs.EachLiesIn.{EachLiesIn, StatementLiesIn};
+ghost use Rattle.upon_language.specs.FirstStage.LiesIn.{EachLiesIn, StatementLiesIn};
 ghost use Rattle.upon.specs.Meaning.{statement_means, statements_mean, emitted, formatted, default_text};
 ghost use Rattle.upon.specs.Rendered.{Writes, EndsWith};
 
@@ -78,7 +78,7 @@ fn not_found(alloc: Global, source: &str, at: Span) -> Error
     )
 }
 
-// Writes a value as the default formatter does; a list or a map has no text, and is a fault at its place.
+// Writes a value as the default formatter does; a list or a map has no text, and is a fault at its span.
 fn write_value(
     alloc: Global,
     source: &str,

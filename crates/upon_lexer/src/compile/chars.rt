@@ -2,7 +2,7 @@
 ghost use Rattle.std.specs.Prelude.{◌≡◌, ◌⊎◌, ℕ, ◌+◌, length, false, encode_utf8, IfSome, MatchOption};
 ghost use Rattle.std.specs.Str.{IsCharBoundary};
 ghost use Rattle.std.specs.Char.{len_utf8};
-ghost use Rattle.upon_types.specs.Place.{LiesIn};
+ghost use Rattle.upon_types.specs.Span.{LiesIn};
 ghost use Rattle.upon_language.specs.Search.{Occurs};
 ghost use Rattle.upon_language.specs.Words.{IsRun, begins_name, is_keyword};
 ghost use Rattle.upon_lexer.specs.Class.{class_test};
@@ -62,21 +62,21 @@ pub fn is_keyword(word: &str) -> bool
     )
 }
 
-/// The character at a place of a text, in bytes; none stands at its end.
+/// The character at an offset of a text, in bytes; none is at its end.
 pub fn char_at(source: &str, at: usize) -> Option<char>
     requires { IsCharBoundary source.now at }
-    ensures stands { MatchOption result (at ≡ length source.now) (λ c. Occurs source.now at (encode_utf8 c)) }
-    ensures place { IfSome result (λ c. LiesIn source.now (record { m = at; n = at + len_utf8 c })) }
+    ensures occurs { MatchOption result (at ≡ length source.now) (λ c. Occurs source.now at (encode_utf8 c)) }
+    ensures span { IfSome result (λ c. LiesIn source.now (record { m = at; n = at + len_utf8 c })) }
 {
     source[at..].chars().next()
 }
 
-/// Where the run of a class's characters at a place ends, in bytes; the place itself, where none stands.
+/// Where the run of a class's characters at an offset ends, in bytes; the offset itself, where none is.
 pub fn run_end(class: CharClass, source: &str, at: usize) -> usize
     requires { IsCharBoundary source.now at }
     ensures run { (result ≡ at) ⊎ IsRun (class_test class) source.now at result }
     ensures longest { (c : ℕ) → Occurs source.now result (encode_utf8 c) → class_test class c ≡ false }
-    ensures place { LiesIn source.now (record { m = at; n = result }) }
+    ensures span { LiesIn source.now (record { m = at; n = result }) }
 {
     let mut end = at;
     while let Some(c) = char_at(source, end) {

@@ -1,16 +1,16 @@
 // The tag that is open, and what a token does to it.
 ghost use Rattle.std.specs.Prelude.{◌≡◌, ◌&&◌, false};
 ghost use Rattle.upon_language.specs.Cut.{mode_after};
-ghost use Rattle.upon_language.specs.Inside.{path_after};
+ghost use Rattle.upon_language.specs.Inside.{in_path_after};
 ghost use Rattle.upon_language.specs.Shown.{is_end};
 ghost use Rattle.upon_language.specs.Tokens.{is_space};
 ghost use Rattle.upon_lexer.specs.OpenTags.{mode_of, begin_of};
 ghost use Rattle.upon_lexer.specs.LexStep.{begin_after};
 
-use crate::compile::marks::Sort;
+use crate::compile::roles::Sort;
 use upon_types::types::{Span, Token};
 
-/// A tag or a comment that was begun: its sort, where its begin stands, in bytes, and whether a digit begins an index there.
+/// A tag or a comment that was begun: its sort, where its begin is, in bytes, and whether a digit begins an index there.
 #[derive(Clone, Copy)]
 pub struct OpenTag {
     pub sort: Sort,
@@ -33,7 +33,7 @@ impl OpenTag {
     }
 }
 
-/// The tag that is open behind a token at a place.
+/// The tag that is open after a token at an offset.
 pub fn tag_after(tag: Option<OpenTag>, token: Token, span: Span) -> Option<OpenTag>
     ensures mode { mode_of result ≡ mode_after (mode_of tag) token }
     ensures begin { begin_of result ≡ begin_after token span (begin_of tag) }
@@ -53,9 +53,9 @@ pub fn tag_after(tag: Option<OpenTag>, token: Token, span: Span) -> Option<OpenT
     }
 }
 
-// Whether a digit behind a token begins an index.
+// Whether a digit after a token begins an index.
 fn path_after(in_path: bool, token: Token) -> bool
-    ensures { result ≡ path_after in_path token }
+    ensures { result ≡ in_path_after in_path token }
 {
     match token {
         Token::Ident | Token::Dot | Token::QuestionDot => true,

@@ -1,15 +1,15 @@
-// Places of a text, in bytes, without the whitespace at their ends.
+// Spans of a text, in bytes, without the whitespace at their ends.
 ghost use Rattle.std.specs.Prelude.{◌≡◌};
-ghost use Rattle.upon_types.specs.Place.{LiesIn};
-ghost use Rattle.upon_language.specs.Shown.{end_trimmed, start_trimmed};
+ghost use Rattle.upon_types.specs.Span.{LiesIn};
+ghost use Rattle.upon_language.specs.Shown.{trim_end_span, trim_start_span};
 
 use upon_types::types::{Span, slice};
 
-/// The place without the whitespace at its end.
-pub fn end_trimmed(source: &str, span: Span) -> Span
+/// The span without the whitespace at its end.
+pub fn trim_end(source: &str, span: Span) -> Span
     requires { LiesIn source.now span }
-    ensures value { result ≡ end_trimmed source.now span }
-    ensures place { LiesIn source.now result }
+    ensures value { result ≡ trim_end_span source.now span }
+    ensures span { LiesIn source.now result }
 {
     Span {
         m: span.m,
@@ -17,11 +17,11 @@ pub fn end_trimmed(source: &str, span: Span) -> Span
     }
 }
 
-/// The place without the whitespace at its start.
-pub fn start_trimmed(source: &str, span: Span) -> Span
+/// The span without the whitespace at its start.
+pub fn trim_start(source: &str, span: Span) -> Span
     requires { LiesIn source.now span }
-    ensures value { result ≡ start_trimmed source.now span }
-    ensures place { LiesIn source.now result }
+    ensures value { result ≡ trim_start_span source.now span }
+    ensures span { LiesIn source.now result }
 {
     Span {
         m: span.n - slice(source, span).trim_start().len(),

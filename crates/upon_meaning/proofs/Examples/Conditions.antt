@@ -4,7 +4,7 @@ use Rattle.upon_types.specs.Expression.{base, literal, list}
 use Rattle.upon_types.specs.Tree.{if_else, no_else, otherwise}
 use Rattle.upon_types.specs.Val.{none_val, bool_val, int_val}
 use Rattle.upon_meaning.proofs.Computing.{computing}
-use Rattle.upon_meaning.proofs.Examples.Short.{at, name, number, quote, bases, statements, shows, text, map_of, template, engine, rendered, gives}
+use Rattle.upon_meaning.proofs.Examples.ShortContexts.{at, name, number, quote, bases, statements, shows, text, map_of, template, engine, rendered, gives}
 
 -- `{% if [] %}a{% else if "x" %}b{% endif %}`
 else_if : rendered (engine [] []) (template (codes "{% if [] %}a{% else if \"x\" %}b{% endif %}") (if_else false (base (list (bases []) (at 6 8))) (statements (text 11 12 ∷ [])) (otherwise (statements (if_else false (base (quote 23 (codes "x"))) (statements (text 29 30 ∷ [])) no_else ∷ []))) ∷ [])) none_val ≡ gives (codes "b")

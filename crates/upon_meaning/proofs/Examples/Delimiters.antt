@@ -1,10 +1,10 @@
--- Templates under other delimiters, and what they give. Of the delimiters, only their places are left in a tree.
+-- Templates under other delimiters, and what they give. Of the delimiters, only their spans are left in a tree.
 use Rattle.std.proofs.Common.{◌≡◌, pos, [], ◌∷◌, false, refl, codes}
 use Rattle.upon_types.specs.Expression.{base}
 use Rattle.upon_types.specs.Tree.{if_else, no_else}
 use Rattle.upon_types.specs.Val.{none_val, int_val}
 use Rattle.upon_meaning.proofs.Computing.{computing}
-use Rattle.upon_meaning.proofs.Examples.Short.{name, number, statements, shows, text, map_of, template, engine, rendered, gives}
+use Rattle.upon_meaning.proofs.Examples.ShortContexts.{name, number, statements, shows, text, map_of, template, engine, rendered, gives}
 
 -- `%% a -%%` on {a: 1}, where `%%` begins and ends an expression: the end has the hyphen
 equal_delimiters : rendered (engine [] []) (template (codes "%% a -%%") (shows 0 8 (name 3 (codes "a")) ∷ [])) (map_of ((codes "a", int_val (pos 1)) ∷ [])) ≡ gives (codes "1")
@@ -41,12 +41,12 @@ blank_in_begin_with_hyphen : rendered (engine [] []) (template (codes "a  <- 1 >
 unfolding computing
 blank_in_begin_with_hyphen = refl
 
--- `<[ if a ]><{ a }><[ endif ]>{{ a }}` on {a: 1}, where expressions stand in `<{` and `}>`, and blocks in `<[` and `]>`
+-- `<[ if a ]><{ a }><[ endif ]>{{ a }}` on {a: 1}, where expressions are in `<{` and `}>`, and blocks in `<[` and `]>`
 usual_braces_are_text : rendered (engine [] []) (template (codes "<[ if a ]><{ a }><[ endif ]>{{ a }}") (if_else false (base (name 6 (codes "a"))) (statements (shows 10 17 (name 13 (codes "a")) ∷ [])) no_else ∷ text 28 35 ∷ [])) (map_of ((codes "a", int_val (pos 1)) ∷ [])) ≡ gives (codes "1{{ a }}")
 unfolding computing
 usual_braces_are_text = refl
 
--- `(( if u ))<? u ?>(( endif ))` on {u: 1}, where expressions stand in `<?` and `?>`, and blocks in `((` and `))`
+-- `(( if u ))<? u ?>(( endif ))` on {u: 1}, where expressions are in `<?` and `?>`, and blocks in `((` and `))`
 parentheses_around_blocks : rendered (engine [] []) (template (codes "(( if u ))<? u ?>(( endif ))") (if_else false (base (name 6 (codes "u"))) (statements (shows 10 17 (name 13 (codes "u")) ∷ [])) no_else ∷ [])) (map_of ((codes "u", int_val (pos 1)) ∷ [])) ≡ gives (codes "1")
 unfolding computing
 parentheses_around_blocks = refl

@@ -1,4 +1,4 @@
--- Includes inside each other, and how deep they may stand.
+-- Includes inside each other, and how deep they may be.
 use Rattle.std.proofs.Common.{◌≡◌, pos, [], ◌∷◌, Some, None, refl, codes}
 use Rattle.upon_types.specs.Expression.{base}
 use Rattle.upon_types.specs.Tree.{include}
@@ -6,7 +6,7 @@ use Rattle.upon_types.specs.Val.{none_val}
 use Rattle.upon_meaning.specs.CallFaults.{depth_reached}
 use Rattle.upon_meaning.specs.Engine.{Template}
 use Rattle.upon_meaning.proofs.Computing.{computing}
-use Rattle.upon_meaning.proofs.Examples.Short.{quoted, number, text, template, engine, rendered, rendered_to, gives, breaks}
+use Rattle.upon_meaning.proofs.Examples.ShortContexts.{quoted, number, text, template, engine, rendered, rendered_to, gives, breaks}
 
 -- s = `x{% include "s" %}`: the depth counts the template itself, and 0 acts as 1
 itself : Template
@@ -48,7 +48,7 @@ with_depth_as_usual : rendered (engine ((codes "s", itself_with) ∷ []) []) its
 unfolding computing itself_with
 with_depth_as_usual = refl
 
--- t = `a`, in `{% include "t" %}{% include "t" %}` at depth 2: includes that stand one behind the other are not inside each other
+-- t = `a`, in `{% include "t" %}{% include "t" %}` at depth 2: includes that are one after the other are not inside each other
 one_behind_the_other : rendered_to 2 (engine ((codes "t", template (codes "a") (text 0 1 ∷ [])) ∷ []) []) (template (codes "{% include \"t\" %}{% include \"t\" %}") (include (quoted 11 (codes "t")) None ∷ include (quoted 28 (codes "t")) None ∷ [])) none_val ≡ gives (codes "aa")
 unfolding computing
 one_behind_the_other = refl

@@ -1,4 +1,4 @@
--- Paths and loops that find nothing, and what is told.
+-- Paths and loops that find nothing, and what is reported.
 use Rattle.std.proofs.Common.{◌≡◌, pos, [], ◌∷◌, refl, codes}
 use Rattle.upon_types.specs.Expression.{base, var, list, mapping, paren}
 use Rattle.upon_types.specs.Fault.{render}
@@ -6,7 +6,7 @@ use Rattle.upon_types.specs.Path.{item, key_value}
 use Rattle.upon_types.specs.Tree.{for_loop}
 use Rattle.upon_types.specs.Val.{int_val, text_val}
 use Rattle.upon_meaning.proofs.Computing.{computing}
-use Rattle.upon_meaning.proofs.Examples.Short.{at, word, first, name, dot, maybe, dot_index, maybe_index, number, bases, items, statements, shows, list_of, map_of, template, engine, rendered, gives, breaks, fault_at}
+use Rattle.upon_meaning.proofs.Examples.ShortContexts.{at, word, first, name, dot, maybe, dot_index, maybe_index, number, bases, items, statements, shows, list_of, map_of, template, engine, rendered, gives, breaks, fault_at}
 
 -- `{{ a.5 }}` on {a: [1]}
 length_told : rendered (engine [] []) (template (codes "{{ a.5 }}") (shows 0 9 (var (first 3 (codes "a")) (dot_index 4 5 ∷ [])) ∷ [])) (map_of ((codes "a", list_of (int_val (pos 1) ∷ [])) ∷ [])) ≡ breaks [] (fault_at render (codes "index out of bounds, the length is 1") 4 6)
@@ -23,7 +23,7 @@ index_of_string : rendered (engine [] []) (template (codes "{{ s.0 }}") (shows 0
 unfolding computing
 index_of_string = refl
 
--- `{{ .a }}` on {}: the place has the operator
+-- `{{ .a }}` on {}: the span has the operator
 operator_ahead : rendered (engine [] []) (template (codes "{{ .a }}") (shows 0 8 (var (dot 3 (codes "a")) []) ∷ [])) (map_of []) ≡ breaks [] (fault_at render (codes "not found in this scope") 3 5)
 unfolding computing
 operator_ahead = refl
@@ -59,7 +59,7 @@ no_key : rendered (engine [] []) (template (codes "{{ m.x }}") (shows 0 9 (var (
 unfolding computing
 no_key = refl
 
--- `{% for x in (1) %}{% endfor %}`: the place has the parentheses
+-- `{% for x in (1) %}{% endfor %}`: the span has the parentheses
 no_items : rendered (engine [] []) (template (codes "{% for x in (1) %}{% endfor %}") (for_loop (item (word 7 (codes "x"))) (base (paren (base (number 13 14 (pos 1))) (at 12 15))) (statements []) ∷ [])) (map_of ((codes "xs", list_of (int_val (pos 7) ∷ [])) ∷ (codes "m", map_of ((codes "k", int_val (pos 7)) ∷ [])) ∷ [])) ≡ breaks [] (fault_at render (codes "expected iterable, but expression evaluated to integer") 12 15)
 unfolding computing
 no_items = refl
@@ -84,7 +84,7 @@ index_of_state : rendered (engine [] []) (template (codes "{% for x in xs %}{{ l
 unfolding computing
 index_of_state = refl
 
--- `{% for x in xs %}{{ loop?.a?.b }}{% endfor %}`: nothing may stand behind a miss
+-- `{% for x in xs %}{{ loop?.a?.b }}{% endfor %}`: nothing may be after a miss
 behind_a_miss : rendered (engine [] []) (template (codes "{% for x in xs %}{{ loop?.a?.b }}{% endfor %}") (for_loop (item (word 7 (codes "x"))) (base (name 12 (codes "xs"))) (statements (shows 17 33 (var (first 20 (codes "loop")) (maybe 24 (codes "a") ∷ maybe 27 (codes "b") ∷ [])) ∷ [])) ∷ [])) (map_of ((codes "xs", list_of (int_val (pos 7) ∷ [])) ∷ (codes "m", map_of ((codes "k", int_val (pos 7)) ∷ [])) ∷ [])) ≡ breaks [] (fault_at render (codes "cannot index into none") 27 30)
 unfolding computing
 behind_a_miss = refl

@@ -1,18 +1,18 @@
 -- Formatters, and what they give.
 use Rattle.std.proofs.Common.{◌≡◌, pos, [], ◌∷◌, ◌++◌, Some, None, false, refl, codes}
 use Rattle.upon_types.specs.Expression.{base, filtered, var, list, paren, call, no_arguments, arguments}
-use Rattle.upon_types.specs.Fault.{render, format, made}
+use Rattle.upon_types.specs.Fault.{render, format, bare_fault}
 use Rattle.upon_types.specs.Tree.{inline_expr, if_else, no_else}
 use Rattle.upon_types.specs.Val.{none_val}
 use Rattle.upon_types.specs.Answers.{Formatter, refused, Callable, formatter}
-use Rattle.upon_meaning.specs.DefaultFormat.{default_format, formatted}
+use Rattle.upon_meaning.specs.DefaultFormat.{default_format, format_text}
 use Rattle.upon_meaning.specs.Engine.{Engine}
 use Rattle.upon_meaning.proofs.Computing.{computing}
-use Rattle.upon_meaning.proofs.Examples.Short.{at, word, maybe, number, bases, statements, shows, text, map_of, template, engine, rendered, gives, breaks, fault_at}
+use Rattle.upon_meaning.proofs.Examples.ShortContexts.{at, word, maybe, number, bases, statements, shows, text, map_of, template, engine, rendered, gives, breaks, fault_at}
 
 -- a formatter that writes a value in brackets, two that write a text and then refuse, and one that refuses without a message
 bracketed : Callable
-bracketed = formatter (λ v. formatted (codes "<" ++ (default_format v).text ++ codes ">"))
+bracketed = formatter (λ v. format_text (codes "<" ++ (default_format v).text ++ codes ">"))
 
 picky : Callable
 picky = formatter (λ v. record { text = codes "("; end = refused (Some (codes "no")) })
@@ -48,18 +48,18 @@ in_a_condition : rendered (engine [] ((codes "fmt", bracketed) ∷ [])) (templat
 unfolding computing bracketed
 in_a_condition = refl
 
--- `{{ 1 | picky }}`: a formatter's text stands before its fault
+-- `{{ 1 | picky }}`: a formatter's text is before its fault
 text_before_fault : rendered (engine [] ((codes "picky", picky) ∷ [])) (template (codes "{{ 1 | picky }}") (inline_expr (filtered (base (number 3 4 (pos 1))) (word 7 (codes "picky")) no_arguments (at 3 12)) (at 0 15) ∷ [])) none_val ≡ breaks (codes "(") (fault_at format (codes "no") 7 12)
 unfolding computing picky
 text_before_fault = refl
 
--- `x{{ 1 | half }}y`: what stands behind it is not written
+-- `x{{ 1 | half }}y`: what is after it is not written
 text_on_both_sides : rendered (engine [] ((codes "half", half) ∷ [])) (template (codes "x{{ 1 | half }}y") (text 0 1 ∷ inline_expr (filtered (base (number 4 5 (pos 1))) (word 8 (codes "half")) no_arguments (at 4 12)) (at 1 15) ∷ text 15 16 ∷ [])) none_val ≡ breaks (codes "xab") (fault_at format (codes "bad") 8 12)
 unfolding computing half
 text_on_both_sides = refl
 
 -- `{{ 1 | mute }}`
-no_message : rendered (engine [] ((codes "mute", mute) ∷ [])) (template (codes "{{ 1 | mute }}") (inline_expr (filtered (base (number 3 4 (pos 1))) (word 7 (codes "mute")) no_arguments (at 3 11)) (at 0 14) ∷ [])) none_val ≡ breaks [] (made format None (Some (at 7 11)))
+no_message : rendered (engine [] ((codes "mute", mute) ∷ [])) (template (codes "{{ 1 | mute }}") (inline_expr (filtered (base (number 3 4 (pos 1))) (word 7 (codes "mute")) no_arguments (at 3 11)) (at 0 14) ∷ [])) none_val ≡ breaks [] (bare_fault format None (Some (at 7 11)))
 unfolding computing mute
 no_message = refl
 

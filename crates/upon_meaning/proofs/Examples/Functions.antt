@@ -7,7 +7,7 @@ use Rattle.upon_types.specs.Tree.{inline_expr, if_else, no_else}
 use Rattle.upon_types.specs.Val.{Val, none_val, int_val, text_val}
 use Rattle.upon_types.specs.Answers.{Answer, gives as answers, wrong_number, wrong_argument, wrong_type, out_of_range, declines, function}
 use Rattle.upon_meaning.proofs.Computing.{computing}
-use Rattle.upon_meaning.proofs.Examples.Short.{at, word, name, number, quote, bases, statements, shows, list_of, map_of, template, engine, rendered, gives, breaks, fault_at}
+use Rattle.upon_meaning.proofs.Examples.ShortContexts.{at, word, name, number, quote, bases, statements, shows, list_of, map_of, template, engine, rendered, gives, breaks, fault_at}
 
 -- functions of integers of 64 bits: `double` of one, and `add` of two, which wrap; and `low` of a byte
 wrapped : ℤ → ℤ → Answer
@@ -47,7 +47,7 @@ text_argument : rendered (engine [] ((codes "double", function double) ∷ [])) 
 unfolding computing wrapped double
 text_argument = refl
 
--- `{{ ("x") | double }}`: the argument's place is without the parentheses
+-- `{{ ("x") | double }}`: the argument's span is without the parentheses
 receiver_in_parentheses : rendered (engine [] ((codes "double", function double) ∷ [])) (template (codes "{{ (\"x\") | double }}") (inline_expr (filtered (base (paren (base (quote 4 (codes "x"))) (at 3 8))) (word 11 (codes "double")) no_arguments (at 3 17)) (at 0 20) ∷ [])) none_val ≡ breaks [] (fault_at render (codes "function `double` expects i64 argument, found string") 4 7)
 unfolding computing wrapped double
 receiver_in_parentheses = refl

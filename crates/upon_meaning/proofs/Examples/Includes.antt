@@ -1,11 +1,11 @@
 -- Includes, and what they give.
 use Rattle.std.proofs.Common.{◌≡◌, pos, [], ◌∷◌, Some, None, false, refl, codes}
 use Rattle.upon_types.specs.Expression.{base, var}
-use Rattle.upon_types.specs.Fault.{render, named}
+use Rattle.upon_types.specs.Fault.{render, fault_with_name}
 use Rattle.upon_types.specs.Tree.{include, if_else, with, no_else}
 use Rattle.upon_types.specs.Val.{none_val, int_val, text_val}
 use Rattle.upon_meaning.proofs.Computing.{computing}
-use Rattle.upon_meaning.proofs.Examples.Short.{word, quoted, first, name, dot, number, statements, shows, text, map_of, template, engine, rendered, rendered_to, gives, breaks, fault_at}
+use Rattle.upon_meaning.proofs.Examples.ShortContexts.{word, quoted, first, name, dot, number, statements, shows, text, map_of, template, engine, rendered, rendered_to, gives, breaks, fault_at}
 
 -- t = `a`, in `{% include "t" %}`
 text_alone : rendered (engine ((codes "t", template (codes "a") (text 0 1 ∷ [])) ∷ []) []) (template (codes "{% include \"t\" %}") (include (quoted 11 (codes "t")) None ∷ [])) none_val ≡ gives (codes "a")
@@ -18,7 +18,7 @@ unfolding computing
 scopes_seen = refl
 
 -- t = `{{ a }}`, in `{% include "t" with 5 %}` on {a: 1}
-scopes_hidden : rendered (engine ((codes "t", template (codes "{{ a }}") (shows 0 7 (name 3 (codes "a")) ∷ [])) ∷ []) []) (template (codes "{% include \"t\" with 5 %}") (include (quoted 11 (codes "t")) (Some (base (number 20 21 (pos 5)))) ∷ [])) (map_of ((codes "a", int_val (pos 1)) ∷ [])) ≡ breaks [] (named (codes "t") (fault_at render (codes "not found in this scope") 3 4))
+scopes_hidden : rendered (engine ((codes "t", template (codes "{{ a }}") (shows 0 7 (name 3 (codes "a")) ∷ [])) ∷ []) []) (template (codes "{% include \"t\" with 5 %}") (include (quoted 11 (codes "t")) (Some (base (number 20 21 (pos 5)))) ∷ [])) (map_of ((codes "a", int_val (pos 1)) ∷ [])) ≡ breaks [] (fault_with_name (codes "t") (fault_at render (codes "not found in this scope") 3 4))
 unfolding computing
 scopes_hidden = refl
 
@@ -27,18 +27,18 @@ unknown : rendered (engine [] []) (template (codes "{% include \"x\" %}") (inclu
 unfolding computing
 unknown = refl
 
--- `{% include "zz" %}` at depth 1: that nothing has the name is told first
+-- `{% include "zz" %}` at depth 1: that nothing has the name is reported first
 unknown_before_depth : rendered_to 1 (engine [] []) (template (codes "{% include \"zz\" %}") (include (quoted 11 (codes "zz")) None ∷ [])) none_val ≡ breaks [] (fault_at render (codes "unknown template") 11 15)
 unfolding computing
 unknown_before_depth = refl
 
--- `{% include "zz" with y %}` on {} at depth 1: the fault of the value is told first
+-- `{% include "zz" with y %}` on {} at depth 1: the fault of the value is reported first
 value_before_name : rendered_to 1 (engine [] []) (template (codes "{% include \"zz\" with y %}") (include (quoted 11 (codes "zz")) (Some (base (name 21 (codes "y")))) ∷ [])) (map_of []) ≡ breaks [] (fault_at render (codes "not found in this scope") 21 22)
 unfolding computing
 value_before_name = refl
 
 -- t = `{% include "zz" %}`, in `{% include "t" %}` at depth 2
-unknown_inside : rendered_to 2 (engine ((codes "t", template (codes "{% include \"zz\" %}") (include (quoted 11 (codes "zz")) None ∷ [])) ∷ []) []) (template (codes "{% include \"t\" %}") (include (quoted 11 (codes "t")) None ∷ [])) none_val ≡ breaks [] (named (codes "t") (fault_at render (codes "unknown template") 11 15))
+unknown_inside : rendered_to 2 (engine ((codes "t", template (codes "{% include \"zz\" %}") (include (quoted 11 (codes "zz")) None ∷ [])) ∷ []) []) (template (codes "{% include \"t\" %}") (include (quoted 11 (codes "t")) None ∷ [])) none_val ≡ breaks [] (fault_with_name (codes "t") (fault_at render (codes "unknown template") 11 15))
 unfolding computing
 unknown_inside = refl
 

@@ -6,7 +6,7 @@ use Rattle.upon_types.specs.Path.{item, key_value}
 use Rattle.upon_types.specs.Tree.{if_else, for_loop, with, no_else}
 use Rattle.upon_types.specs.Val.{none_val, int_val, text_val}
 use Rattle.upon_meaning.proofs.Computing.{computing}
-use Rattle.upon_meaning.proofs.Examples.Short.{at, word, quoted, first, name, dot, maybe, number, bases, items, statements, shows, text, list_of, map_of, template, engine, rendered, gives, breaks, fault_at}
+use Rattle.upon_meaning.proofs.Examples.ShortContexts.{at, word, quoted, first, name, dot, maybe, number, bases, items, statements, shows, text, list_of, map_of, template, engine, rendered, gives, breaks, fault_at}
 
 -- `{% for i in [1, 2] %}{{ i }}{% if not loop.last %},{% endif %}{% endfor %}`
 commas : rendered (engine [] []) (template (codes "{% for i in [1, 2] %}{{ i }}{% if not loop.last %},{% endif %}{% endfor %}") (for_loop (item (word 7 (codes "i"))) (base (list (bases (number 13 14 (pos 1) ∷ number 16 17 (pos 2) ∷ [])) (at 12 18))) (statements (shows 21 28 (name 24 (codes "i")) ∷ if_else true (base (var (first 38 (codes "loop")) (dot 42 (codes "last") ∷ []))) (statements (text 50 51 ∷ [])) no_else ∷ [])) ∷ [])) none_val ≡ gives (codes "1,2")
@@ -23,7 +23,7 @@ keys_in_order : rendered (engine [] []) (template (codes "{% for k, v in {\"b\":
 unfolding computing
 keys_in_order = refl
 
--- `{% for x in xs %}{% with x as loop %}{{ loop }}{% endwith %}{% endfor %}`: the inner binding stands ahead of the loop's state
+-- `{% for x in xs %}{% with x as loop %}{{ loop }}{% endwith %}{% endfor %}`: the inner binding is ahead of the loop's state
 loop_bound_again : rendered (engine [] []) (template (codes "{% for x in xs %}{% with x as loop %}{{ loop }}{% endwith %}{% endfor %}") (for_loop (item (word 7 (codes "x"))) (base (name 12 (codes "xs"))) (statements (with (base (name 25 (codes "x"))) (word 30 (codes "loop")) (statements (shows 37 47 (name 40 (codes "loop")) ∷ [])) ∷ [])) ∷ [])) (map_of ((codes "xs", list_of (text_val (codes "a") ∷ text_val (codes "b") ∷ [])) ∷ [])) ≡ gives (codes "ab")
 unfolding computing
 loop_bound_again = refl
@@ -38,7 +38,7 @@ key_before_value : rendered (engine [] []) (template (codes "{% for a, a in {\"k
 unfolding computing
 key_before_value = refl
 
--- `{% for loop in [7] %}{{ loop.last }}{% endfor %}`: the loop's state stands ahead of its own variable
+-- `{% for loop in [7] %}{{ loop.last }}{% endfor %}`: the loop's state is ahead of its own variable
 state_before_item : rendered (engine [] []) (template (codes "{% for loop in [7] %}{{ loop.last }}{% endfor %}") (for_loop (item (word 7 (codes "loop"))) (base (list (bases (number 16 17 (pos 7) ∷ [])) (at 15 18))) (statements (shows 21 36 (var (first 24 (codes "loop")) (dot 28 (codes "last") ∷ [])) ∷ [])) ∷ [])) (map_of []) ≡ gives (codes "true")
 unfolding computing
 state_before_item = refl

@@ -1,4 +1,4 @@
--- The texts of several lines that tell where renderings end: each shows a line of the template in which the fault lies.
+-- The texts of several lines that say where renderings end: each shows a line of the template in which the fault lies.
 use Rattle.std.proofs.Common.{◌≡◌, ℕ, pos, List, [], ◌∷◌, Option, Some, None, option_map, refl, codes}
 use Rattle.upon_types.specs.Expression.{base}
 use Rattle.upon_types.specs.Pretty.{pretty}
@@ -6,13 +6,13 @@ use Rattle.upon_types.specs.Tree.{include}
 use Rattle.upon_types.specs.Val.{Val}
 use Rattle.upon_types.proofs.Computing.{computing as columns}
 use Rattle.upon_render.specs.Environment.{context}
-use Rattle.upon_meaning.specs.Alone.{alone, told}
+use Rattle.upon_meaning.specs.Alone.{alone, fault_of_end}
 use Rattle.upon_meaning.specs.Engine.{Template, Engine, rendering_of}
 use Rattle.upon_meaning.proofs.Computing.{computing}
-use Rattle.upon_meaning.proofs.Examples.Short.{quoted, number, name, shows, text, map_of, template, engine, no_source, no_states}
+use Rattle.upon_meaning.proofs.Examples.ShortContexts.{quoted, number, name, shows, text, map_of, template, engine, no_source, no_states}
 
 tells : Engine → Template → Option (List ℕ) → Val → Option (List ℕ)
-tells e t name v = option_map pretty (told e.depth (alone (rendering_of e no_source None) t name (context v) no_states).end)
+tells e t name v = option_map pretty (fault_of_end e.depth (alone (rendering_of e no_source None) t name (context v) no_states).end)
 
 -- `Hello {{ name }}!` under the name hello.txt, on {}
 missing_name : tells (engine [] []) (template (codes "Hello {{ name }}!") (text 0 6 ∷ shows 6 16 (name 9 (codes "name")) ∷ text 16 17 ∷ [])) (Some (codes "hello.txt")) (map_of []) ≡ Some (codes "render error\n\n  --> hello.txt:1:10\n   |\n 1 | Hello {{ name }}!\n   |          ^^^^\n   |\n   = reason: not found in this scope\n")

@@ -2,11 +2,11 @@
 use Rattle.std.proofs.Common.{◌≡◌, pos, negsuc, [], ◌∷◌, true, refl, codes, encode_utf8_all}
 use Rattle.std.proofs.Math.Utf8.{encode}
 use Rattle.upon_types.specs.Expression.{base, var, literal, mapping}
-use Rattle.upon_types.specs.Fault.{render, format, named}
+use Rattle.upon_types.specs.Fault.{render, format, fault_with_name}
 use Rattle.upon_types.specs.Tree.{with}
 use Rattle.upon_types.specs.Val.{none_val, bool_val, int_val, text_val}
 use Rattle.upon_meaning.proofs.Computing.{computing}
-use Rattle.upon_meaning.proofs.Examples.Short.{at, word, quoted, first, name, dot, maybe, dot_index, number, quote, items, statements, shows, text, list_of, map_of, template, engine, rendered, rendered_as, gives, breaks, fault_at}
+use Rattle.upon_meaning.proofs.Examples.ShortContexts.{at, word, quoted, first, name, dot, maybe, dot_index, number, quote, items, statements, shows, text, list_of, map_of, template, engine, rendered, rendered_as, gives, breaks, fault_at}
 
 -- the empty text
 empty : rendered (engine [] []) (template [] []) none_val ≡ gives []
@@ -53,12 +53,12 @@ least : rendered (engine [] []) (template (codes "{{ -9223372036854775808 }}") (
 unfolding computing
 least = refl
 
--- `{{ - 5 }}{{ 0x }}`: a sign may stand apart, and a prefix alone is 0
+-- `{{ - 5 }}{{ 0x }}`: a sign may be apart, and a prefix alone is 0
 signs_and_prefixes : rendered (engine [] []) (template (codes "{{ - 5 }}{{ 0x }}") (shows 0 9 (number 3 6 (negsuc 4)) ∷ shows 9 17 (number 12 14 (pos 0)) ∷ [])) none_val ≡ gives (codes "-50")
 unfolding computing
 signs_and_prefixes = refl
 
--- `{% with {"a": 1, "a": 2} as m %}{{ m.a }}{% endwith %}`: of equal keys the last stands
+-- `{% with {"a": 1, "a": 2} as m %}{{ m.a }}{% endwith %}`: of equal keys the last counts
 last_key : rendered (engine [] []) (template (codes "{% with {\"a\": 1, \"a\": 2} as m %}{{ m.a }}{% endwith %}") (with (base (mapping (items ((quoted 9 (codes "a"), number 14 15 (pos 1)) ∷ (quoted 17 (codes "a"), number 22 23 (pos 2)) ∷ [])) (at 8 24))) (word 28 (codes "m")) (statements (shows 32 41 (var (first 35 (codes "m")) (dot 36 (codes "a") ∷ [])) ∷ [])) ∷ [])) none_val ≡ gives (codes "2")
 unfolding computing
 last_key = refl
@@ -78,17 +78,17 @@ unbound : rendered (engine [] []) (template (codes "{{ x }}") (shows 0 7 (name 3
 unfolding computing
 unbound = refl
 
--- `x{{ b }}` on {}: the text before the fault stands
+-- `x{{ b }}` on {}: the text before the fault is
 text_before : rendered (engine [] []) (template (codes "x{{ b }}") (text 0 1 ∷ shows 1 8 (name 4 (codes "b")) ∷ [])) (map_of []) ≡ breaks (codes "x") (fault_at render (codes "not found in this scope") 4 5)
 unfolding computing
 text_before = refl
 
 -- `Hello {{ name }}!` under the name `hello.txt`, where nothing binds `name`
-unbound_in_a_file : rendered_as (codes "hello.txt") (engine [] []) (template (codes "Hello {{ name }}!") (text 0 6 ∷ shows 6 16 (name 9 (codes "name")) ∷ text 16 17 ∷ [])) (map_of []) ≡ breaks (codes "Hello ") (named (codes "hello.txt") (fault_at render (codes "not found in this scope") 9 13))
+unbound_in_a_file : rendered_as (codes "hello.txt") (engine [] []) (template (codes "Hello {{ name }}!") (text 0 6 ∷ shows 6 16 (name 9 (codes "name")) ∷ text 16 17 ∷ [])) (map_of []) ≡ breaks (codes "Hello ") (fault_with_name (codes "hello.txt") (fault_at render (codes "not found in this scope") 9 13))
 unfolding computing
 unbound_in_a_file = refl
 
--- `é`, a new line, `{{ x }}` on {}: places are bytes
+-- `é`, a new line, `{{ x }}` on {}: spans are bytes
 behind_two_bytes : rendered (engine [] []) (template (encode_utf8_all (codes "é\n{{ x }}")) (text 0 3 ∷ shows 3 10 (name 6 (codes "x")) ∷ [])) (map_of []) ≡ breaks (encode_utf8_all (codes "é\n")) (fault_at render (codes "not found in this scope") 6 7)
 unfolding computing encode
 behind_two_bytes = refl

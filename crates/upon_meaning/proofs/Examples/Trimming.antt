@@ -1,10 +1,10 @@
--- Tags that trim the text beside them, and what they give. A text in a tree stands without what trimming takes.
+-- Tags that trim the text beside them, and what they give. A text in a tree is without what trimming takes.
 use Rattle.std.proofs.Common.{◌≡◌, pos, [], ◌∷◌, true, false, refl, codes}
 use Rattle.upon_types.specs.Expression.{base}
 use Rattle.upon_types.specs.Tree.{if_else, no_else}
 use Rattle.upon_types.specs.Val.{none_val, bool_val, text_val}
 use Rattle.upon_meaning.proofs.Computing.{computing}
-use Rattle.upon_meaning.proofs.Examples.Short.{name, number, statements, shows, text, map_of, template, engine, rendered, gives}
+use Rattle.upon_meaning.proofs.Examples.ShortContexts.{name, number, statements, shows, text, map_of, template, engine, rendered, gives}
 
 -- `a  {{- 1 -}}  b`
 both_sides : rendered (engine [] []) (template (codes "a  {{- 1 -}}  b") (text 0 1 ∷ shows 3 12 (number 7 8 (pos 1)) ∷ text 14 15 ∷ [])) none_val ≡ gives (codes "a1b")

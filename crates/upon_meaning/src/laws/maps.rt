@@ -2,23 +2,23 @@
 ghost use Rattle.std.specs.Prelude.{◌≡◌, ℕ, List, true, map, Some, bytes_eq, if◌then◌else◌};
 ghost use Rattle.upon_types.specs.declared.types.Span.{Span};
 ghost use Rattle.upon_types.specs.Expression.{Items, mapping};
-ghost use Rattle.upon_types.specs.Path.{Word, key_value};
+ghost use Rattle.upon_types.specs.Path.{Ident, key_value};
 ghost use Rattle.upon_types.specs.Val.{Val, Entries, map_val, entry_at, key_of, entry_list, rises};
 ghost use Rattle.upon_render.specs.Environment.{Environment};
-ghost use Rattle.upon_render.specs.Found.{found};
+ghost use Rattle.upon_render.specs.Finding.{found};
 ghost use Rattle.upon_render.specs.Items.{items_of, entry_binds};
 ghost use Rattle.upon_meaning.specs.Engine.{Calls};
 ghost use Rattle.upon_meaning.specs.Entries.{with_entry};
-ghost use Rattle.upon_meaning.specs.Evaluation.{Evaluated, evaluate_base};
+ghost use Rattle.upon_meaning.specs.Evaluation.{Operand, evaluate_base};
 
-/// A map literal gives a map whose entries stand in ascending order of their keys' bytes.
+/// A map literal gives a map whose entries are in ascending order of their keys' bytes.
 pub fn map_literal_rises<V>()
-    ensures { (calls : Calls V) (items : Items) (span : Span) (env : Environment) (q : V) (o : Evaluated)
+    ensures { (calls : Calls V) (items : Items) (span : Span) (env : Environment) (q : V) (o : Operand)
         → (evaluate_base calls (mapping items span) env q).answer ≡ found o
         → (es : Entries) × (o.value ≡ map_val es) × (rises es ≡ true) }
 {}
 
-/// An entry more changes what stands at its key alone: of equal keys the last value stands.
+/// An entry more changes what is at its key alone: of equal keys the last value counts.
 pub fn last_entry_stands()
     ensures { (key other : List ℕ) (v : Val) (es : Entries)
         → entry_at other (with_entry key v es) ≡ (if bytes_eq other key then Some v else entry_at other es) }
@@ -31,16 +31,16 @@ pub fn entries_in_any_order()
         → with_entry key v (with_entry other w es) ≡ with_entry other w (with_entry key v es) }
 {}
 
-/// A loop over a map goes over its entries as they stand.
+/// A loop over a map goes over its entries as they are.
 pub fn loop_in_order()
-    ensures { (key value : Word) (both : Span) (es : Entries) (at : Span)
+    ensures { (key value : Ident) (both : Span) (es : Entries) (at : Span)
         → items_of (key_value key value both) (map_val es) at ≡ found (map (entry_binds key value) (entry_list es)) }
 {}
 
 /// A loop over a map literal goes over its entries in ascending order of their keys' bytes.
 pub fn literal_in_order<V>()
-    ensures { (calls : Calls V) (items : Items) (span : Span) (env : Environment) (q : V) (o : Evaluated)
-        (key value : Word) (both : Span) (at : Span)
+    ensures { (calls : Calls V) (items : Items) (span : Span) (env : Environment) (q : V) (o : Operand)
+        (key value : Ident) (both : Span) (at : Span)
         → (evaluate_base calls (mapping items span) env q).answer ≡ found o
         → (es : Entries) × (rises es ≡ true)
         × (items_of (key_value key value both) o.value at ≡ found (map (entry_binds key value) (entry_list es))) }
@@ -48,7 +48,7 @@ pub fn literal_in_order<V>()
 
 /// Map literals that hold the same at each key are one value, in whatever order each was written.
 pub fn literals_alike<V>()
-    ensures { (calls : Calls V) (items others : Items) (span place : Span) (env around : Environment) (p q : V) (a b : Evaluated)
+    ensures { (calls : Calls V) (items others : Items) (span place : Span) (env around : Environment) (p q : V) (a b : Operand)
         → (evaluate_base calls (mapping items span) env p).answer ≡ found a
         → (evaluate_base calls (mapping others place) around q).answer ≡ found b
         → ((key : List ℕ) → key_of key a.value ≡ key_of key b.value)

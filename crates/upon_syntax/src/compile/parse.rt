@@ -1,15 +1,15 @@
 // From a template's text to its tree.
 ghost use Rattle.std.specs.Prelude.{◌≡◌, ℕ, ◌<◌, length, IfOk, IfErr, IfSome};
 ghost use Rattle.std.specs.Str.{IsUtf8, IsCharBoundary};
-ghost use Rattle.upon_types.specs.Place.{LiesIn};
-ghost use Rattle.upon_types.specs.FirstTree.{Statements};
-ghost use Rattle.upon_types.specs.First.{tree_of};
+ghost use Rattle.upon_types.specs.Span.{LiesIn};
+ghost use Rattle.upon_types.specs.FirstStage.Tree.{Statements};
+ghost use Rattle.upon_types.specs.FirstStage.View.{tree_of};
 ghost use Rattle.upon_types.specs.Fault.{syntax, out_of_memory, OrMemory};
 ghost use Rattle.upon_types.specs.Error.{fault_of};
-ghost use Rattle.upon_lexer.specs.Searcher.{pairs_of};
-ghost use Rattle.upon_language.specs.Search.{NoneAt, Stands};
-ghost use Rattle.upon_language.specs.FirstGrammar.{IsSpace, IsGap};
-ghost use Rattle.upon_language.specs.FirstGrammar.{HasTree};
+ghost use Rattle.upon_lexer.specs.Searcher.{searcher_delimiters};
+ghost use Rattle.upon_language.specs.Search.{NoneAt, IsBestDelimiter};
+ghost use Rattle.upon_language.specs.FirstStage.Grammar.{IsSpace, IsGap};
+ghost use Rattle.upon_language.specs.FirstStage.Grammar.{HasTree};
 ghost use Rattle.upon_language.specs.Raw.{IsRaw};
 ghost use Rattle.upon_syntax.specs.Steps.{FindsStatement, FindsTag, FindsName};
 
@@ -35,7 +35,7 @@ impl<'a> Parser<'a> {
     /// A parser for a text, over the delimiters of a searcher.
     pub fn new(alloc: Global, searcher: &'a Searcher, source: &'a str) -> Parser<'a>
         ensures source { source_of result ≡ source.now }
-        ensures syntax { syntax_of result ≡ pairs_of searcher.now }
+        ensures syntax { syntax_of result ≡ searcher_delimiters searcher.now }
     {
         Parser {
             alloc,
@@ -71,12 +71,12 @@ impl<'a> Parser<'a> {
         })
     }
 
-    // The statement at a place, and where it ends.
+    // The statement at an offset, and where it ends.
     fn parse_stmt(&self, at: usize) -> Result<Option<(Stmt, usize)>>
         requires inside { at < length (source_of self.now) }
         requires boundary { IsCharBoundary (source_of self.now) at }
         ensures statement { IfOk result (FindsStatement (syntax_of self.now) (source_of self.now) at) }
-        ensures place { IfOk result (λ found. IfSome found
+        ensures span { IfOk result (λ found. IfSome found
             (λ read. LiesIn (source_of self.now) (record { m = at; n = read.1 }))) }
         ensures memory { IfErr result (λ e. fault_of e ≡ out_of_memory) }
     {
@@ -90,17 +90,17 @@ impl<'a> Parser<'a> {
         }
     }
 
-    // The tag behind a begin of expression, and where it ends.
+    // The tag after a begin of expression, and where it ends.
     fn parse_tag(&self, begin: Span) -> Result<Option<(Stmt, usize)>>
-        requires begins { Stands
+        requires begins { IsBestDelimiter
             (syntax_of self.now)
             (source_of self.now)
             (Delimiter.BeginExpr)
             begin.m
             begin.n }
-        requires place { LiesIn (source_of self.now) begin }
+        requires span { LiesIn (source_of self.now) begin }
         ensures statement { IfOk result (FindsStatement (syntax_of self.now) (source_of self.now) begin.m) }
-        ensures place { IfOk result (λ found. IfSome found
+        ensures span { IfOk result (λ found. IfSome found
             (λ read. LiesIn (source_of self.now) (record { m = begin.m; n = read.1 }))) }
         ensures memory { IfErr result (λ e. fault_of e ≡ out_of_memory) }
     {
@@ -117,18 +117,18 @@ impl<'a> Parser<'a> {
         }
     }
 
-    // Where the name in the tag stands, and where the tag ends.
+    // Where the name in the tag is, and where the tag ends.
     fn tag_at(&self, begin: Span) -> Option<(Span, usize)>
-        requires begins { Stands
+        requires begins { IsBestDelimiter
             (syntax_of self.now)
             (source_of self.now)
             (Delimiter.BeginExpr)
             begin.m
             begin.n }
-        requires place { LiesIn (source_of self.now) begin }
+        requires span { LiesIn (source_of self.now) begin }
         ensures tag { FindsTag (syntax_of self.now) (source_of self.now) begin.m result }
         ensures name_place { IfSome result (λ read. LiesIn (source_of self.now) read.0) }
-        ensures place { IfSome result (λ read. LiesIn (source_of self.now) (record { m = begin.m; n = read.1 })) }
+        ensures span { IfSome result (λ read. LiesIn (source_of self.now) (record { m = begin.m; n = read.1 })) }
     {
         let start = self.skip_space(begin.n);
         let end = self.name_end(start)?;
@@ -145,13 +145,13 @@ impl<'a> Parser<'a> {
         Some((place, last.n))
     }
 
-    // Where the whitespace at a place ends; the place itself, where there is none or a delimiter stands.
+    // Where the whitespace at an offset ends; the span itself, where there is none or a delimiter is.
     fn skip_space(&self, at: usize) -> usize
         requires { IsCharBoundary (source_of self.now) at }
         ensures gap { IsGap (syntax_of self.now) (source_of self.now) at result }
         ensures longest { (n : ℕ)
             → IsSpace (syntax_of self.now) (source_of self.now) at n → n ≡ result }
-        ensures place { LiesIn (source_of self.now) (record { m = at; n = result }) }
+        ensures span { LiesIn (source_of self.now) (record { m = at; n = result }) }
     {
         match self.searcher.starts_with(self.source, at) {
             Some(_) => at,
@@ -159,11 +159,11 @@ impl<'a> Parser<'a> {
         }
     }
 
-    // Where the name at a place ends.
+    // Where the name at an offset ends.
     fn name_end(&self, at: usize) -> Option<usize>
         requires { IsCharBoundary (source_of self.now) at }
         ensures name { FindsName (syntax_of self.now) (source_of self.now) at result }
-        ensures place { IfSome result (λ n. LiesIn (source_of self.now) (record { m = at; n = n })) }
+        ensures span { IfSome result (λ n. LiesIn (source_of self.now) (record { m = at; n = n })) }
     {
         if self.searcher.starts_with(self.source, at).is_some() {
             return None;

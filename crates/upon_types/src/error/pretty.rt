@@ -1,15 +1,15 @@
-// The text of several lines that tells a fault, with what is shown of its place.
+// The text of several lines that reports a fault, with what is shown of its span.
 ghost use Rattle.std.specs.Prelude.{◌≡◌, ◌<◌, ◌-◌, ◌++◌, length, replicate, option_map, string_bytes, IfOk, Some};
 ghost use Rattle.upon_types.specs.Error.{kind_of, picture_of};
 ghost use Rattle.upon_types.specs.Fault.{kind_text};
-ghost use Rattle.upon_types.specs.Pretty.{laid_out, with_picture, margin, blanks, marks};
+ghost use Rattle.upon_types.specs.Pretty.{picture_lines, pretty_with_picture, margin, blanks, marks};
 
 use super::ErrorKind;
 use super::excerpt::Excerpt;
 use std::alloc::{AllocError, Global};
 use std::fmt;
 
-/// The parts of such a text: under the line stand the marks, and before each bar the margin.
+/// The parts of such a text: under the line are the marks, and before each bar the margin.
 #[derive(Drop)]
 struct Pretty<'a> {
     kind: &'a ErrorKind,
@@ -23,7 +23,7 @@ struct Pretty<'a> {
 }
 
 impl fmt::Display for Pretty<'_> {
-    ghost output = { λ p. Some (laid_out (kind_text (kind_of p.kind.now)) p.name.now p.reason.now p.number p.column p.line.now p.margin.now p.marks.now) };
+    ghost output = { λ p. Some (picture_lines (kind_text (kind_of p.kind.now)) p.name.now p.reason.now p.number p.column p.line.now p.margin.now p.marks.now) };
 
     fn fmt<W: fmt::Write>(&self, f: &mut fmt::Formatter<W>) -> fmt::Result {
         write!(f, "{}\n\n", self.kind)?;
@@ -43,7 +43,7 @@ impl fmt::Display for Pretty<'_> {
     }
 }
 
-/// The text for a kind of fault, with its reason and what is shown of its place.
+/// The text for a kind of fault, with its reason and what is shown of its span.
 pub(crate) fn with_excerpt(
     alloc: Global,
     kind: &ErrorKind,
@@ -52,7 +52,7 @@ pub(crate) fn with_excerpt(
     excerpt: &Excerpt,
 ) -> Result<String, AllocError>
     ensures { IfOk result
-        (λ text. string_bytes text ≡ with_picture (kind_of kind.now) (option_map (λ n. n.now) name.entry) reason.now (picture_of excerpt.now)) }
+        (λ text. string_bytes text ≡ pretty_with_picture (kind_of kind.now) (option_map (λ n. n.now) name.entry) reason.now (picture_of excerpt.now)) }
 {
     let margin = margin(alloc, excerpt.number)?;
     let marks = marks(alloc, excerpt)?;
@@ -79,7 +79,7 @@ fn margin(alloc: Global, number: usize) -> Result<String, AllocError>
     Ok(text)
 }
 
-/// What stands under the line, behind the bar.
+/// What is under the line, after the bar.
 fn marks(alloc: Global, excerpt: &Excerpt) -> Result<String, AllocError>
     ensures { IfOk result
         (λ text. let shown = picture_of excerpt.now in

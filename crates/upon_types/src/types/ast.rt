@@ -1,4 +1,4 @@
-// The syntax tree of a template: its statements. Each place tells where in the source a part of the template stands.
+// The syntax tree of a template: its statements. Each span says where in the source a part of the template is.
 ghost use Rattle.std.specs.Prelude.{◌≡◌};
 ghost use Rattle.upon_types.specs.Ast.{scope_of};
 ghost use Rattle.upon_types.specs.Tree.{no_statements};
@@ -42,7 +42,7 @@ pub enum Stmt {
     With(With),
 }
 
-/// An expression that is shown, and the whole tag that it stands in.
+/// An expression that is shown, and the whole tag that it occurs in.
 #[derive(Drop)]
 pub struct InlineExpr {
     pub expr: Expr,

@@ -22,14 +22,14 @@ pub enum Stmt {
     InlineExpr(InlineExpr),
 }
 
-/// An expression that is shown, and the whole tag that it stands in.
+/// An expression that is shown, and the whole tag that it occurs in.
 #[derive(Drop)]
 pub struct InlineExpr {
     pub name: Ident,
     pub span: Span,
 }
 
-/// A name, and where it stands.
+/// A name, and where it is.
 #[derive(Drop)]
 pub struct Ident {
     pub name: String,

@@ -51,7 +51,7 @@ pub enum Token {
     Keyword,
     /// A name.
     Ident,
-    /// A number behind a `.`.
+    /// A number after a `.`.
     Index,
     /// A number.
     Number,

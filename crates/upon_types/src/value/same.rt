@@ -1,9 +1,10 @@
-// When two values are the same: where they stand for one value. A map is known by what stands at each key.
+// When two values are the same: where they stand for one value. A map is known by what is at each key.
 ghost use Rattle.std.specs.Prelude.{◌≡◌, ◌↔◌, ℕ, List, true, IsTrue, length};
 ghost use Rattle.std.specs.BTreeMap.{btree_map_len};
 ghost use Rattle.std.specs.Cmp.{partial_equiv_from_equiv, on_equiv};
 ghost use Rattle.std.specs.Ordering.{on};
-ghost use Rattle.upon_types.specs.Same.{val_eq, vals_eq, entries_eq, val_eq-IsEquivalence};
+ghost use Rattle.upon_types.specs.Same.{val_eq, vals_eq, entries_eq};
+ghost use Rattle.upon_types.specs.ValueEquality.{val_eq-IsEquivalence};
 ghost use Rattle.upon_types.specs.Val.{Val, Entries, entry_at, rises};
 ghost use Rattle.upon_types.specs.View.{view, vals_view, entries_view};
 
@@ -74,7 +75,7 @@ pub fn is_same(a: &Value, b: &Value) -> bool
     a == b
 }
 
-/// Whether the same value stands at each key of both maps, which is what `==` says of two values that are maps.
+/// Whether the same value is at each key of both maps, which is what `==` says of two values that are maps.
 /// The keys of any map ascend.
 pub fn is_same_map(a: &BTreeMap<String, Value>, b: &BTreeMap<String, Value>) -> bool
     ensures by_key { IsTrue result
@@ -94,7 +95,7 @@ pub fn laws_of_equality()
     ensures one_value { (v w : Val) → ((val_eq v w ≡ true) ↔ (v ≡ w)) }
 {}
 
-/// Nothing runs here: maps whose keys ascend are one map where the same value stands at each key.
+/// Nothing runs here: maps whose keys ascend are one map where the same value is at each key.
 pub fn law_of_maps()
     ensures { (a b : Entries)
         → IsTrue (rises a)

@@ -1,4 +1,4 @@
-use Rattle.upon_language.proofs.GivenShown.{given_is_shown}
+use Rattle.upon_language.proofs.GivenTokens.Shown.{given_is_shown}
 use Rattle.upon_language.proofs.laws.given_is_shown.Goals as goal
 
 pub returns : goal.returns

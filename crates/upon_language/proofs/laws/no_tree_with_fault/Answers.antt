@@ -1,4 +1,4 @@
-use Rattle.upon_language.proofs.NoTreeFault.{no_tree_with_fault}
+use Rattle.upon_language.proofs.NoTreeWithFault.Fault.{no_tree_with_fault}
 use Rattle.upon_language.proofs.laws.no_tree_with_fault.Goals as goal
 
 pub returns : goal.returns

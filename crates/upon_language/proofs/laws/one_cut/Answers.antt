@@ -1,4 +1,4 @@
-use Rattle.upon_language.proofs.OneCut.{one_cut}
+use Rattle.upon_language.proofs.OneCut.Cut.{one_cut}
 use Rattle.upon_language.proofs.laws.one_cut.Goals as goal
 
 pub returns : goal.returns

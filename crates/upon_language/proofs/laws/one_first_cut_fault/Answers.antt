@@ -1,4 +1,4 @@
-use Rattle.upon_language.proofs.FirstCut.{one_first_cut_fault}
+use Rattle.upon_language.proofs.OneFirstFault.CutFault.{one_first_cut_fault}
 use Rattle.upon_language.proofs.laws.one_first_cut_fault.Goals as goal
 
 pub returns : goal.returns

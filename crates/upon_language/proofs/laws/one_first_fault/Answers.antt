@@ -1,4 +1,4 @@
-use Rattle.upon_language.proofs.OneFirstFault.{one_first_fault}
+use Rattle.upon_language.proofs.OneFirstFault.FirstFault.{one_first_fault}
 use Rattle.upon_language.proofs.laws.one_first_fault.Goals as goal
 
 pub returns : goal.returns

@@ -1,4 +1,4 @@
-use Rattle.upon_language.proofs.OneLiteral.{one_index}
+use Rattle.upon_language.proofs.OneTree.Literal.{one_index}
 use Rattle.upon_language.proofs.laws.one_index.Goals as goal
 
 pub returns : goal.returns

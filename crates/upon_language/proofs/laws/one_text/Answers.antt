@@ -1,4 +1,4 @@
-use Rattle.upon_language.proofs.OneLiteral.{one_text}
+use Rattle.upon_language.proofs.OneTree.Literal.{one_text}
 use Rattle.upon_language.proofs.laws.one_text.Goals as goal
 
 pub returns : goal.returns

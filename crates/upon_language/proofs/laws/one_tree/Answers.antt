@@ -1,4 +1,4 @@
-use Rattle.upon_language.proofs.OneWholeTree.{one_whole_tree}
+use Rattle.upon_language.proofs.OneTree.Tree.{one_whole_tree}
 use Rattle.upon_language.proofs.laws.one_tree.Goals as goal
 
 pub returns : goal.returns

@@ -1,7 +1,7 @@
 // The expressions of a template.
 ghost use Rattle.std.specs.Prelude.{◌≡◌};
 ghost use Rattle.upon_types.specs.AstExpression.{base_of, expression_of};
-ghost use Rattle.upon_types.specs.AstPath.{word_of_string};
+ghost use Rattle.upon_types.specs.AstPath.{string_of};
 ghost use Rattle.upon_types.specs.Expression.{base_span, expression_span};
 
 use super::path::{Ident, Var};
@@ -24,7 +24,7 @@ pub enum Expr {
 pub enum BaseExpr {
     /// The value that a path leads to.
     Var(Var),
-    /// A value that stands in the template.
+    /// A value that occurs in the template.
     Literal(Literal),
     /// A list of the values of expressions.
     List(List),
@@ -46,7 +46,7 @@ pub struct Filter {
     pub span: Span,
 }
 
-/// A value that stands in the template.
+/// A value that occurs in the template.
 #[derive(Drop)]
 pub struct Literal {
     pub value: Value,
@@ -94,7 +94,7 @@ pub struct Args {
     pub span: Span,
 }
 
-/// A text in quotes, as what it says, and where it stands.
+/// A text in quotes, as what it says, and where it is.
 #[derive(Drop)]
 pub struct String {
     pub value: std::string::String,
@@ -102,7 +102,7 @@ pub struct String {
 }
 
 impl Expr {
-    /// Where the expression stands.
+    /// Where the expression is.
     pub fn span(&self) -> Span
         ensures { result ≡ expression_span (expression_of self.now) }
     {
@@ -114,7 +114,7 @@ impl Expr {
 }
 
 impl BaseExpr {
-    /// Where the expression stands.
+    /// Where the expression is.
     pub fn span(&self) -> Span
         ensures { result ≡ base_span (base_of self.now) }
     {
@@ -132,7 +132,7 @@ impl BaseExpr {
 impl String {
     /// What the text says.
     pub fn as_str(&self) -> &str
-        ensures { result.now ≡ (word_of_string self.now).text }
+        ensures { result.now ≡ (string_of self.now).text }
     {
         self.value.as_str()
     }

@@ -3,14 +3,14 @@ ghost use Rattle.std.specs.Prelude.{◌<◌, length};
 
 use crate::types::Span;
 
-/// A name, and where it stands.
+/// A name, and where it is.
 #[derive(Drop)]
 pub struct Ident {
     pub name: String,
     pub span: Span,
 }
 
-/// A number that picks an item of a list, and where it stands.
+/// A number that picks an item of a list, and where it is.
 #[derive(Drop)]
 pub struct Index {
     pub value: usize,
@@ -29,13 +29,13 @@ pub enum AccessOp {
 /// What picks a value out of another.
 #[derive(Drop)]
 pub enum Access {
-    /// The item at this place of a list.
+    /// The item at this span of a list.
     Index(Index),
     /// The value at this key of a map.
     Key(Ident),
 }
 
-/// One step of a path, and where it stands, with its operator.
+/// One step of a path, and where it is, with its operator.
 #[derive(Drop)]
 pub struct Member {
     pub op: AccessOp,
@@ -52,12 +52,12 @@ pub struct Var {
 
 impl Access {
     ghost use Rattle.std.specs.Prelude.{◌≡◌};
-    ghost use Rattle.upon_types.specs.AstPath.{selector_of};
-    ghost use Rattle.upon_types.specs.Path.{selector_span};
+    ghost use Rattle.upon_types.specs.AstPath.{access_of};
+    ghost use Rattle.upon_types.specs.Path.{access_span};
 
-    /// Where the index or the name stands.
+    /// Where the index or the name is.
     pub fn span(&self) -> Span
-        ensures { result ≡ selector_span (selector_of self.now) }
+        ensures { result ≡ access_span (access_of self.now) }
     {
         match self {
             Access::Index(index) => index.span,
@@ -68,33 +68,33 @@ impl Access {
 
 impl Var {
     ghost use Rattle.std.specs.Prelude.{◌≡◌, map};
-    ghost use Rattle.upon_types.specs.AstPath.{step_of, first_step, rest_steps};
-    ghost use Rattle.upon_types.specs.Path.{last_step, path_span};
+    ghost use Rattle.upon_types.specs.AstPath.{member_of, first_member, rest_members};
+    ghost use Rattle.upon_types.specs.Path.{last_member, path_span};
 
     /// The variable, which is the first member of the path.
     pub fn first(&self) -> &Member
-        ensures { step_of result.now ≡ first_step self.now }
+        ensures { member_of result.now ≡ first_member self.now }
     {
         &self.path[0]
     }
 
     /// The last member of the path.
     pub fn last(&self) -> &Member
-        ensures { step_of result.now ≡ last_step (first_step self.now) (rest_steps self.now) }
+        ensures { member_of result.now ≡ last_member (first_member self.now) (rest_members self.now) }
     {
         &self.path[self.path.len() - 1]
     }
 
     /// The members after the first.
     pub fn rest(&self) -> &[Member]
-        ensures { map step_of result.now ≡ rest_steps self.now }
+        ensures { map member_of result.now ≡ rest_members self.now }
     {
         &self.path[1..]
     }
 
-    /// Where the path stands: from its first member to its last.
+    /// Where the path is: from its first member to its last.
     pub fn span(&self) -> Span
-        ensures { result ≡ path_span (first_step self.now) (rest_steps self.now) }
+        ensures { result ≡ path_span (first_member self.now) (rest_members self.now) }
     {
         self.first().span.combine(self.last().span)
     }

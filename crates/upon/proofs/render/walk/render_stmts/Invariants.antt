@@ -1,7 +1,7 @@
 use Rattle.std.proofs.Common.{string_bytes, ◌≡◌, drop}
-use Rattle.upon_types.specs.First.{statements_of}
+use Rattle.upon_types.specs.FirstStage.View.{statements_of}
 use Rattle.upon_types.specs.View.{view}
-use Rattle.upon_language.specs.EachLiesIn.{EachLiesIn}
+use Rattle.upon_language.specs.FirstStage.LiesIn.{EachLiesIn}
 use Rattle.upon.specs.Meaning.{statements_mean, after}
 use Rattle.upon.proofs.render.walk.render_stmts.Given as goal
 

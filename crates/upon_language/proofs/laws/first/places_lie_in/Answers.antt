@@ -1,4 +1,4 @@
-use Rattle.upon_language.specs.PlacesLieIn.{lies_in}
+use Rattle.upon_language.proofs.FirstStage.SpansLieIn.{lies_in}
 use Rattle.upon_language.proofs.laws.first.places_lie_in.Goals as goal
 
 pub returns : goal.returns

@@ -5,9 +5,9 @@ use Rattle.upon_lexer.specs.Brackets.{brackets_of, open_token, close_token, plai
 use Rattle.upon_lexer.proofs.OpenBrackets.{opens, closes}
 use Rattle.upon_lexer.proofs.compile.brackets.apply.Goals as goal
 
-pub returns-in_ok-map_err-in-Opens-clause-turned : goal.returns-in_ok-map_err-in-Opens-clause-turned
-returns-in_ok-map_err-in-Opens-clause-turned c =
-    let items = rw (sym c.in_ok-map_err-in-Opens.ensures.variant) at c.push.ensures.items in
+pub returns-in_ok-push-in-Opens-clause-turned : goal.returns-in_ok-push-in-Opens-clause-turned
+returns-in_ok-push-in-Opens-clause-turned c =
+    let items = c.in_ok-push-in-Opens.ensures.items in
     let token : c.args.token ≡ open_token c.in-Opens.shape = c.in-Opens.ensures in
     ap brackets_of items ∙ opens c.args.brackets.now.items (record { shape = c.in-Opens.shape; span = c.args.span })
     ∙ ap (λ (t : Token). brackets_after (brackets_of c.args.brackets.now.items) t (plain_lexeme t c.args.span)) (sym token)

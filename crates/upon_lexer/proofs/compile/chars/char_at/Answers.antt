@@ -2,7 +2,7 @@ use Rattle.std.proofs.Common.{◌≡◌, ℕ, ◌+◌, List, ◌++◌, drop, enc
 use Rattle.std.specs.Char.{len_utf8}
 use Rattle.std.specs.Str.{IsUtf8, IsCharBoundary}
 use Rattle.std.proofs.lemmas.Str.{IsUtf8-drop, IsCharBoundary-past_char}
-use Rattle.upon_types.specs.Place.{LiesIn}
+use Rattle.upon_types.specs.Span.{LiesIn}
 use Rattle.upon_lexer.proofs.compile.chars.char_at.Goals as goal
 
 lies_in : (s rest left : List ℕ) (at : ℕ) (found : Option ℕ) (Nothing : Type 0) → IsUtf8 s → IsCharBoundary s at → rest ≡ drop at s → MatchOption found Nothing (λ c. rest ≡ encode_utf8 c ++ left) → IfSome found (λ c. LiesIn s (record { m = at; n = at + len_utf8 c }))
@@ -13,7 +13,7 @@ lies_in s rest left at (Some c) Nothing text between is h = record {
   end = IsCharBoundary-past_char s left at c between.0 (IsUtf8-drop s at text between) (sym is ∙ h);
 }
 
-pub returns-clause-place : goal.returns-clause-place
-returns-clause-place c =
+pub returns-clause-span : goal.returns-clause-span
+returns-clause-span c =
     let is : c.chars.result.rest.now ≡ drop c.args.at c.args.source.now = cc in
     lies_in c.args.source.now c.chars.result.rest.now c.next.new.self.rest.now c.args.at c.next.result _ c.utf8.source c.requires is c.next.ensures.steps.0

@@ -13,15 +13,15 @@ loop-c-preserved c =
     let value : c.len_utf8-end.result ≡ len_utf8 c.in-Some.c = c.len_utf8-end.ensures.value in
     let F : ℕ → Type 0 = λ n. IsCharBoundary c.args.source.now (c.loop-c.end + n) in
     record {
-      between = subst F (sym value) c.in-Some.ensures.place.end;
-      passes = passes_more (class_test c.args.class) c.args.source.now c.args.at c.loop-c.end c.in-Some.c (c.loop-c.end + c.len_utf8-end.result) c.loop-c.invariant.passes c.in-Some.ensures.stands (sym c.if-not-has.ensures) (omega (arith, length-encode c.in-Some.c, value));
+      between = subst F (sym value) c.in-Some.ensures.span.end;
+      passes = passes_more (class_test c.args.class) c.args.source.now c.args.at c.loop-c.end c.in-Some.c (c.loop-c.end + c.len_utf8-end.result) c.loop-c.invariant.passes c.in-Some.ensures.occurs (sym c.if-not-has.ensures) (omega (arith, length-encode c.in-Some.c, value));
     }
 
 before : (c : Then-not-has) → (d : ℕ) → Occurs c.args.source.now c.loop-c.end (encode_utf8 d) → class_test c.args.class d ≡ false
-before c = stops_at_char (class_test c.args.class) c.args.source.now c.args.at c.loop-c.end c.in-Some.c c.in-Some.ensures.stands (sym c.if-not-has.ensures)
+before c = stops_at_char (class_test c.args.class) c.args.source.now c.args.at c.loop-c.end c.in-Some.c c.in-Some.ensures.occurs (sym c.if-not-has.ensures)
 
 at_end : (c : In_default) → (d : ℕ) → Occurs c.args.source.now c.loop-c.end (encode_utf8 d) → class_test c.args.class d ≡ false
-at_end c = stops_at_end (class_test c.args.class) c.args.source.now c.args.at c.loop-c.end c.in_default.ensures.stands
+at_end c = stops_at_end (class_test c.args.class) c.args.source.now c.args.at c.loop-c.end c.in_default.ensures.occurs
 
 pub returns-then-not-has-clause-run : goal.returns-then-not-has-clause-run
 returns-then-not-has-clause-run c = run_or_none (class_test c.args.class) c.args.source.now c.args.at c.loop-c.end c.loop-c.invariant.passes (before c)

@@ -1,5 +1,5 @@
-use Rattle.upon_language.specs.Bounds.{occurs_lies_in}
+use Rattle.upon_language.proofs.SpansLieIn.Offsets.{occurs_lies_in}
 use Rattle.upon_lexer.proofs.compile.search.end_of.Goals as goal
 
-pub returns-clause-place : goal.returns-clause-place
-returns-clause-place c = occurs_lies_in c.args.source.now c.args.at c.args.text.now c.requires.some c.requires.stands c.utf8.source c.utf8.text
+pub returns-clause-span : goal.returns-clause-span
+returns-clause-span c = occurs_lies_in c.args.source.now c.args.at c.args.text.now c.requires.some c.requires.occurs c.utf8.source c.utf8.text

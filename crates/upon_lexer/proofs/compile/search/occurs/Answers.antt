@@ -1,4 +1,4 @@
--- The slice from a place on starts with a text where the text stands there.
+-- The slice from an offset on starts with a text where the text is there.
 use Rattle.std.proofs.Common.{◌≡◌, ◌-◌, length, take, drop, List, ℕ, arith, length-drop}
 use Rattle.std.proofs.lemmas.List.{take_all}
 use Rattle.std.proofs.lemmas.Bool.Decides.{Decides-eqb}

@@ -1,5 +1,5 @@
 use Rattle.std.proofs.Common.{◌≡◌, ◌∷◌, ◌++◌, inl, refl, sym, ap, ◌∙◌, append_assoc, codes}
-use Rattle.upon_render.specs.Environment.{Environment, binding, loop_state, bind, bind_all, turn}
+use Rattle.upon_render.specs.Environment.{Environment, binding, loop_state, bind, bind_all, iteration}
 use Rattle.upon_meaning.specs.Alone.{included}
 use Rattle.upon_meaning.specs.Meaning.{statements_mean}
 use Rattle.upon_meaning.proofs.SameLookups.{hides}
@@ -10,8 +10,8 @@ pub returns : goal.returns
 returns g c = λ calls resolve left running body index count before behind unseen env s.
     let state = binding (codes "loop") (loop_state index count) in
     let b = binding (codes "loop") unseen in
-    let with_it : turn index count (before ++ b ∷ behind) env ≡ bind_all (state ∷ before) (bind b (bind_all behind env)) = λ i. record env { bindings = state ∷ append_assoc before (b ∷ behind) env.bindings i } in
-    let without : bind_all (state ∷ before) (bind_all behind env) ≡ turn index count (before ++ behind) env = λ i. record env { bindings = state ∷ sym (append_assoc before behind env.bindings) i } in
+    let with_it : iteration index count (before ++ b ∷ behind) env ≡ bind_all (state ∷ before) (bind b (bind_all behind env)) = λ i. record env { bindings = state ∷ append_assoc before (b ∷ behind) env.bindings i } in
+    let without : bind_all (state ∷ before) (bind_all behind env) ≡ iteration index count (before ++ behind) env = λ i. record env { bindings = state ∷ sym (append_assoc before behind env.bindings) i } in
     let means : Environment → _ = λ e. statements_mean calls (included calls resolve left) running body e s in
     ap means with_it
     ∙ alike_body calls resolve left running body (bind_all (state ∷ before) (bind b (bind_all behind env))) (bind_all (state ∷ before) (bind_all behind env)) (hides calls.ask b (state ∷ before) (bind_all behind env) (inl refl)) s

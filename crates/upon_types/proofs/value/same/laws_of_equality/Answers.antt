@@ -1,5 +1,5 @@
 use Rattle.std.proofs.Common.{◌∙◌}
-use Rattle.upon_types.specs.Same.{val_eq-Decides, val_eq-IsEquivalence}
+use Rattle.upon_types.specs.ValueEquality.{val_eq-Decides, val_eq-IsEquivalence}
 use Rattle.upon_types.proofs.value.same.laws_of_equality.Goals as goal
 
 pub returns : goal.returns

@@ -4,7 +4,7 @@ use Rattle.upon_lexer.proofs.compile.lex.Lexer.new.Goals as goal
 
 pub invariant_of-result : goal.invariant_of-result
 invariant_of-result c = record {
-  between = IsCharBoundary-start c.args.source.now c.utf8.source;
-  tag_place = λ tag is. absurd (cc);
-  bracket_places = λ b h. let inside = rw c.new.ensures.items at h in absurd (omega (arith, inside.1));
+  boundary = IsCharBoundary-start c.args.source.now c.utf8.source;
+  tag_span = λ tag is. absurd (cc);
+  bracket_spans = λ b h. let inside = rw c.new.ensures.items at h in absurd (omega (arith, inside.1));
 }

@@ -1,6 +1,14 @@
-use Rattle.upon_lexer.specs.Searcher.{pairs_of}
+use Rattle.std.proofs.Common.{◌≤◌, ◌-◌, length}
+use Rattle.upon_lexer.specs.Searcher.{searcher_delimiters}
 use Rattle.upon_language.specs.Search.{NoneFrom}
 use Rattle.upon_lexer.proofs.compile.search.Searcher.find_at.Given as goal
 
-abbrev pub invariant-loop-place : goal.invariant-loop-place
-invariant-loop-place l = NoneFrom (pairs_of l.self) l.source l.at l.place
+abbrev pub invariant-loop-offset : goal.invariant-loop-offset
+invariant-loop-offset l = record {
+  after : l.at ≤ l.offset;
+  within : l.offset ≤ length l.source;
+  none : NoneFrom (searcher_delimiters l.self) l.source l.at l.offset;
+}
+
+abbrev pub decreases-loop-offset : goal.decreases-loop-offset
+decreases-loop-offset l = length l.source - l.offset

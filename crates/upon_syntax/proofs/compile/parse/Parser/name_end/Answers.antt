@@ -10,8 +10,8 @@ at_none (Some x) P Q e h = absurd (cc)
 pub returns-then-begins_name-clause-name : goal.returns-then-begins_name-clause-name
 returns-then-begins_name-clause-name c =
     let bare = at_none c.starts_with.result _ _ (sym c.is_some.ensures ∙ c.if-is_some.false) c.starts_with.ensures.best in
-    name_from_run (syntax_of c.args.self.now) (source_of c.args.self.now) c.args.at c.in_ok-first.first c.in_ok-first.ensures.stands c.run_end.result bare (sym c.if-begins_name.ensures) c.run_end.ensures.run c.run_end.ensures.longest
+    name_from_run (syntax_of c.args.self.now) (source_of c.args.self.now) c.args.at c.in_ok-first.first c.in_ok-first.ensures.occurs c.run_end.result bare (sym c.if-begins_name.ensures) c.run_end.ensures.run c.run_end.ensures.longest
 
 pub returns-else-begins_name-clause-name : goal.returns-else-begins_name-clause-name
 returns-else-begins_name-clause-name c =
-    no_name (syntax_of c.args.self.now) (source_of c.args.self.now) c.args.at c.in_ok-first.first c.in_ok-first.ensures.stands (sym c.if-begins_name.ensures)
+    no_name (syntax_of c.args.self.now) (source_of c.args.self.now) c.args.at c.in_ok-first.first c.in_ok-first.ensures.occurs (sym c.if-begins_name.ensures)

@@ -1,7 +1,7 @@
 use Rattle.std.proofs.Common.{length, ◌-◌}
 use Rattle.std.specs.Str.{IsCharBoundary}
-use Rattle.upon_types.specs.First.{statements_of}
-use Rattle.upon_language.specs.FirstGrammar.{Reads}
+use Rattle.upon_types.specs.FirstStage.View.{statements_of}
+use Rattle.upon_language.specs.FirstStage.Grammar.{Reads}
 use Rattle.upon_syntax.specs.Parsed.{source_of, syntax_of}
 use Rattle.upon_syntax.proofs.compile.parse.Parser.parse_template.Given as goal
 

@@ -1,7 +1,7 @@
 use Rattle.std.proofs.Common.{◌≡◌, ℕ, List, subst, Bor}
 use Rattle.std.proofs.lemmas.Str.{IsUtf8-had}
 use Rattle.upon_types.specs.declared.types.Span.{Span}
-use Rattle.upon_types.specs.Place.{LiesIn}
+use Rattle.upon_types.specs.Span.{LiesIn}
 use Rattle.upon_syntax.proofs.Start.{start_lies_in}
 use Rattle.upon_syntax.proofs.compile.parse.Parser.unsupported.Goals as goal
 

@@ -1,0 +1,17 @@
+pub mod Tests
+pub mod TokenTests
+pub mod CutTests
+pub mod InnerTests
+pub mod WholeCut
+pub mod LiteralTests
+pub mod ReadTokens
+pub mod ReadParts
+pub mod ReadExpressions
+pub mod ReadStatements
+pub mod HasTreeTests
+pub mod NoTree
+pub mod NoNumber
+pub mod NoCut
+pub mod TagRows
+pub mod Computing
+pub mod DefaultTexts

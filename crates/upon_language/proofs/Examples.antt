@@ -1,0 +1,11 @@
+pub mod Cuts
+pub mod Expressions
+pub mod Literals
+pub mod Statements
+pub mod Trimming
+pub mod Comments
+pub mod Delimiters
+pub mod NoTree
+pub mod Faults
+pub mod TokenFaults
+pub mod ShortTrees

@@ -1,0 +1,3 @@
+pub mod OneTree
+pub mod SpansLieIn
+pub mod OneTag

@@ -1,0 +1,5 @@
+use Rattle.upon_language.proofs.Computation.DefaultTexts.{default_texts, default_utf8}
+use Rattle.upon_lexer.proofs.types.syntax.Syntax.default.Goals as goal
+
+pub invariant_of-result : goal.invariant_of-result
+invariant_of-result c = record { has_texts = default_texts; has_utf8 = ∣ default_utf8 ∣₁ }
