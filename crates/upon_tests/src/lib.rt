@@ -10,6 +10,8 @@ mod pictures;
 #[cfg(test)]
 mod program;
 #[cfg(test)]
+mod readme;
+#[cfg(test)]
 mod rendering;
 #[cfg(test)]
 mod search;
