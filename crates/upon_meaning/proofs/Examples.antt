@@ -1,11 +1,13 @@
 pub mod Texts
 pub mod Conditions
+pub mod Alike
 pub mod Trimming
 pub mod Delimiters
 pub mod Loops
 pub mod Includes
 pub mod Depth
 pub mod Isolation
+pub mod Scopes
 pub mod Functions
 pub mod Formatters
 pub mod Sources

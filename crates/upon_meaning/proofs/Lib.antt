@@ -13,6 +13,11 @@ pub mod SameMeaning
 pub mod SameIncludes
 pub mod Reached
 pub mod AgreeingMaps
+pub mod NamesRead
 pub mod LoopNames
+pub mod Scopes
 pub mod RisingEntries
 pub mod MapLiterals
+pub mod MapOrder
+pub mod AlikeRenderings
+pub mod FaultsStated

@@ -7,7 +7,7 @@ use Rattle.upon_types.specs.Val.{Val}
 use Rattle.upon_render.specs.Environment.{Binding, Environment, iteration}
 use Rattle.upon_render.specs.Finding.{Finding, found, at_fault, Reply}
 use Rattle.upon_types.specs.Answers.{FormatEnd, well, refused, Formatter, Callable, formatter, function}
-use Rattle.upon_meaning.specs.Emission.{end_of, or_fault, formatter_outcome, callable_outcome, emit_call, emit_value, emit, emit_base}
+use Rattle.upon_meaning.specs.Emission.{Emission, end_of, or_fault, formatter_outcome, callable_outcome, emit_call, emit_value, emit, emit_base}
 use Rattle.upon_meaning.specs.Engine.{Calls}
 use Rattle.upon_meaning.specs.Evaluation.{Operand, values_of, answer_value, append_operand, evaluate, evaluate_base, evaluate_arguments}
 use Rattle.upon_meaning.specs.Meaning.{RunningTemplate, ends_in, Body, choose, each, each_of, on_value}
@@ -59,26 +59,26 @@ format_not_too_deep : (end : FormatEnd) (at : Span) → NotTooDeep (end_of end a
 format_not_too_deep well at = tt
 format_not_too_deep (refused message) at = tt
 
+shown_not_too_deep : {A : Type 0} (x : Finding A) (go : A → Emission) → ((a : A) → NotTooDeep (go a).end) → NotTooDeep (or_fault x go).end
+shown_not_too_deep (found a) go h = h a
+shown_not_too_deep (at_fault f) go h = tt
+
+formatted_not_too_deep : (f : Formatter) (name : Ident) (given : List Operand) → NotTooDeep (formatter_outcome f name given).end
+formatted_not_too_deep f name [] = tt
+formatted_not_too_deep f name (o ∷ []) = format_not_too_deep (f o.value).end name.span
+formatted_not_too_deep f name (o ∷ p ∷ given) = tt
+
+emitted_not_too_deep : (default : Formatter) (name : Ident) (whole : Span) (given : List Operand) (callable : Option Callable) → NotTooDeep (callable_outcome default name whole given callable).end
+emitted_not_too_deep default name whole given None = tt
+emitted_not_too_deep default name whole given (Some (formatter f)) = formatted_not_too_deep f name given
+emitted_not_too_deep default name whole given (Some (function f)) = shown_not_too_deep (answer_value name name.span given (f (values_of given))) _ (λ v. format_not_too_deep (default v).end whole)
+
 module _ {V : Type 0} where
-  shown_not_too_deep : {A : Type 0} (x : Finding A) (q : V) (go : A → V → Outcome V) → ((a : A) (q : V) → NotTooDeep (go a q).end) → NotTooDeep (or_fault x q go).end
-  shown_not_too_deep (found a) q go h = h a q
-  shown_not_too_deep (at_fault f) q go h = tt
-
-  formatted_not_too_deep : (f : Formatter) (name : Ident) (given : List Operand) (q : V) → NotTooDeep (formatter_outcome f name given q).end
-  formatted_not_too_deep f name [] q = tt
-  formatted_not_too_deep f name (o ∷ []) q = format_not_too_deep (f o.value).end name.span
-  formatted_not_too_deep f name (o ∷ p ∷ given) q = tt
-
-  emitted_not_too_deep : (default : Formatter) (name : Ident) (whole : Span) (given : List Operand) (callable : Option Callable) (q : V) → NotTooDeep (callable_outcome default name whole given callable q).end
-  emitted_not_too_deep default name whole given None q = tt
-  emitted_not_too_deep default name whole given (Some (formatter f)) q = formatted_not_too_deep f name given q
-  emitted_not_too_deep default name whole given (Some (function f)) q = shown_not_too_deep (answer_value name name.span given (f (values_of given))) q _ (λ v q'. format_not_too_deep (default v).end whole)
-
   applied_not_too_deep : (calls : Calls V) (name : Ident) (whole : Span) (r : Reply V (Finding (List Operand))) → NotTooDeep (emit_call calls name whole r).end
-  applied_not_too_deep calls name whole r = shown_not_too_deep r.answer r.next _ (λ os q. emitted_not_too_deep calls.default_formatter name whole os (calls.callables name.text) q)
+  applied_not_too_deep calls name whole r = shown_not_too_deep r.answer _ (λ os. emitted_not_too_deep calls.default_formatter name whole os (calls.callables name.text))
 
   emit_value_not_too_deep : (calls : Calls V) (r : Reply V (Finding Operand)) → NotTooDeep (emit_value calls r).end
-  emit_value_not_too_deep calls r = shown_not_too_deep r.answer r.next _ (λ o q. format_not_too_deep (calls.default_formatter o.value).end o.span)
+  emit_value_not_too_deep calls r = shown_not_too_deep r.answer _ (λ o. format_not_too_deep (calls.default_formatter o.value).end o.span)
 
 module _ {V : Type 0} (calls : Calls V) where
   mutual

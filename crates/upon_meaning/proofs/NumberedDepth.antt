@@ -6,7 +6,7 @@ use Rattle.upon_types.specs.Tree.{Statement, raw, inline_expr, include, if_else,
 use Rattle.upon_render.specs.Environment.{Environment, Root, root_environment, alone_over, with_name}
 use Rattle.upon_render.specs.Items.{items_of}
 use Rattle.upon_render.specs.Source.{Source}
-use Rattle.upon_meaning.specs.Alone.{running, on_template, included, includes_left, alone}
+use Rattle.upon_meaning.specs.Alone.{running, on_template, included, alone_within, includes_left, alone}
 use Rattle.upon_meaning.specs.Emission.{emit}
 use Rattle.upon_meaning.specs.Engine.{Template, Table, Engine, Calls, table_answer, from_table, calls_of, limit_of, rendering_of}
 use Rattle.upon_meaning.specs.Evaluation.{evaluate}
@@ -59,5 +59,13 @@ module _ {V T : Type 0} (calls : Calls V) (table : Table) (number : List ℕ →
 left_for_number : (k limit : ℕ) → k < limit → k ≤ includes_left limit
 left_for_number k limit above = omega (arith, above)
 
+-- a template of a table, where at least as many includes may be one inside another as its number says
+pub numbered_within : {V T : Type 0} (calls : Calls V) (table : Table) (number : List ℕ → ℕ) (k left : ℕ) (t : Template) (name : Option (List ℕ)) (root : Root) (s : States V T) → IsNumbered table number t.tree k → k ≤ left → (alone_within calls (from_table table) left t name root s).end ≢ too_deep
+numbered_within calls table number k left t name root s is le = is_not_too_deep _ (numbered_goes calls table number left k t.tree is le (running t name) (root_environment root) s)
+
+-- any rendering over a table
+pub numbered_over_table : {V T : Type 0} (calls : Calls V) (table : Table) (limit : ℕ) (number : List ℕ → ℕ) (k : ℕ) (t : Template) (name : Option (List ℕ)) (root : Root) (s : States V T) → IsNumbered table number t.tree k → k < limit → (alone (record { calls = calls; resolve = from_table table; limit = limit }) t name root s).end ≢ too_deep
+numbered_over_table calls table limit number k t name root s is above = numbered_within calls table number k (includes_left limit) t name root s is (left_for_number k limit above)
+
 pub numbered_depth : {V T : Type 0} (engine : Engine) (ask : Source V) (depth : Option ℕ) (number : List ℕ → ℕ) (k : ℕ) (t : Template) (name : Option (List ℕ)) (root : Root) (s : States V T) → IsNumbered engine.templates number t.tree k → k < limit_of depth engine → (alone (rendering_of engine ask depth) t name root s).end ≢ too_deep
-numbered_depth engine ask depth number k t name root s is above = is_not_too_deep _ (numbered_goes (calls_of engine ask) engine.templates number (includes_left (limit_of depth engine)) k t.tree is (left_for_number k (limit_of depth engine) above) (running t name) (root_environment root) s)
+numbered_depth engine ask depth number k t name root s is above = numbered_over_table (calls_of engine ask) engine.templates (limit_of depth engine) number k t name root s is above

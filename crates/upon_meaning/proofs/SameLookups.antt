@@ -60,7 +60,7 @@ module _ (b : Binding) (outer : List Binding) where
   both false c y z h = h refl
 
   -- a name that is not its own is found as if it were not there
-  other_name : (w : List ℕ) (bs : List Binding) → bytes_eq w b.name ≡ false → Hidden w bs
+  pub other_name : (w : List ℕ) (bs : List Binding) → bytes_eq w b.name ≡ false → Hidden w bs
   other_name w [] other = ap (λ x. if x then Some b.bound else first_bound w outer) other
   other_name w (c ∷ bs) other = both (bytes_eq w c.name) c.bound (first_bound w (bs ++ b ∷ outer)) (first_bound w (bs ++ outer)) (λ e. other_name w bs other)
 

@@ -10,7 +10,7 @@ use Rattle.upon_render.specs.Items.{items_of}
 use Rattle.upon_meaning.specs.Emission.{emit, emit_base, emit_call, emit_value}
 use Rattle.upon_meaning.specs.Engine.{Calls}
 use Rattle.upon_meaning.specs.Entries.{with_entry}
-use Rattle.upon_meaning.specs.Evaluation.{append_operand, with_span, as_list, as_map, apply, evaluate, evaluate_base, evaluate_bases, evaluate_items, evaluate_arguments}
+use Rattle.upon_meaning.specs.Evaluation.{append_operand, with_span, as_list, as_map, application, evaluate, evaluate_base, evaluate_bases, evaluate_items, evaluate_arguments}
 use Rattle.upon_meaning.specs.Includes.{StatementIncludes, Includes, ElseIncludes}
 use Rattle.upon_meaning.specs.Meaning.{RunningTemplate, Inclusion, in_template, with_value, choose, condition, each, each_of, statement_means, statements_mean, else_means}
 use Rattle.upon_meaning.specs.Names.{IsName, ExpressionReads, BaseReads, BasesRead, ItemsRead, ArgumentsRead, StatementReads, StatementsRead, ElseReads}
@@ -31,7 +31,7 @@ module _ {V : Type 0} (calls : Calls V) (names : List ℕ → Type 0) (env env' 
     pub same_value : (e : Expression) → Within (λ name. ExpressionReads name e) names → (q : V) → evaluate calls e env q ≡ evaluate calls e env' q
     same_value (base b) h q = same_base b h q
     same_value (filtered receiver name args span) h q =
-        λ i. apply calls name span (append_operand (same_value receiver (λ n r. h n (inl r)) q i) (λ q'. same_arguments args (λ n r. h n (inr r)) q' i))
+        λ i. application calls name span (append_operand (same_value receiver (λ n r. h n (inl r)) q i) (λ q'. same_arguments args (λ n r. h n (inr r)) q' i))
 
     same_base : (b : Base) → Within (λ name. BaseReads name b) names → (q : V) → evaluate_base calls b env q ≡ evaluate_base calls b env' q
     same_base (var first rest) h q = λ i. with_span (alike first rest q (known names first.access h) i) (path_span first rest)
@@ -39,7 +39,7 @@ module _ {V : Type 0} (calls : Calls V) (names : List ℕ → Type 0) (env env' 
     same_base (list bases span) h q = λ i. as_list (same_bases bases h q i) span
     same_base (mapping items span) h q = λ i. as_map (same_items items no_entries h q i) span
     same_base (paren e span) h q = same_value e h q
-    same_base (call name args span) h q = λ i. apply calls name span (same_arguments args h q i)
+    same_base (call name args span) h q = λ i. application calls name span (same_arguments args h q i)
 
     same_bases : (bs : Bases) → Within (λ name. BasesRead name bs) names → (q : V) → evaluate_bases calls bs env q ≡ evaluate_bases calls bs env' q
     same_bases no_bases h q = refl

@@ -9,11 +9,10 @@ use Rattle.upon_render.specs.Environment.{Binding, Environment, context}
 use Rattle.upon_render.specs.Finding.{Finding, found, at_fault, Reply, reply, on_found, with_found}
 use Rattle.upon_render.specs.Lookup.{bindings_walk, or_root, lookup}
 use Rattle.upon_render.specs.Source.{refuses, Source}
-use Rattle.upon_types.specs.Answers.{Formatter, Callable, formatter, function}
-use Rattle.upon_meaning.specs.Emission.{format_outcome, or_fault, emit_found, formatter_outcome, callable_outcome, emit_call, emit_value, emit, emit_base}
+use Rattle.upon_meaning.specs.Emission.{Emission, format_outcome, emit_found, callable_outcome, emit_call, emit_value, emit, emit_base}
 use Rattle.upon_meaning.specs.Engine.{Calls}
 use Rattle.upon_meaning.specs.Entries.{with_entry}
-use Rattle.upon_meaning.specs.Evaluation.{Operand, operand, values_of, answer_value, call_value, with_span, prepend, append_operand, as_list, as_map, apply, evaluate, evaluate_base, evaluate_bases, evaluate_items, evaluate_arguments}
+use Rattle.upon_meaning.specs.Evaluation.{Operand, operand, values_of, call_value, with_span, prepend, append_operand, as_list, as_map, application, evaluate, evaluate_base, evaluate_bases, evaluate_items, evaluate_arguments}
 use Rattle.upon_meaning.specs.Outcome.{Outcome}
 
 -- the environment of bindings over a context
@@ -59,7 +58,7 @@ module _ {V : Type 0} (q : V) where
   as_map_keeps : (r : Reply V (Finding Entries)) (o : Reply (Unit {0}) (Finding Entries)) (at : Span) → r ≡ keep q o → as_map r at ≡ keep q (as_map o at)
   as_map_keeps r o at e = found_keeps r o (λ es p. reply (found (operand (map_val es) at)) p) (λ es p. reply (found (operand (map_val es) at)) p) e (λ es u. refl)
 
-  applied_keeps : (calls : Calls V) (name : Ident) (whole : Span) (r : Reply V (Finding (List Operand))) (o : Reply (Unit {0}) (Finding (List Operand))) → r ≡ keep q o → apply calls name whole r ≡ keep q (apply (sourceless calls) name whole o)
+  applied_keeps : (calls : Calls V) (name : Ident) (whole : Span) (r : Reply V (Finding (List Operand))) (o : Reply (Unit {0}) (Finding (List Operand))) → r ≡ keep q o → application calls name whole r ≡ keep q (application (sourceless calls) name whole o)
   applied_keeps calls name whole r o e =
       found_keeps r o (λ os p. with_span (reply (call_value name whole os (calls.callables name.text)) p) whole) (λ os p. with_span (reply (call_value name whole os (calls.callables name.text)) p) whole) e (λ os u. placed_keeps (reply (call_value name whole os (calls.callables name.text)) q) (reply (call_value name whole os (calls.callables name.text)) u) whole refl)
 
@@ -92,28 +91,14 @@ module _ {V : Type 0} (calls : Calls V) (bindings : List Binding) (v : Val) (q :
 
 -- what an expression writes
 module _ {V : Type 0} (q : V) where
-  by_shown : {A : Type 0} (x : Finding A) (u : Unit {0}) (go : A → V → Outcome V) (pure : A → Unit {0} → Outcome (Unit {0})) → ((a : A) (u : Unit {0}) → go a q ≡ keep_end q (pure a u)) → or_fault x q go ≡ keep_end q (or_fault x u pure)
-  by_shown (found a) u go pure h = h a u
-  by_shown (at_fault f) u go pure h = refl
-
-  emit_found_keeps : {A : Type 0} (r : Reply V (Finding A)) (o : Reply (Unit {0}) (Finding A)) (go : A → V → Outcome V) (pure : A → Unit {0} → Outcome (Unit {0})) → r ≡ keep q o → ((a : A) (u : Unit {0}) → go a q ≡ keep_end q (pure a u)) → emit_found r go ≡ keep_end q (emit_found o pure)
-  emit_found_keeps r o go pure e h = ap (λ r. emit_found r go) e ∙ by_shown o.answer o.next go pure h
-
-  formatted_keeps : (f : Formatter) (name : Ident) (given : List Operand) (u : Unit {0}) → formatter_outcome f name given q ≡ keep_end q (formatter_outcome f name given u)
-  formatted_keeps f name [] u = refl
-  formatted_keeps f name (o ∷ []) u = refl
-  formatted_keeps f name (o ∷ p ∷ given) u = refl
-
-  emitted_keeps : (default : Formatter) (name : Ident) (whole : Span) (given : List Operand) (callable : Option Callable) (u : Unit {0}) → callable_outcome default name whole given callable q ≡ keep_end q (callable_outcome default name whole given callable u)
-  emitted_keeps default name whole given None u = refl
-  emitted_keeps default name whole given (Some (formatter f)) u = formatted_keeps f name given u
-  emitted_keeps default name whole given (Some (function f)) u = by_shown (answer_value name name.span given (f (values_of given))) u (λ v p. format_outcome (default v) whole p) (λ v p. format_outcome (default v) whole p) (λ v u'. refl)
+  emit_found_keeps : {A : Type 0} (r : Reply V (Finding A)) (o : Reply (Unit {0}) (Finding A)) (go : A → Emission) → r ≡ keep q o → emit_found r go ≡ keep_end q (emit_found o go)
+  emit_found_keeps r o go e = ap (λ r. emit_found r go) e
 
   emit_applied_keeps : (calls : Calls V) (name : Ident) (whole : Span) (r : Reply V (Finding (List Operand))) (o : Reply (Unit {0}) (Finding (List Operand))) → r ≡ keep q o → emit_call calls name whole r ≡ keep_end q (emit_call (sourceless calls) name whole o)
-  emit_applied_keeps calls name whole r o e = emit_found_keeps r o (λ os p. callable_outcome calls.default_formatter name whole os (calls.callables name.text) p) (λ os p. callable_outcome calls.default_formatter name whole os (calls.callables name.text) p) e (λ os u. emitted_keeps calls.default_formatter name whole os (calls.callables name.text) u)
+  emit_applied_keeps calls name whole r o e = emit_found_keeps r o (λ given. callable_outcome calls.default_formatter name whole given (calls.callables name.text)) e
 
   emit_value_keeps : (calls : Calls V) (r : Reply V (Finding Operand)) (o : Reply (Unit {0}) (Finding Operand)) → r ≡ keep q o → emit_value calls r ≡ keep_end q (emit_value (sourceless calls) o)
-  emit_value_keeps calls r o e = emit_found_keeps r o (λ x p. format_outcome (calls.default_formatter x.value) x.span p) (λ x p. format_outcome (calls.default_formatter x.value) x.span p) e (λ x u. refl)
+  emit_value_keeps calls r o e = emit_found_keeps r o (λ x. format_outcome (calls.default_formatter x.value) x.span) e
 
 module _ {V : Type 0} (calls : Calls V) (bindings : List Binding) (v : Val) (q : V) where
   emit_plain_keeps : (b : Base) (u : Unit {0}) → emit_value calls (evaluate_base calls b (above bindings v) q) ≡ keep_end q (emit_value (sourceless calls) (evaluate_base (sourceless calls) b (above bindings v) u))

@@ -35,7 +35,7 @@ module _ {V T : Type 0} (calls : Calls V) (resolve : Resolver T) where
       (λ t s'. too_deep_outcome s')
   included (suc left) from word env s =
       with_template from word s.values (resolve s.templates word.text)
-          (λ t s'. statements_mean calls (included left) (running t (Some word.text)) t.tree env s')
+      (λ t s'. statements_mean calls (included left) (running t (Some word.text)) t.tree env s')
 
   -- a template by itself over a root, where so many includes may be one inside another
   abbrev pub alone_within : ℕ → Template → Option (List ℕ) → Root → States V T → Outcome (States V T)

@@ -21,12 +21,12 @@ formatter_found at = wrong (codes "expected function, found formatter") at
 
 -- of the number of values that are given
 abbrev pub formatter_expects : ℕ → Span → Fault
-formatter_expects n at = wrong (codes "formatter expects 1 argument, " ++ decimal n ++ codes " provided") at
+formatter_expects n at = wrong (codes "formatter expects 1 argument, " ++ (decimal n ++ codes " provided")) at
 
 -- a function is given another number of arguments
 abbrev pub function_expects : ℕ → ℕ → Span → Fault
-function_expects n m at = wrong (codes "function expects " ++ decimal n ++ codes " arguments, " ++ decimal m
-    ++ codes " provided") at
+function_expects n m at =
+    wrong (codes "function expects " ++ (decimal n ++ (codes " arguments, " ++ (decimal m ++ codes " provided")))) at
 
 -- of an argument of the function of this name; only an integer is out of range
 abbrev pub number_text : Val → List ℕ
@@ -35,12 +35,13 @@ number_text v = []
 
 -- what is wrong with an argument
 abbrev pub misfit_text : Misfit → Val → List ℕ
-misfit_text (wrong_type word) v = word ++ codes " argument, found " ++ kind_word v
-misfit_text (out_of_range word) v = word ++ codes " argument, but `" ++ number_text v ++ codes "` is out of range"
+misfit_text (wrong_type word) v = word ++ (codes " argument, found " ++ kind_word v)
+misfit_text (out_of_range word) v = word ++ (codes " argument, but `" ++ (number_text v ++ codes "` is out of range"))
 
 -- an argument does not fit
 abbrev pub argument_misfits : List ℕ → Misfit → Val → Span → Fault
-argument_misfits name misfit v at = wrong (codes "function `" ++ name ++ codes "` expects " ++ misfit_text misfit v) at
+argument_misfits name misfit v at =
+    wrong (codes "function `" ++ (name ++ (codes "` expects " ++ misfit_text misfit v))) at
 
 -- of a function that refuses, and of a formatter
 abbrev pub function_declined : List ℕ → Span → Fault
@@ -52,5 +53,4 @@ not_formatted message at = bare_fault format message (Some at)
 
 -- of includes that are too deep inside each other: the depth as it was set, and no span
 abbrev pub depth_reached : ℕ → Fault
-depth_reached limit = bare_fault render (Some
-    (codes "reached maximum include depth (" ++ decimal limit ++ codes ")")) None
+depth_reached limit = bare_fault render (Some (codes "reached maximum include depth (" ++ (decimal limit ++ codes ")"))) None

@@ -15,8 +15,11 @@ format_text text = record { text = text; end = well }
 
 -- lists and maps have no text
 abbrev pub no_format : Val → Formatted
-no_format v = record { text = []; end = refused
-    (Some (codes "expression evaluated to unformattable type " ++ kind_word v)) }
+no_format v = record {
+  text = [];
+  end = refused
+      (Some (codes "expression evaluated to unformattable type " ++ kind_word v));
+}
 
 -- nothing for no value, the word of a truth value, an integer in decimal, a text as it is
 abbrev pub default_format : Formatter

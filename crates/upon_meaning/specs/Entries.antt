@@ -17,4 +17,4 @@ abbrev pub with_entry : List ℕ → Val → Entries → Entries
 with_entry key v no_entries = entry_then key v no_entries
 with_entry key v (entry_then k w es) =
     by_order (slice_cmp nat_cmp key k) (entry_then key v (entry_then k w es)) (entry_then k v es)
-        (entry_then k w (with_entry key v es))
+    (entry_then k w (with_entry key v es))

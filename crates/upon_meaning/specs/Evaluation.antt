@@ -67,8 +67,8 @@ abbrev pub as_map : {V : Type 0} → Reply V (Finding Entries) → Span → Repl
 as_map r at = with_found r (λ es q. reply (found (operand (map_val es) at)) q)
 
 -- a filter or a call: it is where `whole` says
-abbrev pub apply : {V : Type 0} → Calls V → Ident → Span → Reply V (Finding (List Operand)) → Reply V (Finding Operand)
-apply calls name whole r = with_found r (λ os q. with_span
+abbrev pub application : {V : Type 0} → Calls V → Ident → Span → Reply V (Finding (List Operand)) → Reply V (Finding Operand)
+application calls name whole r = with_found r (λ os q. with_span
     (reply (call_value name whole os (calls.callables name.text)) q) whole)
 
 module _ {V : Type 0} (calls : Calls V) where
@@ -77,7 +77,7 @@ module _ {V : Type 0} (calls : Calls V) where
     pub evaluate : Expression → Environment → V → Reply V (Finding Operand)
     evaluate (base b) env q = evaluate_base b env q
     evaluate (filtered receiver name args span) env q =
-        apply calls name span (append_operand (evaluate receiver env q) (evaluate_arguments args env))
+        application calls name span (append_operand (evaluate receiver env q) (evaluate_arguments args env))
 
     pub evaluate_base : Base → Environment → V → Reply V (Finding Operand)
     evaluate_base (var first rest) env q = with_span (lookup calls.ask env first rest q) (path_span first rest)
@@ -85,7 +85,7 @@ module _ {V : Type 0} (calls : Calls V) where
     evaluate_base (list bases span) env q = as_list (evaluate_bases bases env q) span
     evaluate_base (mapping items span) env q = as_map (evaluate_items items no_entries env q) span
     evaluate_base (paren e span) env q = evaluate e env q
-    evaluate_base (call name args span) env q = apply calls name span (evaluate_arguments args env q)
+    evaluate_base (call name args span) env q = application calls name span (evaluate_arguments args env q)
 
     pub evaluate_bases : Bases → Environment → V → Reply V (Finding (List Operand))
     evaluate_bases no_bases env q = reply (found []) q

@@ -13,3 +13,6 @@ pub mod ValueSource
 pub mod Includes
 pub mod Names
 pub mod Shadowing
+pub mod RenderFaults
+pub mod MapOrder
+pub mod Alike

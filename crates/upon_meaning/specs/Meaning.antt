@@ -87,16 +87,16 @@ module _ {V T : Type 0} (calls : Calls V) (include_means : Inclusion V T) (runni
     statement_means (include word None) env s = include_means running word env s
     statement_means (include word (Some e)) env s =
         with_value running s.templates (evaluate calls e env s.values)
-            (λ v s'. include_means running word (alone_over v) s')
+        (λ v s'. include_means running word (alone_over v) s')
     statement_means (if_else negated e body other) env s =
         with_value running s.templates (evaluate calls e env s.values)
-            (λ v s'. choose (condition negated v) (statements_mean body env) (else_means other env) s')
+        (λ v s'. choose (condition negated v) (statements_mean body env) (else_means other env) s')
     statement_means (for_loop names e body) env s =
         with_value running s.templates (evaluate calls e env s.values)
-            (λ v s'. over (statements_mean body) running names (expression_span e) env v s')
+        (λ v s'. over (statements_mean body) running names (expression_span e) env v s')
     statement_means (with e word body) env s =
         with_value running s.templates (evaluate calls e env s.values)
-            (λ v s'. statements_mean body (with_name word v env) s')
+        (λ v s'. statements_mean body (with_name word v env) s')
 
     -- joined up to the first fault
     pub statements_mean : Statements → Body (States V T)

@@ -7,6 +7,7 @@ ghost use Rattle.upon_types.specs.Tree.{Statements, include, if_else, otherwise}
 ghost use Rattle.upon_types.specs.Val.{Val};
 ghost use Rattle.upon_render.specs.Environment.{Environment, Root, context};
 ghost use Rattle.upon_render.specs.Source.{Source};
+ghost use Rattle.upon_meaning.specs.Alike.{StatementsAlike, OutcomesAlike};
 ghost use Rattle.upon_meaning.specs.Alone.{included, alone_within, alone};
 ghost use Rattle.upon_meaning.specs.Engine.{Template, Engine, Calls, Resolver, Rendering, limit_of, rendering_of};
 ghost use Rattle.upon_meaning.specs.GreaterDepth.{GoesOn};
@@ -16,9 +17,11 @@ ghost use Rattle.upon_meaning.specs.Meaning.{RunningTemplate, Inclusion, stateme
 ghost use Rattle.upon_meaning.specs.Outcome.{States, states, too_deep};
 ghost use Rattle.upon_meaning.specs.ValueSource.{with_source, SameBesideValues};
 
+pub mod faults;
 pub mod maps;
 pub mod names;
 pub mod scopes;
+pub mod whole_scopes;
 
 /// A greater depth gives the same text, end and next states where the lesser one does not end because includes are too
 /// deep; where it does, its text is a beginning of the greater one's.
@@ -94,4 +97,17 @@ pub fn negated_condition<V, T>()
         (env : Environment) (s : States V T)
         → statement_means calls include_means running (if_else true c a (otherwise b)) env s
         ≡ statement_means calls include_means running (if_else false c b (otherwise a)) env s }
+{}
+
+/// Two templates of one name give the same text and next states, and end alike but for the span of a fault, where their
+/// trees are alike but for spans: raw parts show the same, and of an `if` the condition may be negated in one of the two
+/// alone, with its branches the other way round. Each template is rendered under its own text.
+pub fn turned_conditions<V, T>()
+    ensures within { (calls : Calls V) (resolve : Resolver T) (left : ℕ) (t u : Template) (name : Option (List ℕ)) (root : Root)
+        (s : States V T) → StatementsAlike t.source u.source t.tree u.tree
+        → OutcomesAlike (alone_within calls resolve left t name root s) (alone_within calls resolve left u name root s) }
+
+    ensures of_depth { (rendering : Rendering V T) (t u : Template) (name : Option (List ℕ)) (root : Root)
+        (s : States V T) → StatementsAlike t.source u.source t.tree u.tree
+        → OutcomesAlike (alone rendering t name root s) (alone rendering u name root s) }
 {}

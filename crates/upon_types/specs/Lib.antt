@@ -15,6 +15,7 @@ pub mod Token
 pub mod Path
 pub mod Expression
 pub mod Tree
+pub mod TreeSpans
 pub mod AstPath
 pub mod AstExpression
 pub mod Ast

@@ -27,7 +27,7 @@ abbrev pub picture_lines : List ℕ → List ℕ → List ℕ → ℕ → ℕ �
 picture_lines kind name reason number column line margin marks =
     kind ++ codes "\n\n"
     ++ codes " " ++ margin ++ codes "--> " ++ name ++ codes ":" ++ decimal number ++ codes ":" ++ decimal column
-        ++ codes "\n"
+    ++ codes "\n"
     ++ codes " " ++ margin ++ codes " |\n"
     ++ codes " " ++ decimal number ++ codes " | " ++ line ++ codes "\n"
     ++ codes " " ++ margin ++ codes " | " ++ marks ++ codes "\n"
@@ -38,7 +38,7 @@ picture_lines kind name reason number column line margin marks =
 abbrev pub pretty_with_picture : Kind → Option (List ℕ) → List ℕ → Picture → List ℕ
 pretty_with_picture kind name reason p =
     picture_lines (kind_text kind) (name_or_anonymous name) reason p.number p.column p.line (margin p.number)
-        (blanks (p.column - 1) ++ marks p.width)
+    (blanks (p.column - 1) ++ marks p.width)
 
 -- where a reason or a picture is missing, the one line
 abbrev pub pretty_by : Fault → Option (List ℕ) → Option Picture → List ℕ

@@ -4,12 +4,13 @@ ghost use Rattle.upon_types.specs.declared.types.Span.{Span};
 ghost use Rattle.upon_types.specs.Expression.{Items, mapping};
 ghost use Rattle.upon_types.specs.Path.{Ident, key_value};
 ghost use Rattle.upon_types.specs.Val.{Val, Entries, map_val, entry_at, key_of, entry_list, rises};
-ghost use Rattle.upon_render.specs.Environment.{Environment};
+ghost use Rattle.upon_render.specs.Environment.{Environment, Binding};
 ghost use Rattle.upon_render.specs.Finding.{found};
 ghost use Rattle.upon_render.specs.Items.{items_of, entry_binds};
 ghost use Rattle.upon_meaning.specs.Engine.{Calls};
 ghost use Rattle.upon_meaning.specs.Entries.{with_entry};
-ghost use Rattle.upon_meaning.specs.Evaluation.{Operand, evaluate_base};
+ghost use Rattle.upon_meaning.specs.Evaluation.{Operand, evaluate_base, evaluate_bases};
+ghost use Rattle.upon_meaning.specs.MapOrder.{GoesInOrder, item_bases, item_values, last_at};
 
 /// A map literal gives a map whose entries are in ascending order of their keys' bytes.
 pub fn map_literal_rises<V>()
@@ -53,4 +54,31 @@ pub fn literals_alike<V>()
         → (evaluate_base calls (mapping others place) around q).answer ≡ found b
         → ((key : List ℕ) → key_of key a.value ≡ key_of key b.value)
         → a.value ≡ b.value }
+{}
+
+/// A loop over a map whose keys ascend goes over each entry once, in ascending order of the keys' bytes.
+pub fn map_in_order()
+    ensures { (key value : Ident) (both : Span) (es : Entries) (at : Span)
+        → rises es ≡ true
+        → (turns : List (List Binding)) × (items_of (key_value key value both) (map_val es) at ≡ found turns)
+        × GoesInOrder key value es turns }
+{}
+
+/// A loop over a map literal goes over each entry of its map once, in ascending order of the keys' bytes, whatever order it
+/// was written in.
+pub fn literal_goes_in_order<V>()
+    ensures { (calls : Calls V) (items : Items) (span : Span) (env : Environment) (q : V) (o : Operand)
+        (key value : Ident) (both : Span) (at : Span)
+        → (evaluate_base calls (mapping items span) env q).answer ≡ found o
+        → (es : Entries) × (o.value ≡ map_val es) × (turns : List (List Binding))
+        × (items_of (key_value key value both) o.value at ≡ found turns) × GoesInOrder key value es turns }
+{}
+
+/// At a key a map literal holds the value of the last of its items that has the key, and nothing where none has it. The
+/// items' expressions come to their values from the left, as those of a list do.
+pub fn literal_last_stands<V>()
+    ensures { (calls : Calls V) (items : Items) (span : Span) (env : Environment) (q : V) (o : Operand)
+        → (evaluate_base calls (mapping items span) env q).answer ≡ found o
+        → (os : List Operand) × ((evaluate_bases calls (item_bases items) env q).answer ≡ found os)
+        × ((key : List ℕ) → key_of key o.value ≡ last_at key (item_values items os)) }
 {}

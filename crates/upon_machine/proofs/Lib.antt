@@ -1,0 +1,5 @@
+pub mod FollowsTree
+pub mod FaultsLie
+pub mod Midway
+pub mod JumpsWithin
+mod Examples

@@ -1,0 +1,4 @@
+pub mod Lookups
+pub mod Expressions
+pub mod Emissions
+pub mod Templates

@@ -1,0 +1,6 @@
+pub mod Lookups
+pub mod Expressions
+pub mod Emissions
+pub mod Templates
+pub mod Anywhere
+pub mod Ends

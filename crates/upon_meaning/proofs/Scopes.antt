@@ -1,0 +1,3 @@
+pub mod Hidden
+pub mod InBody
+pub mod LoopUnseen

@@ -1,0 +1,77 @@
+-- That something holds of each span in a tree, as that it lies in the text.
+use Rattle.std.specs.Prelude.{ℕ, List, [], ◌∷◌, Option, Some, None}
+use Rattle.upon_types.specs.declared.types.Span.{Span}
+use Rattle.upon_types.specs.Expression.{Expression, base, filtered, Base, var, literal, list, mapping, paren, call, Bases, no_bases, base_then, Items, no_items, item_then, Arguments, no_arguments, arguments}
+use Rattle.upon_types.specs.Path.{Access, by_index, by_key, Member, LoopVars, item, key_value}
+use Rattle.upon_types.specs.Span.{LiesIn}
+use Rattle.upon_types.specs.Tree.{Statement, raw, inline_expr, include, if_else, for_loop, with, Statements, no_statements, statement_then, Else, no_else, otherwise}
+
+-- names and paths
+abbrev pub SelectorSpans : (Span → Type 0) → Access → Type 0
+SelectorSpans P (by_index n span) = P span
+SelectorSpans P (by_key word) = P word.span
+
+abbrev pub StepSpans : (Span → Type 0) → Member → Type 0
+StepSpans P step = P step.span × SelectorSpans P step.access
+
+abbrev pub StepsSpans : (Span → Type 0) → List Member → Type 0
+StepsSpans P [] = Unit {0}
+StepsSpans P (step ∷ steps) = StepSpans P step × StepsSpans P steps
+
+abbrev pub LoopNamesSpans : (Span → Type 0) → LoopVars → Type 0
+LoopNamesSpans P (item name) = P name.span
+LoopNamesSpans P (key_value key value both) = P key.span × P value.span × P both
+
+-- expressions
+abbrev mutual
+  pub ExpressionSpans : (Span → Type 0) → Expression → Type 0
+  ExpressionSpans P (base b) = BaseSpans P b
+  ExpressionSpans P (filtered receiver name args span) =
+      ExpressionSpans P receiver × P name.span × ArgumentsSpans P args × P span
+
+  pub BaseSpans : (Span → Type 0) → Base → Type 0
+  BaseSpans P (var first rest) = StepSpans P first × StepsSpans P rest
+  BaseSpans P (literal v span) = P span
+  BaseSpans P (list bases span) = BasesSpans P bases × P span
+  BaseSpans P (mapping items span) = ItemsSpans P items × P span
+  BaseSpans P (paren e span) = ExpressionSpans P e × P span
+  BaseSpans P (call name args span) = P name.span × ArgumentsSpans P args × P span
+
+  pub BasesSpans : (Span → Type 0) → Bases → Type 0
+  BasesSpans P no_bases = Unit {0}
+  BasesSpans P (base_then b bs) = BaseSpans P b × BasesSpans P bs
+
+  pub ItemsSpans : (Span → Type 0) → Items → Type 0
+  ItemsSpans P no_items = Unit {0}
+  ItemsSpans P (item_then key b items) = P key.span × BaseSpans P b × ItemsSpans P items
+
+  pub ArgumentsSpans : (Span → Type 0) → Arguments → Type 0
+  ArgumentsSpans P no_arguments = Unit {0}
+  ArgumentsSpans P (arguments bases span) = BasesSpans P bases × P span
+
+-- the value that an include is given
+abbrev pub GivenSpans : (Span → Type 0) → Option Expression → Type 0
+GivenSpans P None = Unit {0}
+GivenSpans P (Some e) = ExpressionSpans P e
+
+-- statements
+abbrev mutual
+  pub StatementSpans : (Span → Type 0) → Statement → Type 0
+  StatementSpans P (raw span) = P span
+  StatementSpans P (inline_expr e span) = ExpressionSpans P e × P span
+  StatementSpans P (include word value) = P word.span × GivenSpans P value
+  StatementSpans P (if_else negated e body other) = ExpressionSpans P e × StatementsSpans P body × ElseSpans P other
+  StatementSpans P (for_loop names e body) = LoopNamesSpans P names × ExpressionSpans P e × StatementsSpans P body
+  StatementSpans P (with e word body) = ExpressionSpans P e × P word.span × StatementsSpans P body
+
+  pub StatementsSpans : (Span → Type 0) → Statements → Type 0
+  StatementsSpans P no_statements = Unit {0}
+  StatementsSpans P (statement_then t ts) = StatementSpans P t × StatementsSpans P ts
+
+  pub ElseSpans : (Span → Type 0) → Else → Type 0
+  ElseSpans P no_else = Unit {0}
+  ElseSpans P (otherwise body) = StatementsSpans P body
+
+-- each span in the tree lies in the text
+abbrev pub TreeLiesIn : List ℕ → Statements → Type 0
+TreeLiesIn source tree = StatementsSpans (LiesIn source) tree
