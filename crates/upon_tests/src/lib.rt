@@ -2,7 +2,11 @@
 #![tactic(auto)]
 
 #[cfg(test)]
+mod conversions;
+#[cfg(test)]
 mod faults;
+#[cfg(test)]
+mod functions;
 #[cfg(test)]
 mod lexer;
 #[cfg(test)]

@@ -9,6 +9,7 @@ pub mod View
 pub mod Truth
 pub mod Same
 pub mod ValueEquality
+pub mod Conversions
 pub mod Answers
 pub mod Cow
 pub mod Token

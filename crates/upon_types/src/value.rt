@@ -6,9 +6,13 @@ ghost use Rattle.upon_types.specs.View.{view};
 mod clone;
 mod cow;
 mod from;
+mod from_lists;
+mod from_maps;
+mod from_texts;
 pub mod look;
 pub mod same;
 
+pub use clone::{clone_entries, clone_items};
 pub use cow::ValueCow;
 use std::collections::BTreeMap;
 

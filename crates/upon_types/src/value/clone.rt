@@ -24,8 +24,9 @@ impl Value {
     }
 }
 
+/// A copy of the items. It fails where there is no memory for the copy.
 #[cycle(clone)]
-fn clone_items(items: &Vec<Value>) -> Result<Vec<Value>, AllocError>
+pub fn clone_items(items: &Vec<Value>) -> Result<Vec<Value>, AllocError>
     ensures { IfOk result (λ copies. vals_view copies.items ≡ vals_view items.now.items) }
 {
     let mut copies = Vec::with_capacity(*items.allocator(), items.len())?;
@@ -35,8 +36,11 @@ fn clone_items(items: &Vec<Value>) -> Result<Vec<Value>, AllocError>
     Ok(copies)
 }
 
+/// A copy of the entries. It fails where there is no memory for the copy.
 #[cycle(clone)]
-fn clone_entries(entries: &BTreeMap<String, Value>) -> Result<BTreeMap<String, Value>, AllocError>
+pub fn clone_entries(
+    entries: &BTreeMap<String, Value>,
+) -> Result<BTreeMap<String, Value>, AllocError>
     ensures { IfOk result (λ copies. entries_view copies.entries ≡ entries_view entries.now.entries) }
 {
     let mut copies = BTreeMap::emptied(entries)?;

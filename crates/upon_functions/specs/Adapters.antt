@@ -1,0 +1,30 @@
+-- What an adapter answers: it tests the number of arguments, then each from the left, then its callable answers.
+use Rattle.std.specs.Prelude.{ℕ, ◌+◌, ◌==◌, List, ◌∷◌, Option, Some, None, length, slice_get, if◌then◌else◌}
+use Rattle.upon_functions.specs.Arguments.{Test, IsFair}
+use Rattle.upon_functions.specs.Outcome.{Outcome, answer_of}
+use Rattle.upon_types.specs.Answers.{Answer, Misfit, gives, wrong_number, wrong_argument, declines}
+use Rattle.upon_types.specs.Val.{Val}
+
+-- the callable's answer, unless the argument at an index does not fit
+abbrev pub unless_misfit : Option Misfit → ℕ → Answer → Answer
+unless_misfit None i answer = answer
+unless_misfit (Some misfit) i answer = wrong_argument i misfit
+
+-- each argument is tested from the left, from an index on
+abbrev pub after_tests : List Test → ℕ → List Val → Answer → Answer
+after_tests (test ∷ tests) i (v ∷ vs) answer = unless_misfit (test v) i (after_tests tests (i + 1) vs answer)
+after_tests tests i vs answer = answer
+
+abbrev pub adapter_answer : List Test → (List Val → Outcome) → List Val → Answer
+adapter_answer tests meaning vs = if length vs == length tests then after_tests tests 0 vs (answer_of (meaning vs)) else wrong_number (length tests)
+
+-- an answer that blames an argument blames one that is given, and only an integer for being out of range
+abbrev pub IsFairAt : Option Val → Misfit → Type 0
+IsFairAt None misfit = ⊥
+IsFairAt (Some v) misfit = IsFair v (Some misfit)
+
+abbrev pub BlamesGiven : List Val → Answer → Type 0
+BlamesGiven vs (gives v) = Unit {0}
+BlamesGiven vs (wrong_number n) = Unit {0}
+BlamesGiven vs (wrong_argument i misfit) = IsFairAt (slice_get vs i) misfit
+BlamesGiven vs (declines text) = Unit {0}

@@ -1,0 +1,51 @@
+-- How the results of calls say the pure answers. out of memory says nothing.
+use Rattle.std.specs.Prelude.{◌≡◌, ℕ, List, Option, Some, None, Result, Ok, Err, map, string_bytes}
+use Rattle.upon_functions.specs.Outcome.{Outcome, answer_of}
+use Rattle.upon_functions.specs.declared.function.ArgError.{ArgError}
+use Rattle.upon_functions.specs.declared.function.ArgError.TheVariants.{WrongType, OutOfRange}
+use Rattle.upon_functions.specs.declared.function.CallError.{CallError}
+use Rattle.upon_functions.specs.declared.function.CallError.TheVariants.{Arity, Arg, Fault, Memory}
+use Rattle.upon_types.specs.Answers.{Answer, Misfit, gives, wrong_number, wrong_argument, declines, wrong_type, out_of_range}
+use Rattle.upon_types.specs.Cow.{cow_view}
+use Rattle.upon_types.specs.Val.{Val}
+use Rattle.upon_types.specs.View.{view}
+use Rattle.upon_types.specs.declared.value.Value.{Value}
+use Rattle.upon_types.specs.declared.value.cow.ValueCow.{ValueCow}
+
+-- what the arguments of a call stand for
+abbrev pub arguments_view : List ValueCow → List Val
+arguments_view = map cow_view
+
+abbrev pub misfit_of : ArgError → Misfit
+misfit_of (WrongType word) = wrong_type word.now
+misfit_of (OutOfRange word) = out_of_range word.now
+
+-- the result of a call is this answer, or memory is out
+abbrev pub Says : Result Value CallError → Answer → Type 0
+Says (Ok v) answer = answer ≡ gives (view v)
+Says (Err (Arity n)) answer = answer ≡ wrong_number n
+Says (Err (Arg i e)) answer = answer ≡ wrong_argument i (misfit_of e)
+Says (Err (Fault text)) answer = answer ≡ declines (string_bytes text)
+Says (Err Memory) answer = Unit {0}
+
+-- what a callable returned becomes its outcome; where memory was refused already, that is answered
+abbrev pub Returns : Result Value CallError → Option Outcome → Type 0
+Returns result (Some o) = Says result (answer_of o)
+Returns result None = result ≡ Err Memory
+
+-- an error becomes a refusal with its text, or memory is out
+abbrev pub Refuses : CallError → Option (List ℕ) → Type 0
+Refuses e (Some text) = Says (Err e) (declines text)
+Refuses e None = e ≡ Memory
+
+-- an argument that fits is taken as what it stands for; else its misfit is answered, at its index
+abbrev pub Takes : {A : Type 0} → (A → Val) → Option Misfit → ℕ → Val → Result A CallError → Type 0
+Takes stands_for misfit i v (Ok x) = (misfit ≡ None) × (stands_for x ≡ v)
+Takes stands_for misfit i v (Err (Arg j e)) = (j ≡ i) × (misfit ≡ Some (misfit_of e))
+Takes stands_for misfit i v (Err Memory) = Unit {0}
+Takes stands_for misfit i v (Err (Arity n)) = ⊥
+Takes stands_for misfit i v (Err (Fault text)) = ⊥
+
+-- the same of an argument that is lent, for which no memory is taken
+abbrev pub Lends : {A : Type 0} → (A → Val) → Option Misfit → ℕ → Val → Result A CallError → Type 0
+Lends stands_for misfit i v result = Takes stands_for misfit i v result × (result ≡ Err Memory → ⊥)

@@ -1,0 +1,39 @@
+// Arguments that are lent: a text, a list or a map inside a value. Nothing is copied, so no memory is taken.
+ghost use Rattle.upon_functions.specs.Arguments.{str_misfit, list_misfit, map_misfit};
+ghost use Rattle.upon_functions.specs.Says.{Lends};
+ghost use Rattle.upon_types.specs.Val.{text_val, list_val, map_val};
+ghost use Rattle.upon_types.specs.View.{view, vals_view, entries_view};
+
+use crate::function::{ArgError, CallError};
+use std::collections::BTreeMap;
+use upon_types::value::Value;
+
+/// The text that a value is.
+pub fn text(index: usize, from: &Value) -> Result<&str, CallError>
+    ensures { Lends (λ text. text_val text.now) (str_misfit (view from.now)) index (view from.now) result }
+{
+    match from {
+        Value::String(text) => Ok(text),
+        _ => Err(CallError::Arg(index, ArgError::WrongType("&str"))),
+    }
+}
+
+/// The items of the list that a value is.
+pub fn list(index: usize, from: &Value) -> Result<&[Value], CallError>
+    ensures { Lends (λ items. list_val (vals_view items.now)) (list_misfit (view from.now)) index (view from.now) result }
+{
+    match from {
+        Value::List(items) => Ok(items),
+        _ => Err(CallError::Arg(index, ArgError::WrongType("list"))),
+    }
+}
+
+/// The map that a value is.
+pub fn map(index: usize, from: &Value) -> Result<&BTreeMap<String, Value>, CallError>
+    ensures { Lends (λ entries. map_val (entries_view entries.now.entries)) (map_misfit (view from.now)) index (view from.now) result }
+{
+    match from {
+        Value::Map(entries) => Ok(entries),
+        _ => Err(CallError::Arg(index, ArgError::WrongType("map"))),
+    }
+}
