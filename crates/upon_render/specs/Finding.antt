@@ -1,10 +1,16 @@
 -- What a search comes to: something that was found, or a fault; and the answer of one that goes on to a next state.
+use Rattle.std.specs.Prelude.{Option, Some, None}
 use Rattle.upon_types.specs.Fault.{Fault}
 
 -- something that was found, or a fault
 pub data Finding (A : Type 0) : Type 0 where
   found : A → Finding A
   at_fault : Fault → Finding A
+
+-- what was found, if no fault was met
+abbrev pub found_only : {A : Type 0} → Finding A → Option A
+found_only (found a) = Some a
+found_only (at_fault fault) = None
 
 -- an answer, and the next state of the one that was asked
 pub record Reply (Q : Type 0) (A : Type 0) : Type 0 where

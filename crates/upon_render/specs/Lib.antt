@@ -1,3 +1,4 @@
+pub mod Finding
 pub mod Vals
 pub mod LookupFaults
 pub mod Walk
@@ -5,4 +6,14 @@ pub mod Environment
 pub mod Items
 pub mod Source
 pub mod Lookup
-pub mod Finding
+pub mod Answer
+pub mod PathPlace
+pub mod Asked
+pub mod ValueFn
+pub mod Cursor
+pub mod LoopItems
+pub mod Loop
+pub mod Frames
+pub mod Settled
+pub mod Roots
+pub mod Stack

@@ -27,7 +27,7 @@ is_last index count = bool_val (index + 1 == count)
 abbrev pub state_map : ℕ → ℕ → Val
 state_map index count =
     map_val (entry_then (codes "first") (is_first index)
-        (entry_then (codes "index") (int_val (pos index)) (entry_then (codes "last") (is_last index count) no_entries)))
+    (entry_then (codes "index") (int_val (pos index)) (entry_then (codes "last") (is_last index count) no_entries)))
 
 -- a member of a loop's state: one of the three; an index is a fault by either operator
 abbrev pub state_member : ℕ → ℕ → Access → AccessOp → Span → Finding (Option Val)

@@ -20,4 +20,8 @@ mod rendering;
 #[cfg(test)]
 mod search;
 #[cfg(test)]
+mod sources;
+#[cfg(test)]
+mod stack;
+#[cfg(test)]
 mod values;

@@ -1,0 +1,7 @@
+pub mod ValueItems
+pub mod Tells
+pub mod Starts
+pub mod Known
+pub mod PathSpan
+pub mod Searches
+pub mod Tops

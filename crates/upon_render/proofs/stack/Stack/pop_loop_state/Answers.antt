@@ -1,0 +1,12 @@
+use Rattle.upon_render.specs.Stack.{IsLoop}
+use Rattle.upon_render.proofs.Tops.{popped_is}
+use Rattle.upon_render.proofs.stack.Stack.pop_loop_state.Goals as goal
+
+pub unreachable-requires : goal.unreachable-requires
+unreachable-requires g c = popped_is IsLoop _ _ _ c.in-Scope.ensures.frames c.requires
+
+pub unreachable-requires-in-Var : goal.unreachable-requires-in-Var
+unreachable-requires-in-Var g c = popped_is IsLoop _ _ _ c.in-Var.ensures.frames c.requires
+
+pub unreachable-requires-in-Boundary : goal.unreachable-requires-in-Boundary
+unreachable-requires-in-Boundary g c = popped_is IsLoop _ _ _ c.in-Boundary.ensures.frames c.requires

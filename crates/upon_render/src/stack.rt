@@ -1,0 +1,398 @@
+// The frames of a running template, and what a path finds in them.
+ghost use Rattle.std.specs.Prelude.{◌≡◌, ◌∷◌, [], ◌++◌, ◌<◌, List, Some, IsSome, OnOk, OnErr, true, Bool, length, map};
+ghost use Rattle.upon_types.specs.AstPath.{member_of, first_member, rest_members, ident_of};
+ghost use Rattle.upon_types.specs.Cow.{cow_view};
+ghost use Rattle.upon_types.specs.Span.{LiesIn};
+ghost use Rattle.upon_render.specs.Answer.{Answers, maybe_view, is_borrowed, IsLent, IsLentIfAny, Lends};
+ghost use Rattle.upon_render.specs.Cursor.{lends_bound};
+ghost use Rattle.upon_render.specs.Environment.{Environment, value_source, binding, plain, binding_of};
+ghost use Rattle.upon_render.specs.Frames.{frame_over, frames_over, frame_lends, frames_lend};
+ghost use Rattle.upon_render.specs.Lookup.{lookup, root_value, bindings_walk, or_not_in_scope};
+ghost use Rattle.upon_render.specs.PathPlace.{StepsLieIn};
+ghost use Rattle.upon_render.specs.Settled.{known, Finds};
+ghost use Rattle.upon_render.specs.Source.{Source};
+ghost use Rattle.upon_render.specs.Roots.{pure_root, root_lends, HasSource, KeepsRoot, IsValidRoot, OrOutOfMemory};
+ghost use Rattle.upon_render.specs.Walk.{context_walk};
+
+use crate::faults;
+use crate::iter::LoopState;
+use crate::source::{SourceError, ValueSource, members};
+use crate::value::{lookup_bound, lookup_in_context};
+use std::alloc::{AllocError, Global};
+use upon_types::error::Result;
+use upon_types::types::ast::{Access, Ident, Member, Var};
+use upon_types::value::{Value, ValueCow};
+
+/// A frame.
+#[derive(Drop)]
+pub enum State<'a> {
+    /// A context.
+    Scope(ValueCow<'a>),
+    /// A name with its value.
+    Var(&'a Ident, ValueCow<'a>),
+    /// A loop.
+    Loop(LoopState<'a>),
+    /// Nothing below it is seen.
+    Boundary,
+}
+
+/// What answers where no frame does.
+#[derive(Drop)]
+enum Root<'a, V> {
+    Value(&'a Value),
+    Source(V),
+}
+
+/// The frames of a running template, over a context or a source of values.
+#[derive(Drop)]
+pub struct Stack<'a, V> {
+    root: Root<'a, V>,
+    frames: Vec<State<'a>>,
+}
+
+impl<'a, V: ValueSource> Stack<'a, V> {
+    ghost use Rattle.upon_render.specs.Stack.{environment_of, root_of, frames_of, stack_lends, top, IsScope, IsVar, IsLoop, IsBoundary, Iterates};
+
+    /// No frame, over a context.
+    pub fn new(alloc: Global, context: &'a Value) -> Stack<'a, V>
+        ensures frames { frames_of result ≡ [] }
+        ensures root { root_of result ≡ Root.Value context.entry }
+        ensures valid { IsValidRoot V.valid (root_of result) }
+    {
+        Stack {
+            root: Root::Value(context),
+            frames: Vec::new(alloc),
+        }
+    }
+
+    /// No frame, over a source of values.
+    pub fn with_value_fn(alloc: Global, values: V) -> Stack<'a, V>
+        ensures frames { frames_of result ≡ [] }
+        ensures root { root_of result ≡ Root.Source values }
+        ensures valid { V.valid values → IsValidRoot V.valid (root_of result) }
+    {
+        Stack {
+            root: Root::Source(values),
+            frames: Vec::new(alloc),
+        }
+    }
+
+    /// What the path finds: in the innermost frame that binds its first member, or else in the root.
+    ///
+    /// What a lent value binds is lent. A source is asked once, for the whole path, where no frame binds it.
+    pub fn lookup_var(&mut self, source: &str, var: &Var) -> Result<ValueCow<'a>>
+        requires places { StepsLieIn source.now (first_member var.now ∷ rest_members var.now) }
+        requires valid { IsValidRoot V.valid (root_of self.old) }
+        ensures answer { (ask : Source V.State) (q : V.State) → HasSource V.ask V.value_state (root_of self.old) ask q → Answers
+            cow_view
+            source.now
+            (lookup ask (environment_of self.old) (first_member var.now) (rest_members var.now) q).answer
+            result }
+        ensures next { (ask : Source V.State) (q : V.State) → HasSource V.ask V.value_state (root_of self.old) ask q → OrOutOfMemory
+            result
+            (HasSource V.ask V.value_state (root_of self.new) ask (lookup ask (environment_of self.old) (first_member var.now) (rest_members var.now) q).next) }
+        ensures lent { (ask : Source V.State) (q : V.State) → stack_lends self.old (first_member var.now).access ≡ true → Lends
+            IsLent
+            (lookup ask (environment_of self.old) (first_member var.now) (rest_members var.now) q).answer
+            result }
+        ensures frames { frames_of self.new ≡ frames_of self.old }
+        ensures root { KeepsRoot V.ask V.holds (root_of self.old) (root_of self.new) }
+        ensures valid { IsValidRoot V.valid (root_of self.new) }
+    {
+        let alloc = *self.frames.allocator();
+        match search(alloc, source, self.frames.as_slice(), var) {
+            Ok(Some(found)) => Ok(found),
+            Ok(None) => lookup_root(alloc, source, &mut self.root, var),
+            Err(error) => Err(error),
+        }
+    }
+
+    /// One frame more, the innermost. Where there is no memory, nothing changes.
+    pub fn push(&mut self, frame: State<'a>) -> std::result::Result<(), AllocError>
+        ensures ok { OnOk result (frames_of self.new ≡ frames_of self.old ++ frame.entry ∷ []) }
+        ensures environment { OnOk result (environment_of self.new ≡ frame_over frame.entry (environment_of self.old)) }
+        ensures err { OnErr result (frames_of self.new ≡ frames_of self.old) }
+        ensures root { root_of self.new ≡ root_of self.old }
+    {
+        self.frames.push(frame)?;
+        Ok(())
+    }
+
+    /// The context of the innermost frame, which is a scope.
+    pub fn pop_scope(&mut self) -> ValueCow<'a>
+        requires { IsScope (top (frames_of self.old)) }
+        ensures frames { frames_of self.old ≡ frames_of self.new ++ State.Scope result ∷ [] }
+        ensures root { root_of self.new ≡ root_of self.old }
+    {
+        match self.pop() {
+            State::Scope(context) => context,
+            State::Var(_, _) => unreachable!(),
+            State::Loop(_) => unreachable!(),
+            State::Boundary => unreachable!(),
+        }
+    }
+
+    /// The name and the value of the innermost frame, which is a variable.
+    pub fn pop_var(&mut self) -> (&'a Ident, ValueCow<'a>)
+        requires { IsVar (top (frames_of self.old)) }
+        ensures frames { frames_of self.old ≡ frames_of self.new ++ State.Var result.0 result.1 ∷ [] }
+        ensures root { root_of self.new ≡ root_of self.old }
+    {
+        match self.pop() {
+            State::Var(name, value) => (name, value),
+            State::Scope(_) => unreachable!(),
+            State::Loop(_) => unreachable!(),
+            State::Boundary => unreachable!(),
+        }
+    }
+
+    /// The loop of the innermost frame, which is a loop.
+    pub fn pop_loop_state(&mut self) -> LoopState<'a>
+        requires { IsLoop (top (frames_of self.old)) }
+        ensures frames { frames_of self.old ≡ frames_of self.new ++ State.Loop result ∷ [] }
+        ensures root { root_of self.new ≡ root_of self.old }
+    {
+        match self.pop() {
+            State::Loop(state) => state,
+            State::Scope(_) => unreachable!(),
+            State::Var(_, _) => unreachable!(),
+            State::Boundary => unreachable!(),
+        }
+    }
+
+    /// Takes the innermost frame away, which is a boundary.
+    pub fn pop_boundary(&mut self)
+        requires { IsBoundary (top (frames_of self.old)) }
+        ensures frames { frames_of self.old ≡ frames_of self.new ++ State.Boundary ∷ [] }
+        ensures root { root_of self.new ≡ root_of self.old }
+    {
+        match self.pop() {
+            State::Boundary => {}
+            State::Scope(_) => unreachable!(),
+            State::Var(_, _) => unreachable!(),
+            State::Loop(_) => unreachable!(),
+        }
+    }
+
+    /// The loop of the innermost frame, which is a loop.
+    pub fn last_loop_state_mut(&mut self) -> &mut LoopState<'a>
+        requires { IsLoop (top (frames_of self.old)) }
+        ensures { top (frames_of self.old) ≡ Some (State.Loop result.now) }
+    {
+        let last = self.frames.len() - 1;
+        match &mut self.frames[last] {
+            State::Loop(current) => current,
+            State::Scope(_) => unreachable!(),
+            State::Var(_, _) => unreachable!(),
+            State::Boundary => unreachable!(),
+        }
+    }
+
+    /// The loop of the innermost frame, which is a loop, goes to its next item; at the end it stays at the last one.
+    pub fn iterate_loop(&mut self) -> Option<()>
+        requires { IsLoop (top (frames_of self.old)) }
+        ensures frames { (below : List State) (state : LoopState) → frames_of self.old ≡ below ++ State.Loop state ∷ [] → Iterates
+            result
+            state
+            (λ next. frames_of self.new ≡ below ++ State.Loop next ∷ []) }
+        ensures root { root_of self.new ≡ root_of self.old }
+    {
+        let last = self.frames.len() - 1;
+        match &mut self.frames[last] {
+            State::Loop(state) => state.iterate(),
+            State::Scope(_) => unreachable!(),
+            State::Var(_, _) => unreachable!(),
+            State::Boundary => unreachable!(),
+        }
+    }
+
+    fn pop(&mut self) -> State<'a>
+        requires { IsSome (top (frames_of self.old)) }
+        ensures frames { frames_of self.old ≡ frames_of self.new ++ result ∷ [] }
+        ensures root { root_of self.new ≡ root_of self.old }
+    {
+        match self.frames.pop() {
+            Some(frame) => frame,
+            None => unreachable!(),
+        }
+    }
+}
+
+// What the root has at the path.
+fn lookup_root<'a, V: ValueSource>(
+    alloc: Global,
+    source: &str,
+    root: &mut Root<'a, V>,
+    var: &Var,
+) -> Result<ValueCow<'a>>
+    requires places { StepsLieIn source.now (first_member var.now ∷ rest_members var.now) }
+    requires valid { IsValidRoot V.valid root.old }
+    ensures answer { (ask : Source V.State) (q : V.State) → HasSource V.ask V.value_state root.old ask q → Answers
+        cow_view
+        source.now
+        (root_value ask (pure_root root.old) (first_member var.now) (rest_members var.now) q).answer
+        result }
+    ensures next { (ask : Source V.State) (q : V.State) → HasSource V.ask V.value_state root.old ask q → OrOutOfMemory
+        result
+        (HasSource V.ask V.value_state root.new ask (root_value ask (pure_root root.old) (first_member var.now) (rest_members var.now) q).next) }
+    ensures lent { (ask : Source V.State) (q : V.State) → root_lends root.old ≡ true → Lends
+        IsLent
+        (root_value ask (pure_root root.old) (first_member var.now) (rest_members var.now) q).answer
+        result }
+    ensures root { KeepsRoot V.ask V.holds root.old root.new }
+    ensures valid { IsValidRoot V.valid root.new }
+{
+    match root {
+        Root::Value(context) => {
+            lookup_context(
+                alloc,
+                source,
+                &ValueCow::Borrowed(*context),
+                var.first(),
+                var.rest(),
+            )
+        }
+        Root::Source(values) => ask_source(alloc, source, values, var),
+    }
+}
+
+// What the source answers to the path.
+fn ask_source<'a, V: ValueSource>(
+    alloc: Global,
+    source: &str,
+    values: &mut V,
+    var: &Var,
+) -> Result<ValueCow<'a>>
+    requires places { StepsLieIn source.now (first_member var.now ∷ rest_members var.now) }
+    requires valid { V.valid values.old }
+    ensures answer { Answers
+        cow_view
+        source.now
+        (root_value (V.ask values.old) value_source (first_member var.now) (rest_members var.now) (V.value_state values.old)).answer
+        result }
+    ensures next { OrOutOfMemory
+        result
+        (V.value_state values.new ≡ (root_value (V.ask values.old) value_source (first_member var.now) (rest_members var.now) (V.value_state values.old)).next) }
+    ensures stays { V.ask values.new ≡ V.ask values.old }
+    ensures same { V.holds values.new ≡ V.holds values.old }
+    ensures valid { V.valid values.new }
+{
+    let path = match members(alloc, var.path.as_slice()) {
+        Ok(path) => path,
+        Err(error) => return Err(error.into()),
+    };
+    match values.value(path.as_slice()) {
+        Ok(value) => Ok(ValueCow::Owned(value)),
+        Err(SourceError::Refused(reason)) => {
+            Err(faults::wrong(alloc, source, reason.as_str(), var.span()))
+        }
+        Err(SourceError::Memory) => Err(AllocError.into()),
+    }
+}
+
+// What the frames have at the path, the innermost first, or `None` where they do not bind it.
+fn search<'a>(
+    alloc: Global,
+    source: &str,
+    frames: &[State<'a>],
+    var: &Var,
+) -> Result<Option<ValueCow<'a>>>
+    requires { StepsLieIn source.now (first_member var.now ∷ rest_members var.now) }
+    ensures { (env : Environment) (lent : Bool) → Finds
+        source.now
+        (known (frames_over env frames.now) (frames_lend lent frames.now (first_member var.now).access) (first_member var.now) (rest_members var.now))
+        (known env lent (first_member var.now) (rest_members var.now))
+        result }
+{
+    let mut left = frames.len();
+    while left > 0 {
+        left -= 1;
+        match lookup_frame(alloc, source, &frames[left], var) {
+            Ok(Some(value)) => return Ok(Some(value)),
+            Ok(None) => {}
+            Err(error) => return Err(error),
+        }
+    }
+    Ok(None)
+}
+
+// What the frame has at the path, or `None` where it does not bind it and what is below is seen.
+fn lookup_frame<'a>(
+    alloc: Global,
+    source: &str,
+    frame: &State<'a>,
+    var: &Var,
+) -> Result<Option<ValueCow<'a>>>
+    requires { StepsLieIn source.now (first_member var.now ∷ rest_members var.now) }
+    ensures { (env : Environment) (lent : Bool) → Finds
+        source.now
+        (known (frame_over frame.now env) (frame_lends frame.now (first_member var.now).access lent) (first_member var.now) (rest_members var.now))
+        (known env lent (first_member var.now) (rest_members var.now))
+        result }
+{
+    match frame {
+        State::Scope(context) => {
+            match lookup_context(alloc, source, context, var.first(), var.rest()) {
+                Ok(value) => Ok(Some(value)),
+                Err(error) => Err(error),
+            }
+        }
+        State::Var(ident, value) => lookup_named(alloc, source, *ident, value, var),
+        State::Loop(state) => state.lookup_var(alloc, source, var),
+        State::Boundary => Err(faults::not_in_scope(alloc, source, var.first().span)),
+    }
+}
+
+// What a name with its value binds to the path.
+fn lookup_named<'a>(
+    alloc: Global,
+    source: &str,
+    ident: &Ident,
+    value: &ValueCow<'a>,
+    var: &Var,
+) -> Result<Option<ValueCow<'a>>>
+    requires { StepsLieIn source.now (rest_members var.now) }
+    ensures answer { Answers
+        maybe_view
+        source.now
+        (bindings_walk (binding (ident_of ident.now).text (plain (cow_view value.now)) ∷ []) (first_member var.now) (rest_members var.now))
+        result }
+    ensures lent { lends_bound (is_borrowed value.now) (binding_of (first_member var.now).access (binding (ident_of ident.now).text (plain (cow_view value.now)) ∷ [])) ≡ true → Lends
+        IsLentIfAny
+        (bindings_walk (binding (ident_of ident.now).text (plain (cow_view value.now)) ∷ []) (first_member var.now) (rest_members var.now))
+        result }
+{
+    if let Access::Key(name) = &var.first().access {
+        if name.name.as_str() == ident.name.as_str() {
+            return lookup_bound(alloc, source, value, var.rest());
+        }
+    }
+    Ok(None)
+}
+
+// What the path, by its first member and the others, finds in a context. It is a fault where the context does not have it.
+fn lookup_context<'a>(
+    alloc: Global,
+    source: &str,
+    context: &ValueCow<'a>,
+    first: &Member,
+    rest: &[Member],
+) -> Result<ValueCow<'a>>
+    requires span { LiesIn source.now first.now.span }
+    requires places { StepsLieIn source.now (map member_of rest.now) }
+    ensures answer { Answers
+        cow_view
+        source.now
+        (or_not_in_scope (context_walk (member_of first.now) (map member_of rest.now) (cow_view context.now)) first.now.span)
+        result }
+    ensures lent { is_borrowed context.now ≡ true → Lends
+        IsLent
+        (or_not_in_scope (context_walk (member_of first.now) (map member_of rest.now) (cow_view context.now)) first.now.span)
+        result }
+{
+    match lookup_in_context(alloc, source, context, first, rest) {
+        Ok(Some(value)) => Ok(value),
+        Ok(None) => Err(faults::wrong(alloc, source, "not found in this scope", first.span)),
+        Err(error) => Err(error),
+    }
+}

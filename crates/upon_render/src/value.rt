@@ -1,0 +1,200 @@
+// Members of a value, and walks over members.
+ghost use Rattle.std.specs.Prelude.{◌≡◌, ◌<◌, true, Ok, None, length, map, option_map, slice_get};
+ghost use Rattle.upon_types.specs.AstPath.{member_of};
+ghost use Rattle.upon_types.specs.Cow.{cow_view};
+ghost use Rattle.upon_types.specs.Span.{LiesIn};
+ghost use Rattle.upon_types.specs.View.{view, vals_view};
+ghost use Rattle.upon_render.specs.Answer.{AnswersAlways, Answers, TellsFault, lent_view, lent_or_none, maybe_view, is_borrowed, IsLent, IsLentIfAny, Lends};
+ghost use Rattle.upon_render.specs.Finding.{found, found_only};
+ghost use Rattle.upon_render.specs.PathPlace.{StepsLieIn};
+ghost use Rattle.upon_render.specs.Vals.{val_list};
+ghost use Rattle.upon_render.specs.Walk.{lookup_member as member_in, walk, as_some, context_walk, path_in_context, found_or_missed};
+ghost use Rattle.upon_types.specs.Fault.{Fault};
+
+use crate::faults;
+use std::alloc::Global;
+use upon_types::error::{Error, Result};
+use upon_types::types::ast::{Access, AccessOp, Member};
+use upon_types::value::look::entry;
+use upon_types::value::{Value, ValueCow};
+
+/// The member of the value, or `None` where it misses by `?.`.
+///
+/// It is a fault at the member where it misses by `.`, and where the value has no members of its kind. Memory is taken
+/// for a fault alone.
+pub fn lookup<'a>(
+    alloc: Global,
+    source: &str,
+    value: &'a Value,
+    member: &Member,
+) -> Result<Option<&'a Value>>
+    requires { LiesIn source.now member.now.span }
+    ensures { AnswersAlways lent_view source.now (member_in (view value.now) (member_of member.now)) result }
+{
+    match reach(value, member) {
+        Some(found) => Ok(found),
+        None => Err(not_reached(alloc, source, value, member)),
+    }
+}
+
+/// The value that the members lead to from this one, which is no value after a miss by `?.`. No members give the value.
+///
+/// The fault of a member that is not there lies at that member. From a borrowed value what is found is borrowed too, and
+/// memory is taken for a fault alone.
+pub fn lookup_path<'a>(
+    alloc: Global,
+    source: &str,
+    value: &ValueCow<'a>,
+    path: &[Member],
+) -> Result<ValueCow<'a>>
+    requires { StepsLieIn source.now (map member_of path.now) }
+    ensures answer { Answers cow_view source.now (walk (map member_of path.now) (cow_view value.now)) result }
+    ensures lent { is_borrowed value.now ≡ true → Lends IsLent (walk (map member_of path.now) (cow_view value.now)) result }
+{
+    match value {
+        ValueCow::Borrowed(start) => match descend(alloc, source, *start, path)? {
+            Some(end) => Ok(ValueCow::Borrowed(end)),
+            None => Ok(ValueCow::Owned(Value::None)),
+        },
+        ValueCow::Owned(start) => match descend(alloc, source, start, path)? {
+            Some(end) => Ok(ValueCow::Owned(end.try_clone()?)),
+            None => Ok(ValueCow::Owned(Value::None)),
+        },
+    }
+}
+
+/// The value that the path leads to from a context, or `None` where the context has nothing at its first member.
+///
+/// Where the first member misses by `?.`, that is no value. Later members are as in [`lookup_path`].
+pub fn lookup_path_maybe<'a>(
+    alloc: Global,
+    source: &str,
+    value: &ValueCow<'a>,
+    path: &[Member],
+) -> Result<Option<ValueCow<'a>>>
+    requires some { 0 < length path.now }
+    requires places { StepsLieIn source.now (map member_of path.now) }
+    ensures answer { Answers maybe_view source.now (path_in_context (map member_of path.now) (cow_view value.now)) result }
+    ensures lent { is_borrowed value.now ≡ true → Lends IsLentIfAny (path_in_context (map member_of path.now) (cow_view value.now)) result }
+    ensures unbound { path_in_context (map member_of path.now) (cow_view value.now) ≡ found None → result ≡ Ok None }
+{
+    match path {
+        [first, rest @ ..] => lookup_in_context(alloc, source, value, first, rest),
+        [] => Ok(None),
+    }
+}
+
+/// The value that the members lead to from a value that a name is bound to, as in [`lookup_path`].
+pub(crate) fn lookup_bound<'a>(
+    alloc: Global,
+    source: &str,
+    value: &ValueCow<'a>,
+    path: &[Member],
+) -> Result<Option<ValueCow<'a>>>
+    requires { StepsLieIn source.now (map member_of path.now) }
+    ensures answer { Answers maybe_view source.now (as_some (walk (map member_of path.now) (cow_view value.now))) result }
+    ensures lent { is_borrowed value.now ≡ true → Lends IsLentIfAny (as_some (walk (map member_of path.now) (cow_view value.now))) result }
+{
+    match lookup_path(alloc, source, value, path) {
+        Ok(end) => Ok(Some(end)),
+        Err(error) => Err(error),
+    }
+}
+
+/// The same, of the path's first member and its others.
+pub(crate) fn lookup_in_context<'a>(
+    alloc: Global,
+    source: &str,
+    value: &ValueCow<'a>,
+    first: &Member,
+    rest: &[Member],
+) -> Result<Option<ValueCow<'a>>>
+    requires { StepsLieIn source.now (map member_of rest.now) }
+    ensures answer { Answers maybe_view source.now (context_walk (member_of first.now) (map member_of rest.now) (cow_view value.now)) result }
+    ensures lent { is_borrowed value.now ≡ true → Lends IsLentIfAny (context_walk (member_of first.now) (map member_of rest.now) (cow_view value.now)) result }
+    ensures unbound { context_walk (member_of first.now) (map member_of rest.now) (cow_view value.now) ≡ found None → result ≡ Ok None }
+{
+    match value {
+        ValueCow::Borrowed(start) => match reach(*start, first) {
+            Some(Some(found)) => { lookup_bound(alloc, source, &ValueCow::Borrowed(found), rest) }
+            Some(None) => Ok(Some(ValueCow::Owned(Value::None))),
+            None => Ok(None),
+        },
+        ValueCow::Owned(start) => match reach(start, first) {
+            Some(Some(found)) => match descend(alloc, source, found, rest)? {
+                Some(end) => Ok(Some(ValueCow::Owned(end.try_clone()?))),
+                None => Ok(Some(ValueCow::Owned(Value::None))),
+            },
+            Some(None) => Ok(Some(ValueCow::Owned(Value::None))),
+            None => Ok(None),
+        },
+    }
+}
+
+// The value that the members lead to; `None` after a miss by `?.`.
+fn descend<'a>(
+    alloc: Global,
+    source: &str,
+    start: &'a Value,
+    path: &[Member],
+) -> Result<Option<&'a Value>>
+    requires { StepsLieIn source.now (map member_of path.now) }
+    ensures { AnswersAlways lent_or_none source.now (walk (map member_of path.now) (view start.now)) result }
+{
+    let mut here = start;
+    for member in path {
+        match lookup(alloc, source, here, member)? {
+            Some(found) => here = found,
+            None => return Ok(None),
+        }
+    }
+    Ok(Some(here))
+}
+
+// What the value has at the member: `Some(None)` is a miss by `?.`, and `None` a fault.
+fn reach<'a>(value: &'a Value, member: &Member) -> Option<Option<&'a Value>>
+    ensures { option_map lent_view result ≡ found_only (member_in (view value.now) (member_of member.now)) }
+{
+    match (value, &member.access) {
+        (Value::List(items), Access::Index(index)) => {
+            found_or_missed(item(items, index.value), member.op)
+        }
+        (Value::Map(_), Access::Key(ident)) => {
+            found_or_missed(entry(value, ident.name.as_str()), member.op)
+        }
+        _ => None,
+    }
+}
+
+// The fault of a member that the value does not have.
+fn not_reached(alloc: Global, source: &str, value: &Value, member: &Member) -> Error
+    requires span { LiesIn source.now member.now.span }
+    requires missed { found_only (member_in (view value.now) (member_of member.now)) ≡ None }
+    ensures { TellsFault source.now (member_in (view value.now) (member_of member.now)) result }
+{
+    let at = member.span;
+    match (value, &member.access) {
+        (Value::List(items), Access::Index(_)) => {
+            faults::out_of_bounds(alloc, source, items.len(), at)
+        }
+        (Value::Map(_), Access::Key(_)) => faults::wrong(alloc, source, "not found in map", at),
+        (_, Access::Index(_)) => faults::no_index_access(alloc, source, value, at),
+        (_, Access::Key(_)) => faults::no_key_access(alloc, source, value, at),
+    }
+}
+
+fn item(items: &Vec<Value>, index: usize) -> Option<&Value>
+    ensures { lent_view result ≡ slice_get (val_list (vals_view items.now.items)) index }
+{
+    items.get(index)
+}
+
+fn found_or_missed(found: Option<&Value>, op: AccessOp) -> Option<Option<&Value>>
+    ensures { (fault : Fault) → option_map lent_view result ≡ found_only (found_or_missed (lent_view found.entry) op fault) }
+{
+    match (found, op) {
+        (Some(value), _) => Some(Some(value)),
+        (None, AccessOp::Optional) => Some(None),
+        (None, AccessOp::Direct) => None,
+    }
+}
