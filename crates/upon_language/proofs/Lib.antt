@@ -7,3 +7,4 @@ pub mod NoTreeWithFault
 pub mod GivenTokens
 pub mod Computation
 pub mod Examples
+pub mod Places

@@ -21,5 +21,8 @@ pub mod FirstFault
 pub mod CutFaults
 pub mod Lexing
 pub mod Given
+pub mod InsideStart
+pub mod LexStep
+pub mod Longest
 pub mod LiesIn
 pub mod FirstStage

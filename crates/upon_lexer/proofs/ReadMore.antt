@@ -9,7 +9,7 @@ use Rattle.upon_language.specs.Inside.{Extent, in_path_after}
 use Rattle.upon_language.specs.Cut.{Lexeme, Mode, outside, in_tag, in_comment, IsToken, same_mode, mode_after}
 use Rattle.upon_language.specs.Reading.{opens_tag, from_begin, open_tag, first_span, brackets_after, brackets_from, open_brackets, ReadsTo, last_of}
 use Rattle.upon_language.specs.Lexing.{LexerState, HasRead, begin_in, brackets_in, is_trimming_end}
-use Rattle.upon_lexer.specs.LexStep.{IsNext, Fits, begin_after, state_after}
+use Rattle.upon_language.specs.LexStep.{IsNext, Fits, begin_after, state_after}
 use Rattle.upon_language.specs.CutFaults.{ClearTo}
 use Rattle.upon_language.proofs.OneCut.Cut.{cut_more}
 

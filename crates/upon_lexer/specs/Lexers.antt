@@ -6,7 +6,7 @@ use Rattle.upon_types.specs.declared.error.Error.{Error}
 use Rattle.upon_language.specs.Search.{DelimiterText}
 use Rattle.upon_lexer.specs.Searcher.{searcher_delimiters}
 use Rattle.upon_language.specs.Lexing.{LexerState, HasRead, Lexes, LexesAfterSpace}
-use Rattle.upon_lexer.specs.LexStep.{IsNext, IsWrong}
+use Rattle.upon_language.specs.LexStep.{IsNext, IsWrong}
 use Rattle.upon_lexer.specs.OpenTags.{begin_of, mode_of}
 use Rattle.upon_lexer.specs.Brackets.{brackets_of}
 use Rattle.upon_lexer.specs.Reasons.{reason_of}

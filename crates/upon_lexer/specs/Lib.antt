@@ -1,12 +1,9 @@
 pub mod Entries
 pub mod Syntax
 pub mod Searcher
-pub mod Longest
 pub mod Class
 pub mod Roles
 pub mod Brackets
-pub mod InsideStart
 pub mod Reasons
 pub mod OpenTags
-pub mod LexStep
 pub mod Lexers

@@ -8,7 +8,7 @@ ghost use Rattle.upon_language.specs.Words.{begins_name};
 ghost use Rattle.upon_language.specs.Inside.{token_kind, start_kind, Extent, IsQuoted, escape, is_piece};
 ghost use Rattle.upon_language.specs.Faults.{LineEnds};
 ghost use Rattle.upon_lexer.specs.Reasons.{reason_of};
-ghost use Rattle.upon_lexer.specs.InsideStart.{BeginsInside, NoInside, NoString};
+ghost use Rattle.upon_language.specs.InsideStart.{BeginsInside, NoInside, NoString};
 
 use crate::compile::chars::{CharClass, begins_name, char_at, is_keyword, run_end};
 use crate::compile::fault::{SyntaxFault, Wrong};

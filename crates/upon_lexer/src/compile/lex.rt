@@ -61,7 +61,7 @@ pub struct Lexer<'a> {
 
 impl<'a> Lexer<'a> {
     ghost use Rattle.upon_language.specs.Lexing.{IsGiven, TrimsAt, opens_bracket};
-    ghost use Rattle.upon_lexer.specs.LexStep.{state_after};
+    ghost use Rattle.upon_language.specs.LexStep.{state_after};
     ghost use Rattle.upon_lexer.specs.Lexers.{lexer_text, lexer_delimiters, lexer_state, next_lexeme, ReadSoFar, Gives, GivesAfterSpace, Finds, GoesWrong};
 
     /// A lexer at the start of a text, over the delimiters of a searcher.

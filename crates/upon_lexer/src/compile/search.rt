@@ -5,7 +5,7 @@ ghost use Rattle.upon_types.specs.Span.{LiesIn};
 ghost use Rattle.upon_language.specs.DefaultDelimiters.{default_delimiters};
 ghost use Rattle.upon_language.specs.Search.{Occurs, NoneAt, NoneFrom, IsBest, IsBestDelimiter, IsFirst};
 ghost use Rattle.upon_language.specs.Raw.{IsRaw};
-ghost use Rattle.upon_lexer.specs.Longest.{BestBelow};
+ghost use Rattle.upon_language.specs.Longest.{BestBelow};
 ghost use Rattle.upon_lexer.specs.Syntax.{syntax_delimiters};
 
 use crate::types::syntax::Syntax;

@@ -5,7 +5,7 @@ ghost use Rattle.upon_language.specs.Inside.{in_path_after};
 ghost use Rattle.upon_language.specs.Shown.{is_end};
 ghost use Rattle.upon_language.specs.Tokens.{is_space};
 ghost use Rattle.upon_lexer.specs.OpenTags.{mode_of, begin_of};
-ghost use Rattle.upon_lexer.specs.LexStep.{begin_after};
+ghost use Rattle.upon_language.specs.LexStep.{begin_after};
 
 use crate::compile::roles::Sort;
 use upon_types::types::{Span, Token};

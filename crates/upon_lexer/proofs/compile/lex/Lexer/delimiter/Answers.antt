@@ -5,10 +5,10 @@ use Rattle.upon_lexer.specs.Roles.{sort_of}
 use Rattle.upon_lexer.specs.Reasons.{reason_of}
 use Rattle.upon_lexer.specs.declared.compile.fault.SyntaxFault.TheVariants.{UnexpectedEnd}
 use Rattle.upon_lexer.specs.OpenTags.{begin_of}
-use Rattle.upon_lexer.specs.LexStep.{IsWrong}
+use Rattle.upon_language.specs.LexStep.{IsWrong}
 use Rattle.upon_lexer.specs.Lexers.{lexer_text, lexer_delimiters, lexer_state}
 use Rattle.upon_lexer.proofs.OpenModes.{awaited_of}
-use Rattle.upon_lexer.proofs.LexFaults.{wrong_begin, wrong_end}
+use Rattle.upon_language.proofs.Places.LexFaults.{wrong_begin, wrong_end}
 use Rattle.upon_lexer.proofs.compile.lex.Lexer.delimiter.Goals as goal
 
 pub returns-in-Some-clause-wrong_span : goal.returns-in-Some-clause-wrong_span

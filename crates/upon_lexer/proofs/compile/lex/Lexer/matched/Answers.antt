@@ -5,9 +5,9 @@ use Rattle.upon_language.specs.Faults.{span_of, closes_first}
 use Rattle.upon_lexer.specs.Brackets.{close_token}
 use Rattle.upon_lexer.specs.Reasons.{reason_of}
 use Rattle.upon_lexer.specs.declared.compile.fault.SyntaxFault.TheVariants.{UnexpectedClose}
-use Rattle.upon_lexer.specs.LexStep.{IsWrong}
+use Rattle.upon_language.specs.LexStep.{IsWrong}
 use Rattle.upon_lexer.specs.Lexers.{lexer_text, lexer_delimiters, lexer_state}
-use Rattle.upon_lexer.proofs.LexFaults.{wrong_close}
+use Rattle.upon_language.proofs.Places.LexFaults.{wrong_close}
 use Rattle.upon_lexer.proofs.OpenBrackets.{is_closing}
 use Rattle.upon_lexer.proofs.compile.lex.Lexer.matched.Goals as goal
 

@@ -1,5 +1,5 @@
 use Rattle.upon_lexer.specs.Searcher.{searcher_delimiters}
-use Rattle.upon_lexer.specs.Longest.{BestBelow}
+use Rattle.upon_language.specs.Longest.{BestBelow}
 use Rattle.upon_lexer.proofs.compile.search.Searcher.longest_at.Given as goal
 
 abbrev pub invariant-loop-i : goal.invariant-loop-i

@@ -8,13 +8,13 @@ use Rattle.upon_language.specs.Search.{DelimiterText, NoneAt, IsBestDelimiter}
 use Rattle.upon_language.specs.Delimiters.{Sort, begin_sort, end_sort, has_hyphen, begin_token, end_token}
 use Rattle.upon_language.specs.Cut.{Lexeme, Mode, outside, in_tag, in_comment}
 use Rattle.upon_language.specs.Inside.{IsInside}
-use Rattle.upon_lexer.specs.InsideStart.{NoInside}
+use Rattle.upon_language.specs.InsideStart.{NoInside}
 use Rattle.upon_language.specs.Reading.{first_span, open_tag}
 use Rattle.upon_language.specs.Faults.{awaited_sort, span_of, is_close, closes_first}
 use Rattle.upon_language.specs.FirstFault.{SyntaxFault, unexpected_end, unclosed_tag, unclosed_bracket, unexpected_close, unexpected_character, undelimited_string, Holds}
 use Rattle.upon_language.specs.CutFaults.{ends_cutting}
 use Rattle.upon_language.specs.Lexing.{LexerState, HasRead, begin_in}
-use Rattle.upon_lexer.specs.LexStep.{IsWrong}
+use Rattle.upon_language.specs.LexStep.{IsWrong}
 
 begun_in : (mode : Mode) (sort : Sort) (ls : List Lexeme) → awaited_sort mode ≡ Some sort → begin_in mode ls ≡ first_span (open_tag ls)
 begun_in outside sort ls e = absurd (cc)

@@ -1,7 +1,7 @@
 -- The best delimiter among the first of a list, when one more of the list is looked at.
 use Rattle.std.proofs.Common.{ℕ, ◌+◌, ◌<◌, ◌≤◌, List, length, arith, below_more, Option, Some, None}
 use Rattle.upon_language.specs.Search.{DelimiterText, text_at, Occurs, NoneBelow, IsBestBelow}
-use Rattle.upon_lexer.specs.Longest.{BestBelow}
+use Rattle.upon_language.specs.Longest.{BestBelow}
 
 module _ (delimiters : List DelimiterText) (s : List ℕ) (p n : ℕ) where
   same_best : (i : ℕ) → IsBestBelow n delimiters s p i → (Occurs s p (text_at delimiters n) → length (text_at delimiters n) ≤ length (text_at delimiters i)) → IsBestBelow (n + 1) delimiters s p i

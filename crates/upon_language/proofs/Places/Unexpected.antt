@@ -3,8 +3,8 @@ use Rattle.std.proofs.Common.{◌≡◌, ℕ, ◌+◌, ◌∷◌, [], List, Bool
 use Rattle.upon_types.specs.declared.types.Span.{Span}
 use Rattle.upon_language.specs.Search.{Occurs}
 use Rattle.upon_language.specs.Faults.{span_of, BeginsNoToken, EndsQuestion}
-use Rattle.upon_lexer.specs.InsideStart.{NoInside}
-use Rattle.upon_lexer.proofs.Bytes.{byte_as_char, others_of}
+use Rattle.upon_language.specs.InsideStart.{NoInside}
+use Rattle.upon_language.proofs.Places.Bytes.{byte_as_char, others_of}
 
 pub same_span : (place : Span) (m n : ℕ) → place.m ≡ m → place.n ≡ n → place ≡ span_of m n
 same_span place m n start end = λ i. record { m = start i; n = end i }

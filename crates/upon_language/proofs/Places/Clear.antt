@@ -19,7 +19,7 @@ use Rattle.upon_language.specs.FirstFault.{SyntaxFault, unexpected_end, unclosed
 use Rattle.upon_language.specs.CutFaults.{ends_cutting, NoCutFault, ClearTo}
 use Rattle.upon_language.proofs.NoTreeWithFault.Cut.{no_step_at_end, no_step_at_begin, no_step_at_character, no_step_at_quote}
 use Rattle.upon_language.specs.Lexing.{LexerState, HasRead}
-use Rattle.upon_lexer.specs.LexStep.{IsNext, Fits}
+use Rattle.upon_language.specs.LexStep.{IsNext, Fits}
 
 -- the text reads to the point of each such fault
 pub reads_of : (delimiters : List DelimiterText) (s : List ℕ) (row : SyntaxFault) (p : ℕ) (place : Span) (reason : List ℕ) → ends_cutting row ≡ true → Holds delimiters s row p place reason → (ls : List Lexeme) × (mode : Mode) × ReadsTo delimiters s ls mode p

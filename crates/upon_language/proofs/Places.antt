@@ -1,0 +1,9 @@
+pub mod Bytes
+pub mod Listed
+pub mod Runs
+pub mod Names
+pub mod KindsBy
+pub mod Strings
+pub mod Unexpected
+pub mod Clear
+pub mod LexFaults
