@@ -1,4 +1,3 @@
-pub mod Tests
 pub mod TokenTests
 pub mod CutTests
 pub mod InnerTests
@@ -14,4 +13,6 @@ pub mod NoNumber
 pub mod NoCut
 pub mod TagRows
 pub mod Computing
+pub mod FirstFaultTests
+pub mod Tests
 pub mod DefaultTexts

@@ -9,3 +9,4 @@ pub mod NoTree
 pub mod Faults
 pub mod TokenFaults
 pub mod ShortTrees
+pub mod FirstFaults

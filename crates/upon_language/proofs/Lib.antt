@@ -1,3 +1,8 @@
+pub mod Offsets
+pub mod Wanted
+pub mod Totality
+pub mod RawText
+pub mod Spans
 pub mod OneCut
 pub mod FirstStage
 pub mod OneFirstFault
@@ -7,4 +12,3 @@ pub mod NoTreeWithFault
 pub mod GivenTokens
 pub mod Computation
 pub mod Examples
-pub mod Places

@@ -37,7 +37,7 @@ abbrev pub closer_by : List ℕ → List ℕ → List Lexeme → Option Closer
 closer_by s word ls = if bytes_eq word (codes "else") then Some (else_by s ls) else
     (if bytes_eq word (codes "endif") then Some end_if
     else (if bytes_eq word (codes "endfor") then Some end_for else
-        (if bytes_eq word (codes "endwith") then Some end_with else None)))
+    (if bytes_eq word (codes "endwith") then Some end_with else None)))
 
 -- the closing tag that a tag's tokens are
 abbrev pub closer_of : List ℕ → List Lexeme → Option Closer
@@ -97,7 +97,7 @@ abbrev pub by_word : List ℕ → Span → List ℕ → List Lexeme → List Ope
 by_word s begin word ls stack = if bytes_eq word (codes "if") then open_block if_block begin ls stack else
     (if bytes_eq word (codes "for") then open_block for_block begin ls stack
     else (if bytes_eq word (codes "with") then open_block with_block begin ls stack else by_closer
-        (closer_by s word ls) stack))
+    (closer_by s word ls) stack))
 
 -- the open blocks after the tag that begins here
 abbrev pub at_begin : List ℕ → Span → List Lexeme → List OpenBlock → List OpenBlock

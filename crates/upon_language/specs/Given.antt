@@ -15,7 +15,7 @@ EachGiven delimiters s mode trims [] (g ∷ gs) = ⊥
 EachGiven delimiters s mode trims (l ∷ ls) [] = ⊥
 EachGiven delimiters s mode trims (l ∷ ls) (g ∷ gs) =
     (l.token ≡ g.0) × IsGiven delimiters s mode trims l.token l.span g.1 × EachGiven delimiters s
-        (mode_after mode l.token) (is_end l.token && l.hyphen) ls gs
+    (mode_after mode l.token) (is_end l.token && l.hyphen) ls gs
 
 -- the tokens with their shown spans
 abbrev pub shown_tokens : List ℕ → Bool → List Lexeme → List (Token × Span)

@@ -67,11 +67,17 @@ start_from (Some l) p = elim l.token [ Minus ↦ l.span.m | Plus ↦ l.span.m | 
 abbrev pub number_report_of : List ℕ → ℕ → ℕ → ℕ → Option NumberFault → Option Report
 number_report_of base start p n None = None
 number_report_of base start p n (Some (bad_digit i)) = Some
-    (record { span = span_of (p + i) (p + i + 1); reason = codes "invalid digit for base " ++
-    (base ++ codes " literal") })
+    (record {
+      span = span_of (p + i) (p + i + 1);
+      reason = codes "invalid digit for base " ++
+          (base ++ codes " literal");
+    })
 number_report_of base start p n (Some too_large) = Some
-    (record { span = span_of start n; reason = codes "base " ++
-    (base ++ codes " literal out of range for 64-bit integer") })
+    (record {
+      span = span_of start n;
+      reason = codes "base " ++
+          (base ++ codes " literal out of range for 64-bit integer");
+    })
 
 -- the report of a number that stands for no integer, where it is wrong
 abbrev pub number_report : List ℕ → Option Lexeme → ℕ → ℕ → Option Report

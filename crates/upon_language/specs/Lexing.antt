@@ -81,7 +81,7 @@ OpensBracket delimiters s left = (t : Token) × (hyphen : Bool) × (to : ℕ)
 abbrev pub IsCutError : List DelimiterText → List ℕ → LexerState → Error → Type 0
 IsCutError delimiters s left e =
     ((span : Span) × (reason : List ℕ) × IsFirstCutFault delimiters s left.offset span reason × OrMemory
-        (fault_with_picture s (bare_fault syntax (Some reason) (Some span))) (fault_of e))
+    (fault_with_picture s (bare_fault syntax (Some reason) (Some span))) (fault_of e))
     ⊎ (OpensBracket delimiters s left × (fault_of e ≡ out_of_memory))
 
 -- What a call gives to one who knows the tokens before: the next token, or that the text is at its end and no fault
@@ -90,7 +90,7 @@ abbrev pub Lexes : List DelimiterText → List ℕ → LexerState → List Lexem
     → LexerState → Type 0
 Lexes delimiters s before ls (Ok (Some given)) after =
     (l : Lexeme) × (l.token ≡ given.0) × IsGiven delimiters s before.mode before.trims l.token l.span given.1
-        × HasRead delimiters s after (ls ++ l ∷ [])
+    × HasRead delimiters s after (ls ++ l ∷ [])
 Lexes delimiters s before ls (Ok None) after = (before.offset ≡ length s) × ((q : ℕ) → NoCutFault delimiters s q)
     × HasRead delimiters s after ls
 Lexes delimiters s before ls (Err e) after = IsCutError delimiters s before e

@@ -12,8 +12,13 @@ pub mod Expressions
 pub mod Grammar
 pub mod Reading
 pub mod Tags
+pub mod Keys
+pub mod Parts
+pub mod PartTails
+pub mod PartLeads
 pub mod Blocks
 pub mod Wanted
+pub mod LiteralWords
 pub mod Faults
 pub mod LiteralFaults
 pub mod LaterFaults
@@ -25,4 +30,5 @@ pub mod InsideStart
 pub mod LexStep
 pub mod Longest
 pub mod LiesIn
+pub mod SpansLieIn
 pub mod FirstStage

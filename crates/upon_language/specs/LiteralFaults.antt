@@ -24,7 +24,7 @@ digit_fault base limit value offset [] = None
 digit_fault base limit value offset (b ∷ bs) = if b == underscore then digit_fault base limit value (offset + 1) bs
     else (if nat_lt (digit_value b) base
     then (if nat_lt limit (value * base + digit_value b) then Some too_large else digit_fault base limit
-        (value * base + digit_value b) (offset + 1) bs)
+    (value * base + digit_value b) (offset + 1) bs)
     else Some (bad_digit offset))
 
 -- what is wrong with a number's text, where something is
@@ -50,5 +50,8 @@ abbrev pub escape_fault : ℕ → List Piece → Option (ℕ × ℕ)
 escape_fault offset [] = None
 escape_fault offset (plain c ∷ pieces) = escape_fault (offset + length (encode_utf8 c)) pieces
 escape_fault offset (escape c ∷ pieces) = elim
-    (escape_value c) [ None ↦ Some (offset + 1, length (encode_utf8 c)) | Some text ↦ escape_fault
-    (offset + 1 + length (encode_utf8 c)) pieces ]
+    (escape_value c) [
+      | None ↦ Some (offset + 1, length (encode_utf8 c))
+      | Some text ↦ escape_fault
+          (offset + 1 + length (encode_utf8 c)) pieces
+    ]

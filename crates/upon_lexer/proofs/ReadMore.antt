@@ -12,11 +12,7 @@ use Rattle.upon_language.specs.Lexing.{LexerState, HasRead, begin_in, brackets_i
 use Rattle.upon_language.specs.LexStep.{IsNext, Fits, begin_after, state_after}
 use Rattle.upon_language.specs.CutFaults.{ClearTo}
 use Rattle.upon_language.proofs.OneCut.Cut.{cut_more}
-
-pub last_more : (ls : List Lexeme) (l : Lexeme) → last_of (ls ++ l ∷ []) ≡ Some l
-last_more [] l = refl
-last_more (a ∷ []) l = refl
-last_more (a ∷ b ∷ ls) l = last_more (b ∷ ls) l
+use Rattle.upon_language.proofs.Totality.InsideClear.{last_more}
 
 if_more : (b o : Bool) (l : Lexeme) (x y x' y' : List Lexeme) → x ≡ (if o then l ∷ [] else (x' ++ l ∷ [])) → y ≡ (if o then l ∷ [] else (y' ++ l ∷ [])) → (if b then x else y) ≡ (if o then l ∷ [] else ((if b then x' else y') ++ l ∷ []))
 if_more true o l x y x' y' p q = p

@@ -2,4 +2,5 @@
 #![tactic(auto)]
 
 pub mod compile;
+pub mod laws;
 pub mod types;

@@ -1,2 +1,4 @@
 pub mod Steps
 pub mod Parsed
+pub mod Literals
+pub mod Wants

@@ -4,4 +4,5 @@
 pub mod compile;
 
 pub use upon_language::laws;
+pub use upon_lexer::laws as default_laws;
 pub use upon_lexer::types;

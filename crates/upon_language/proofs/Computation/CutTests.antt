@@ -3,10 +3,7 @@ use Rattle.std.proofs.Common.{◌≡◌, ◌⊎◌, inl, inr, ℕ, zero, suc, �
 use Rattle.upon_types.specs.declared.types.Delimiter.{Delimiter}
 use Rattle.upon_language.specs.Search.{DelimiterText, text_at, kind_at, NoneFrom, IsBestDelimiter}
 use Rattle.upon_language.specs.Raw.{IsRaw}
-use Rattle.upon_language.proofs.Computation.Tests.{left_true, right_true, each_below, each_below_passes, none_test, none_tested, best_test, best_tested}
-
-pub same_number : (a b : ℕ) → (a == b) ≡ true → a ≡ b
-same_number a b h = grind (arith, h)
+use Rattle.upon_language.proofs.Computation.Tests.{same_number, left_true, right_true, each_below, each_below_passes, none_test, none_tested, best_test, best_tested}
 
 -- the number of the best delimiter at p
 abbrev pub found_below : ℕ → (ℕ → Bool) → Option ℕ

@@ -13,7 +13,7 @@ use Rattle.upon_language.specs.Inside.{token_kind, continues_number, Piece, plai
 use Rattle.upon_language.proofs.OneCut.Run.{one_char, char_has_bytes}
 use Rattle.upon_language.proofs.Computation.Tests.{left_true, right_true, occurs_test, occurs_tested, none_test, none_tested}
 use Rattle.upon_language.proofs.Computation.TokenTests.{is_token, is_token_tested}
-use Rattle.upon_language.proofs.Computation.CutTests.{same_number}
+use Rattle.upon_language.proofs.Computation.Tests.{same_number}
 
 -- whether characters are from m to n, each passes, and the next, if there is one, does not
 abbrev pub stand_test : List ℕ → ℕ → ℕ → List ℕ → Bool

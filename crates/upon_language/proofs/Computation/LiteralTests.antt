@@ -7,7 +7,7 @@ use Rattle.std.specs.Int.{w64}
 use Rattle.std.specs.Ordering.{int_eq}
 use Rattle.upon_language.specs.Literal.{sum_of_digits, digits_in, base_and_digits, with_sign, IsInteger, IsIndex, text_of_pieces, IsText}
 use Rattle.upon_language.proofs.Computation.Tests.{left_true, right_true, occurs_tested}
-use Rattle.upon_language.proofs.Computation.CutTests.{same_number}
+use Rattle.upon_language.proofs.Computation.Tests.{same_number}
 use Rattle.upon_language.proofs.Computation.InnerTests.{each_piece, quoted_by, pieces_between}
 
 pub one_text : (a b : List ℕ) → bytes_eq a b ≡ true → a ≡ b

@@ -13,7 +13,8 @@ use Rattle.upon_language.proofs.OneCut.Delimiter.{one_stands, not_bare}
 use Rattle.upon_language.proofs.OneCut.Raw.{raw_is_no_delimiter}
 use Rattle.upon_language.proofs.OneCut.Cut.{NoStep, no_cut_inside, no_cut}
 use Rattle.upon_language.proofs.Computation.Tests.{left_true, right_true}
-use Rattle.upon_language.proofs.Computation.CutTests.{same_number, stands_test, stands_tested}
+use Rattle.upon_language.proofs.Computation.Tests.{same_number}
+use Rattle.upon_language.proofs.Computation.CutTests.{stands_test, stands_tested}
 use Rattle.upon_language.proofs.Computation.TokenTests.{is_sort}
 use Rattle.upon_language.proofs.Computation.InnerTests.{not_false}
 use Rattle.upon_language.proofs.Computation.WholeCut.{step_test, step_tested, is_outside}

@@ -6,7 +6,7 @@ use Rattle.upon_types.specs.Path.{Member}
 use Rattle.upon_types.specs.Expression.{Expression, base, filtered, Base, var, literal, list, mapping, paren, call, Bases, no_bases, base_then, Items, no_items, item_then, Arguments, no_arguments, arguments, expression_span}
 use Rattle.upon_language.specs.Cut.{Lexeme}
 use Rattle.upon_language.specs.Expressions.{IsBareName, IsMember, last_end, filter_end, IsBase, IsListBody, IsListTail, IsMapBody, IsMapTail, IsCallBody, IsArgs, IsMoreArgs, IsExpression, IsFilterArgs}
-use Rattle.upon_language.proofs.Computation.CutTests.{same_number}
+use Rattle.upon_language.proofs.Computation.Tests.{same_number}
 use Rattle.upon_language.proofs.Computation.ReadTokens.{Left, then_read, when, or_read, both_read, read_when, one_read, first_span, same_span, one_span, read_by, goes_read, by_read, read_name, read_text, name_read, text_read}
 use Rattle.upon_language.proofs.Computation.ReadParts.{read_step, step_read, read_bare, bare_read, read_steps, steps_read, read_literal, literal_read, read_opens, read_closes, read_closes_list, opens_read, closes_read, closes_list_read}
 

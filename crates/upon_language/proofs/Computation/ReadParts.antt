@@ -12,7 +12,7 @@ use Rattle.upon_language.specs.Cut.{Lexeme}
 use Rattle.upon_language.specs.Tokens.{from_to}
 use Rattle.upon_language.specs.Expressions.{op_token, sign_token, IsAccess, IsMember, IsBareName, AreMembers, IsUnsigned, IsSigned, IsLiteral, Opens, Closes, ClosesList}
 use Rattle.upon_language.proofs.Computation.Tests.{left_true, right_true}
-use Rattle.upon_language.proofs.Computation.CutTests.{same_number}
+use Rattle.upon_language.proofs.Computation.Tests.{same_number}
 use Rattle.upon_language.proofs.Computation.LiteralTests.{integer_test, integer_tested, index_test, index_tested}
 use Rattle.upon_language.proofs.Computation.ReadTokens.{Left, then_read, when, or_read, both_read, read_when, one_read, first_span, same_span, one_span, read_by, read_at, goes_read, by_read, at_read, read_word, read_name, read_text, word_read, name_read, text_read}
 

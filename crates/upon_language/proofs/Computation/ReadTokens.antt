@@ -9,7 +9,7 @@ use Rattle.upon_language.specs.Cut.{Lexeme}
 use Rattle.upon_language.specs.Tokens.{Goes, GoesBy, GoesWord, GoesKeyword, GoesName, GoesText}
 use Rattle.upon_language.proofs.Computation.Tests.{left_true, right_true}
 use Rattle.upon_language.proofs.Computation.TokenTests.{same_token, one_token}
-use Rattle.upon_language.proofs.Computation.CutTests.{same_number}
+use Rattle.upon_language.proofs.Computation.Tests.{same_number}
 use Rattle.upon_language.proofs.Computation.LiteralTests.{one_text, text_test, text_tested}
 
 -- what a reading leaves, where it reads

@@ -8,7 +8,8 @@ use Rattle.upon_language.specs.Delimiters.{Sort, expression, block, comment, beg
 use Rattle.upon_language.specs.Cut.{Lexeme, Mode, outside, in_tag, in_comment, Begins, Ends, IsRawToken, IsToken, mode_after, Cut}
 use Rattle.upon_language.proofs.Computation.Tests.{left_true, right_true}
 use Rattle.upon_language.proofs.Computation.TokenTests.{is_sort, is_sort_tested, same_bool, one_bool, same_token, one_token}
-use Rattle.upon_language.proofs.Computation.CutTests.{same_number, stands_test, stands_tested, raw_test, raw_tested}
+use Rattle.upon_language.proofs.Computation.Tests.{same_number}
+use Rattle.upon_language.proofs.Computation.CutTests.{stands_test, stands_tested, raw_test, raw_tested}
 use Rattle.upon_language.proofs.Computation.InnerTests.{inner_test, inner_tested}
 
 abbrev pub begins_by : Sort → Bool → Delimiter → Bool

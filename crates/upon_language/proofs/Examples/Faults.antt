@@ -16,7 +16,7 @@ use Rattle.upon_language.specs.Tags.{an_endif}
 use Rattle.upon_language.proofs.Examples.ShortTrees.{at, lex}
 
 -- `}}`: an end outside tags
-end_outside : Holds default_delimiters (codes "}}") unexpected_end 0 (at 0 2) (codes "unexpected end expression")
+pub end_outside : Holds default_delimiters (codes "}}") unexpected_end 0 (at 0 2) (codes "unexpected end expression")
 unfolding computing
 end_outside = record {
   lexemes = [];
@@ -32,7 +32,7 @@ end_outside = record {
 }
 
 -- `{#}`: the comment does not end
-open_comment : Holds default_delimiters (codes "{#}") comment_eof 3 (at 3 3) (codes "expected end comment, found EOF")
+pub open_comment : Holds default_delimiters (codes "{#}") comment_eof 3 (at 3 3) (codes "expected end comment, found EOF")
 unfolding computing
 open_comment = record {
   lexemes = lex BeginComment 0 2 ∷ lex Raw 2 3 ∷ [];
@@ -43,7 +43,7 @@ open_comment = record {
 }
 
 -- `{##}`: the comment is empty
-nothing_in_comment : Holds default_delimiters (codes "{##}") empty_comment 2 (at 2 4) (codes "expected raw template, found end comment")
+pub nothing_in_comment : Holds default_delimiters (codes "{##}") empty_comment 2 (at 2 4) (codes "expected raw template, found end comment")
 unfolding computing
 nothing_in_comment = record {
   lexemes = lex BeginComment 0 2 ∷ [];
@@ -57,7 +57,7 @@ nothing_in_comment = record {
 }
 
 -- `{{ [ {{`: a tag begins in a tag
-tag_in_tag : Holds default_delimiters (codes "{{ [ {{") unclosed_tag 5 (at 0 2) (codes "unclosed begin expression")
+pub tag_in_tag : Holds default_delimiters (codes "{{ [ {{") unclosed_tag 5 (at 0 2) (codes "unclosed begin expression")
 unfolding computing
 tag_in_tag = record {
   lexemes = lex BeginExpr 0 2 ∷ lex Whitespace 2 3 ∷ lex OpenBracket 3 4 ∷ lex Whitespace 4 5 ∷ [];
@@ -74,7 +74,7 @@ tag_in_tag = record {
 }
 
 -- `{{ [1, }}`: the bracket is open where the tag ends
-open_bracket : Holds default_delimiters (codes "{{ [1, }}") unclosed_bracket 7 (at 3 4) (codes "unclosed open bracket")
+pub open_bracket : Holds default_delimiters (codes "{{ [1, }}") unclosed_bracket 7 (at 3 4) (codes "unclosed open bracket")
 unfolding computing
 open_bracket = record {
   lexemes = lex BeginExpr 0 2 ∷ lex Whitespace 2 3 ∷ lex OpenBracket 3 4 ∷ lex Number 4 5 ∷ lex Comma 5 6 ∷ lex Whitespace 6 7 ∷ [];
@@ -92,7 +92,7 @@ open_bracket = record {
 }
 
 -- `{{ a ) }}`: no bracket is open that this one closes
-stray_close : Holds default_delimiters (codes "{{ a ) }}") unexpected_close 5 (at 5 6) (codes "unexpected close parenthesis")
+pub stray_close : Holds default_delimiters (codes "{{ a ) }}") unexpected_close 5 (at 5 6) (codes "unexpected close parenthesis")
 unfolding computing
 stray_close = record {
   lexemes = lex BeginExpr 0 2 ∷ lex Whitespace 2 3 ∷ lex Ident 3 4 ∷ lex Whitespace 4 5 ∷ [];
@@ -109,7 +109,7 @@ stray_close = record {
 }
 
 -- `{% if a %}`: the block is open where the text ends
-open_block : Holds default_delimiters (codes "{% if a %}") unclosed_block 10 (at 0 10) (codes "unclosed `if` block")
+pub open_block : Holds default_delimiters (codes "{% if a %}") unclosed_block 10 (at 0 10) (codes "unclosed `if` block")
 unfolding computing
 open_block = record {
   lexemes = lex BeginBlock 0 2 ∷ lex Whitespace 2 3 ∷ lex Keyword 3 5 ∷ lex Whitespace 5 6 ∷ lex Ident 6 7 ∷ lex Whitespace 7 8 ∷ lex EndBlock 8 10 ∷ [];
@@ -122,7 +122,7 @@ open_block = record {
 }
 
 -- `{{ a @ }}`: no token begins so
-strange_character : Holds default_delimiters (codes "{{ a @ }}") unexpected_character 5 (at 5 6) (codes "unexpected character")
+pub strange_character : Holds default_delimiters (codes "{{ a @ }}") unexpected_character 5 (at 5 6) (codes "unexpected character")
 unfolding computing
 strange_character = record {
   lexemes = lex BeginExpr 0 2 ∷ lex Whitespace 2 3 ∷ lex Ident 3 4 ∷ lex Whitespace 4 5 ∷ [];
@@ -139,7 +139,7 @@ strange_character = record {
 }
 
 -- `{% endif %}`: no block is open
-stray_endif : Holds default_delimiters (codes "{% endif %}") unexpected_block 9 (at 0 11) (codes "unexpected `endif` block")
+pub stray_endif : Holds default_delimiters (codes "{% endif %}") unexpected_block 9 (at 0 11) (codes "unexpected `endif` block")
 unfolding computing
 stray_endif = record {
   lexemes = lex BeginBlock 0 2 ∷ lex Whitespace 2 3 ∷ lex Keyword 3 8 ∷ lex Whitespace 8 9 ∷ [];

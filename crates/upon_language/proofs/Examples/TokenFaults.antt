@@ -22,7 +22,7 @@ use Rattle.upon_language.specs.Inside.{Piece, plain, pieces_text, ends_line}
 use Rattle.upon_language.proofs.Computation.NoCut.{reads_to}
 
 -- `{{ 0b2 x }}`: the digit is none of the base
-wrong_digit : Holds default_delimiters (codes "{{ 0b2 x }}") wrong_number 3 (at 5 6) (codes "invalid digit for base 2 literal")
+pub wrong_digit : Holds default_delimiters (codes "{{ 0b2 x }}") wrong_number 3 (at 5 6) (codes "invalid digit for base 2 literal")
 unfolding computing digits
 wrong_digit = record {
   lexemes = lex BeginExpr 0 2 ∷ lex Whitespace 2 3 ∷ [];
@@ -36,7 +36,7 @@ wrong_digit = record {
 }
 
 -- `{{ a.18446744073709551616 }}`: no index is as large
-large_index : Holds default_delimiters (codes "{{ a.18446744073709551616 }}") wrong_index 5 (at 5 25) (codes "base 10 literal out of range for unsigned 64-bit integer")
+pub large_index : Holds default_delimiters (codes "{{ a.18446744073709551616 }}") wrong_index 5 (at 5 25) (codes "base 10 literal out of range for unsigned 64-bit integer")
 unfolding computing
 large_index = record {
   lexemes = lex BeginExpr 0 2 ∷ lex Whitespace 2 3 ∷ lex Ident 3 4 ∷ lex Dot 4 5 ∷ [];
@@ -52,7 +52,7 @@ large_index = record {
 }
 
 -- `{{ "\q" }}`: the escape is none of the five
-strange_escape : Holds default_delimiters (codes "{{ \"\\q\" }}") wrong_escape 3 (at 5 6) (codes "unknown escape character")
+pub strange_escape : Holds default_delimiters (codes "{{ \"\\q\" }}") wrong_escape 3 (at 5 6) (codes "unknown escape character")
 unfolding computing
 strange_escape = record {
   lexemes = lex BeginExpr 0 2 ∷ lex Whitespace 2 3 ∷ [];
@@ -71,7 +71,7 @@ strange_escape = record {
 }
 
 -- `{{ :`: an expression is wanted
-colon_first : Holds default_delimiters (codes "{{ :") unexpected_token 3 (at 3 4) (codes "expected expression, found colon")
+pub colon_first : Holds default_delimiters (codes "{{ :") unexpected_token 3 (at 3 4) (codes "expected expression, found colon")
 unfolding computing
 colon_first = record {
   lexemes = lex BeginExpr 0 2 ∷ lex Whitespace 2 3 ∷ [];
@@ -91,7 +91,7 @@ colon_first = record {
 }
 
 -- `{{`: the text ends where an expression is wanted
-end_in_tag : Holds default_delimiters (codes "{{") unexpected_eof 2 (at 2 2) (codes "expected token, found EOF")
+pub end_in_tag : Holds default_delimiters (codes "{{") unexpected_eof 2 (at 2 2) (codes "expected token, found EOF")
 unfolding computing
 end_in_tag = record {
   lexemes = lex BeginExpr 0 2 ∷ [];
@@ -127,7 +127,7 @@ line_goes_on (suc (suc (suc (suc zero)))) l h = refl
 line_goes_on (suc (suc (suc (suc (suc q))))) l h = absurd (omega (arith, h))
 
 -- `{{ "a`: the quote begins no string
-open_text : Holds default_delimiters (codes "{{ \"a") undelimited_string 3 (at 3 5) (codes "undelimited string")
+pub open_text : Holds default_delimiters (codes "{{ \"a") undelimited_string 3 (at 3 5) (codes "undelimited string")
 unfolding computing
 open_text = record {
   lexemes = lex BeginExpr 0 2 ∷ lex Whitespace 2 3 ∷ [];

@@ -1,5 +1,5 @@
 -- Every span in a tree that a UTF-8 text has lies in the text, on character boundaries.
-use Rattle.std.proofs.Common.{◌≡◌, ℕ, ◌<◌, inl, inr, Bool, List, [], ◌∷◌, ◌++◌, length, drop, encode_utf8, encode_utf8_all, arith, sym, ap, ◌∙◌, subst, append_assoc}
+use Rattle.std.proofs.Common.{◌≡◌, ℕ, inl, inr, Bool, List, [], ◌∷◌, ◌++◌, length, drop, encode_utf8, encode_utf8_all, arith, sym, ap, ◌∙◌, subst, append_assoc}
 use Rattle.std.proofs.Props.{props}
 use Rattle.std.specs.Str.{IsUtf8, IsCharBoundary}
 use Rattle.std.proofs.lemmas.Str.{IsUtf8-drop, IsUtf8-past_char, IsCharBoundary-from_drop, IsCharBoundary-start, IsCharBoundary-end}

@@ -45,7 +45,7 @@ if_not false x y e = refl
 not_told : (text : List ℕ) (before : Option Lexeme) (p n : ℕ) → is_float text ≡ false → number_fault (minus_before before) text ≡ None → number_report text before p n ≡ None
 not_told text before p n float none = if_not (is_float text) _ _ float ∙ ap (λ x. number_report_of (base_text text) (start_from before p) p n x) none
 
-nothing_is_told : (o : Option Report) (t : Report) → o ≡ None → o ≡ Some t → ⊥
+pub nothing_is_told : (o : Option Report) (t : Report) → o ≡ None → o ≡ Some t → ⊥
 nothing_is_told o t e h = cc
 
 some_length : (back : List Lexeme) → 0 < suc (length back)

@@ -46,7 +46,7 @@ value_within : (v p sum limit : ℕ) → 1 ≤ p → v * p + sum ≤ limit → v
 value_within v zero sum limit one h = absurd (omega (arith, one))
 value_within v (suc p) sum limit one h = grind (arith, h)
 
-no_digit_fault : (base limit value offset : ℕ) (bs ds : List ℕ) → 1 ≤ base → digits_in base bs ≡ Some ds → value * base ^ length ds + sum_of_digits base ds ≤ limit → digit_fault base limit value offset bs ≡ None
+pub no_digit_fault : (base limit value offset : ℕ) (bs ds : List ℕ) → 1 ≤ base → digits_in base bs ≡ Some ds → value * base ^ length ds + sum_of_digits base ds ≤ limit → digit_fault base limit value offset bs ≡ None
 no_digit_fault base limit value offset [] ds big e l = refl
 no_digit_fault base limit value offset (b ∷ bs) ds big e l = elim (first_digit base b bs ds e) [
   | inl here ↦ if_true (b == 95) _ _ here.0 (no_digit_fault base limit value (offset + 1) bs ds big here.1 l)

@@ -48,7 +48,7 @@ begin_begins expression h = refl
 begin_begins block h = refl
 begin_begins comment h = absurd cc
 
-inside_ends_nothing : (t : Token) → is_inside t ≡ true → ends_a_tag t ≡ false
+pub inside_ends_nothing : (t : Token) → is_inside t ≡ true → ends_a_tag t ≡ false
 inside_ends_nothing EndExpr h = absurd cc
 inside_ends_nothing EndBlock h = absurd cc
 inside_ends_nothing t h = refl

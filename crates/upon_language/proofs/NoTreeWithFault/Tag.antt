@@ -26,7 +26,7 @@ comment_by_extent : (s : List ℕ) (t : Token) (m n : ℕ) → Extent s t m n �
 comment_by_extent s BeginComment m n h = absurd h
 comment_by_extent s t m n h = refl
 
-end_is_no_raw : (sort : Sort) → is_raw (end_token sort) ≡ false
+pub end_is_no_raw : (sort : Sort) → is_raw (end_token sort) ≡ false
 end_is_no_raw expression = refl
 end_is_no_raw block = refl
 end_is_no_raw comment = refl

@@ -71,10 +71,10 @@ module _ (s : List ℕ) where
   pub walks_nothing : (a : List OpenBlock) (ts rest : List Lexeme) → ts ≡ rest → Walks s a ts a rest
   walks_nothing a ts rest e = (ap (blocks_from s a) e, λ h. let F : List Lexeme → Type 0 = λ x. AllTaken s a x in subst F (sym e) h)
 
-  from_same : (a b : List OpenBlock) (ts us rest : List Lexeme) → ts ≡ us → Walks s a us b rest → Walks s a ts b rest
+  pub from_same : (a b : List OpenBlock) (ts us rest : List Lexeme) → ts ≡ us → Walks s a us b rest → Walks s a ts b rest
   from_same a b ts us rest e h = walks_then a a b ts us rest (walks_nothing a ts us e) h
 
-  walks_plain : (a : List OpenBlock) (l : Lexeme) (ls : List Lexeme) → begins_block l.token ≡ false → Walks s a (l ∷ ls) a ls
+  pub walks_plain : (a : List OpenBlock) (l : Lexeme) (ls : List Lexeme) → begins_block l.token ≡ false → Walks s a (l ∷ ls) a ls
   walks_plain a l ls h =
       let e = plain_stepped s a l.token l.span ls h in
       (ap (λ (x : List OpenBlock). blocks_from s x ls) e, λ k. (plain_taken s a l.token ls h, let F : List OpenBlock → Type 0 = λ x. AllTaken s x ls in subst F (sym e) k))
@@ -109,7 +109,7 @@ module _ (s : List ℕ) where
       let H : List OpenBlock → Type 0 = λ x. AllTaken s x (k ∷ ls) in
       (ap (λ (x : List OpenBlock). blocks_from s x (k ∷ ls)) same ∙ word_walks.0, λ h. (taken, subst H (sym same) (word_walks.1 h)))
 
-  walks_begin : (a b : List OpenBlock) (word : List ℕ) (ts rest : List Lexeme) (g : BeginsBlock s word ts rest) → Closing a (closer_by s word rest) → by_word s g.1.1.lexeme.span word rest a ≡ b → Walks s a ts b rest
+  pub walks_begin : (a b : List OpenBlock) (word : List ℕ) (ts rest : List Lexeme) (g : BeginsBlock s word ts rest) → Closing a (closer_by s word rest) → by_word s g.1.1.lexeme.span word rest a ≡ b → Walks s a ts b rest
   walks_begin a b word ts rest g c e =
       let l = g.1.1.lexeme in
       let k = g.2.1.0.lexeme in
@@ -143,7 +143,7 @@ module _ (s : List ℕ) where
   abbrev else_token : Token → Closer
   else_token t = elim t [ Keyword ↦ else_if | _ ↦ plain_else ]
 
-  else_at : (t : Token) (span : Span) (ts rest : List Lexeme) → Goes t span ts rest → else_by s ts ≡ else_token t
+  pub else_at : (t : Token) (span : Span) (ts rest : List Lexeme) → Goes t span ts rest → else_by s ts ≡ else_token t
   else_at t span ts rest g = ap (else_by s) g.is ∙ ap else_token g.of_token
 
   pub walks_plain_else : (a : List OpenBlock) (span : Span) (ts rest : List Lexeme) → IsWordTag s (codes "else") ts rest → Walks s (opening if_block false span ∷ a) ts (opening if_block true span ∷ a) rest

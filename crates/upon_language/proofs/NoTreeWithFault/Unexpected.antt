@@ -30,15 +30,15 @@ end_or_later : (begin : Span) (t : Token) (l : Lexeme) (ls ys : List Lexeme) →
 end_or_later begin EndBlock l ls ys h k = refl
 end_or_later begin t l ls ys h k = k h
 
-end_within : (begin : Span) (ls ys : List Lexeme) → has_end ls ≡ true → end_from begin (ls ++ ys) ≡ end_from begin ls
+pub end_within : (begin : Span) (ls ys : List Lexeme) → has_end ls ≡ true → end_from begin (ls ++ ys) ≡ end_from begin ls
 end_within begin [] ys h = absurd cc
 end_within begin (l ∷ ls) ys h = end_or_later begin l.token l ls ys h (end_within begin ls ys)
 
-else_within : (s : List ℕ) (ls ys : List Lexeme) → has_end ls ≡ true → else_by s (ls ++ ys) ≡ else_by s ls
+pub else_within : (s : List ℕ) (ls ys : List Lexeme) → has_end ls ≡ true → else_by s (ls ++ ys) ≡ else_by s ls
 else_within s [] ys h = absurd cc
 else_within s (l ∷ ls) ys h = refl
 
-word_ends_nothing : (t : Token) → is_word t ≡ true → ends_block t ≡ false
+pub word_ends_nothing : (t : Token) → is_word t ≡ true → ends_block t ≡ false
 word_ends_nothing Keyword h = refl
 word_ends_nothing _ h = absurd cc
 

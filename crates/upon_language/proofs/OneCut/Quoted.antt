@@ -5,7 +5,7 @@ use Rattle.upon_language.specs.Inside.{Piece, plain, escape, is_piece, pieces_te
 use Rattle.upon_language.proofs.SpansLieIn.Offsets.{drop-Occurs, occurs_within}
 
 -- a character that begins as the byte c does is c, where c is ASCII
-is_byte : (c d : ℕ) (bs ds : List ℕ) → c < 128 → c ∷ bs ≡ encode_utf8 d ++ ds → c ≡ d
+pub is_byte : (c d : ℕ) (bs ds : List ℕ) → c < 128 → c ∷ bs ≡ encode_utf8 d ++ ds → c ≡ d
 is_byte c d bs ds low e = (encode_same c d bs ds (ap (λ x. x ++ bs) (encode_ascii c low) ∙ e)).0
 
 pub quote_is_no_piece : (c : ℕ) (bs cs : List ℕ) → is_piece (plain c) ≡ true → 34 ∷ bs ≡ encode_utf8 c ++ cs → ⊥

@@ -100,7 +100,7 @@ module _ (s : List ℕ) (text : IsUtf8 s) (m : ℕ) (start : IsCharBoundary s m)
   inner_between in_path t c n o e a = low_between c n (begins_low in_path c (start_kind t) e refl) o a
 
 module _ (delimiters : List DelimiterText) (s : List ℕ) (texts : HasTexts delimiters) (utf8 : HasUtf8 delimiters) (text : IsUtf8 s) where
-  stands_between : (kind : Delimiter) (m n : ℕ) → IsBestDelimiter delimiters s kind m n → IsCharBoundary s m × IsCharBoundary s n
+  pub stands_between : (kind : Delimiter) (m n : ℕ) → IsBestDelimiter delimiters s kind m n → IsCharBoundary s m × IsCharBoundary s n
   stands_between kind m n h =
       let lies = occurs_lies_in s m (text_at delimiters h.index) (texts h.index h.best.in_range) h.best.occurs text (utf8 h.index h.best.in_range) in
       (lies.start, subst (IsCharBoundary s) (sym h.to) lies.end)

@@ -13,6 +13,9 @@ ghost use Rattle.upon_language.specs.FirstStage.Grammar.{HasTree};
 ghost use Rattle.upon_language.specs.Raw.{IsRaw};
 ghost use Rattle.upon_syntax.specs.Steps.{FindsStatement, FindsTag, FindsName};
 
+pub mod literal;
+pub mod want;
+
 use std::alloc::{AllocError, Global};
 use upon_lexer::compile::chars::{CharClass, begins_name, char_at, is_keyword, run_end};
 use upon_lexer::compile::search::Searcher;

@@ -9,9 +9,9 @@ use Rattle.upon_language.specs.Words.{is_tag_space}
 use Rattle.upon_language.specs.Inside.{continues_number}
 use Rattle.upon_language.specs.Faults.{span_of}
 use Rattle.upon_language.proofs.SpansLieIn.Token.{char_between, low_between}
-use Rattle.upon_language.proofs.Places.KindsBy.{proper_kind, single}
-use Rattle.upon_language.proofs.Places.Runs.{some_run}
-use Rattle.upon_language.proofs.Places.Unexpected.{no_token, same_span}
+use Rattle.upon_language.proofs.Offsets.KindsBy.{proper_kind, single}
+use Rattle.upon_language.proofs.Offsets.Runs.{some_run}
+use Rattle.upon_language.proofs.Offsets.Unexpected.{no_token, same_span}
 use Rattle.upon_lexer.proofs.compile.inside.token_inside.Goals as goal
 
 pub returns-in-Some-Whitespace-clause-token : goal.returns-in-Some-Whitespace-clause-token

@@ -8,7 +8,7 @@ use Rattle.upon_lexer.specs.OpenTags.{begin_of}
 use Rattle.upon_language.specs.LexStep.{IsWrong}
 use Rattle.upon_lexer.specs.Lexers.{lexer_text, lexer_delimiters, lexer_state}
 use Rattle.upon_lexer.proofs.OpenModes.{awaited_of}
-use Rattle.upon_language.proofs.Places.LexFaults.{wrong_begin, wrong_end}
+use Rattle.upon_language.proofs.Offsets.LexFaults.{wrong_begin, wrong_end}
 use Rattle.upon_lexer.proofs.compile.lex.Lexer.delimiter.Goals as goal
 
 pub returns-in-Some-clause-wrong_span : goal.returns-in-Some-clause-wrong_span

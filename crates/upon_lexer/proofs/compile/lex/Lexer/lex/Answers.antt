@@ -3,7 +3,7 @@ use Rattle.upon_language.specs.Lexing.{LexerState, HasRead}
 use Rattle.upon_lexer.specs.Lexers.{lexer_text, lexer_delimiters, lexer_state, next_lexeme}
 use Rattle.upon_lexer.specs.Reasons.{reason_of}
 use Rattle.upon_lexer.proofs.ReadMore.{read_more}
-use Rattle.upon_language.proofs.Places.Clear.{clear_behind, none_at_end}
+use Rattle.upon_language.proofs.Offsets.Clear.{clear_behind, none_at_end}
 use Rattle.upon_language.proofs.OneFirstFault.CutFault.{first_cut}
 use Rattle.upon_lexer.proofs.compile.lex.Lexer.lex.Goals as goal
 

@@ -7,7 +7,7 @@ use Rattle.upon_lexer.specs.Reasons.{reason_of}
 use Rattle.upon_lexer.specs.declared.compile.fault.SyntaxFault.TheVariants.{UnexpectedClose}
 use Rattle.upon_language.specs.LexStep.{IsWrong}
 use Rattle.upon_lexer.specs.Lexers.{lexer_text, lexer_delimiters, lexer_state}
-use Rattle.upon_language.proofs.Places.LexFaults.{wrong_close}
+use Rattle.upon_language.proofs.Offsets.LexFaults.{wrong_close}
 use Rattle.upon_lexer.proofs.OpenBrackets.{is_closing}
 use Rattle.upon_lexer.proofs.compile.lex.Lexer.matched.Goals as goal
 

@@ -1,6 +1,6 @@
 use Rattle.std.proofs.Common.{◌≡◌, Option, Some, None, MatchOption, is_some, false, sym, ◌∙◌}
 use Rattle.upon_syntax.specs.Parsed.{source_of, syntax_of}
-use Rattle.upon_language.proofs.Places.Names.{name_from_run, no_name}
+use Rattle.upon_language.proofs.Offsets.Names.{name_from_run, no_name}
 use Rattle.upon_syntax.proofs.compile.parse.Parser.name_end.Goals as goal
 
 at_none : {T : Type 0} (found : Option T) (P : Type 0) (Q : T → Type 0) → is_some found ≡ false → MatchOption found P Q → P

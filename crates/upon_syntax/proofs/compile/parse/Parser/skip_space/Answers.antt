@@ -1,5 +1,5 @@
 use Rattle.upon_language.specs.Words.{is_tag_space}
-use Rattle.upon_language.proofs.Places.Runs.{whole_run}
+use Rattle.upon_language.proofs.Offsets.Runs.{whole_run}
 use Rattle.upon_syntax.proofs.compile.parse.Parser.skip_space.Goals as goal
 
 pub returns-in-None-clause-longest : goal.returns-in-None-clause-longest

@@ -7,7 +7,7 @@ use Rattle.upon_language.specs.Search.{DelimiterText, Occurs, NoneAt}
 use Rattle.upon_language.specs.Words.{begins_name, IsRun}
 use Rattle.upon_language.specs.FirstStage.Grammar.{IsName}
 use Rattle.upon_language.proofs.OneCut.Run.{one_char, run_first}
-use Rattle.upon_language.proofs.Places.Runs.{some_run}
+use Rattle.upon_language.proofs.Offsets.Runs.{some_run}
 
 underscore_continues : is_xid_continue 95 ≡ true
 underscore_continues = is_xid_continue-ascii 95 (omega arith)

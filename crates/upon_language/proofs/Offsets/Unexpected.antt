@@ -4,7 +4,7 @@ use Rattle.upon_types.specs.declared.types.Span.{Span}
 use Rattle.upon_language.specs.Search.{Occurs}
 use Rattle.upon_language.specs.Faults.{span_of, BeginsNoToken, EndsQuestion}
 use Rattle.upon_language.specs.InsideStart.{NoInside}
-use Rattle.upon_language.proofs.Places.Bytes.{byte_as_char, others_of}
+use Rattle.upon_language.proofs.Offsets.Bytes.{byte_as_char, others_of}
 
 pub same_span : (place : Span) (m n : ℕ) → place.m ≡ m → place.n ≡ n → place ≡ span_of m n
 same_span place m n start end = λ i. record { m = start i; n = end i }

@@ -51,7 +51,7 @@ module _ (delimiters : List DelimiterText) (s : List ℕ) (texts : HasTexts deli
       omega (arith, same.2, others.0)
 
   -- the text reads to no span inside a token
-  no_read_inside : (mode mode' : Mode) (m n q : ℕ) (ls ks : List Lexeme) (t : Token) (hyphen : Bool) → ReadsTo delimiters s ls mode m → IsToken delimiters s mode t hyphen m n → ReadsTo delimiters s ks mode' q → m < q → n ≤ q
+  pub no_read_inside : (mode mode' : Mode) (m n q : ℕ) (ls ks : List Lexeme) (t : Token) (hyphen : Bool) → ReadsTo delimiters s ls mode m → IsToken delimiters s mode t hyphen m n → ReadsTo delimiters s ks mode' q → m < q → n ≤ q
   no_read_inside mode mode' m n q ls ks t hyphen reads step there below =
       let on = cut_on delimiters s texts outside mode mode' 0 m q ls ks (omega (arith, below)) reads there in
       goes_past mode mode' m n q t hyphen on.0 step below on.2

@@ -7,7 +7,7 @@ use Rattle.upon_language.specs.Inside.{Piece, plain, escape, ends_line, is_piece
 use Rattle.upon_language.proofs.SpansLieIn.Offsets.{drop-Occurs, Occurs-from_drop, occurs_within}
 use Rattle.upon_language.proofs.OneCut.Run.{one_char, char_has_bytes}
 use Rattle.upon_language.proofs.OneCut.Quoted.{quote_is_no_piece, backslash_is_no_piece, quote_is_no_backslash, same_rest, reads}
-use Rattle.upon_language.proofs.Places.Bytes.{byte_as_char, first_of, others_of}
+use Rattle.upon_language.proofs.Offsets.Bytes.{byte_as_char, first_of, others_of}
 
 abbrev pub piece_text : Piece → List ℕ
 piece_text (plain c) = encode_utf8 c

@@ -6,6 +6,7 @@ use Rattle.upon_types.specs.declared.types.token.Token.{Token}
 use Rattle.upon_types.specs.declared.types.token.Token.TheVariants.{Raw, BeginExpr, EndExpr, BeginBlock, EndBlock, BeginComment, EndComment, OpenBracket, CloseBracket, OpenBrace, CloseBrace, OpenParen, CloseParen, Dot, QuestionDot, Pipe, Comma, Colon, Plus, Minus, Whitespace, Keyword, Ident, Index, Number, String}
 use Rattle.upon_language.specs.Words.{is_tag_space, begins_name}
 use Rattle.upon_language.specs.Inside.{token_kind, Extent, start_kind}
+use Rattle.upon_language.proofs.Computation.Tests.{same_number}
 
 -- what is known of a character that begins a token of this kind
 abbrev pub Proper : Token → ℕ → Type 0
@@ -24,9 +25,6 @@ Proper EndBlock c = ⊥
 Proper BeginComment c = ⊥
 Proper EndComment c = ⊥
 Proper t c = c < 128
-
-equal : (c d : ℕ) → (c == d) ≡ true → c ≡ d
-equal c d h = grind (arith, nat_tests)
 
 low : (c d : ℕ) → d < 128 → (c == d) ≡ true → c < 128
 low c d small h = grind (arith, nat_tests)
@@ -53,7 +51,7 @@ module _ (c : ℕ) where
   proper_kind in_path =
       by_case (is_tag_space c) _ _ (told Whitespace) (λ _.
       by_case (c == 46) _ _ (λ h. told Dot (low c 46 (omega arith) h)) (λ _.
-      by_case (c == 63) _ _ (λ h. told QuestionDot (equal c 63 h)) (λ _.
+      by_case (c == 63) _ _ (λ h. told QuestionDot (same_number c 63 h)) (λ _.
       by_case (c == 124) _ _ (λ h. told Pipe (low c 124 (omega arith) h)) (λ _.
       by_case (c == 44) _ _ (λ h. told Comma (low c 44 (omega arith) h)) (λ _.
       by_case (c == 58) _ _ (λ h. told Colon (low c 58 (omega arith) h)) (λ _.
@@ -65,7 +63,7 @@ module _ (c : ℕ) where
       by_case (c == 125) _ _ (λ h. told CloseBrace (low c 125 (omega arith) h)) (λ _.
       by_case (c == 40) _ _ (λ h. told OpenParen (low c 40 (omega arith) h)) (λ _.
       by_case (c == 41) _ _ (λ h. told CloseParen (low c 41 (omega arith) h)) (λ _.
-      by_case (c == 34) _ _ (λ h. told String (equal c 34 h)) (λ _.
+      by_case (c == 34) _ _ (λ h. told String (same_number c 34 h)) (λ _.
       by_case (is_ascii_digit c) _ _ (digit in_path) (λ _.
       by_case (begins_name c) _ _ (told Ident) (λ _. told_none)))))))))))))))))
 

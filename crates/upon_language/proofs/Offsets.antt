@@ -5,5 +5,5 @@ pub mod Names
 pub mod KindsBy
 pub mod Strings
 pub mod Unexpected
-pub mod Clear
 pub mod LexFaults
+pub mod Clear

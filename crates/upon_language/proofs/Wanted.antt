@@ -1,0 +1,8 @@
+pub mod EachWord
+pub mod PartOn
+pub mod LeadingBegins
+pub mod ExpressionsLead
+pub mod TagsLead
+pub mod WantedAt
+pub mod Opened
+pub mod LiteralWords

@@ -1,0 +1,20 @@
+// What the language keeps under the delimiters of the default syntax.
+ghost use Rattle.std.specs.Prelude.{◌≡◌, ◌⊎◌, ℕ, List};
+ghost use Rattle.std.specs.Str.{IsUtf8};
+ghost use Rattle.upon_types.specs.declared.types.Span.{Span};
+ghost use Rattle.upon_types.specs.Tree.{Statements};
+ghost use Rattle.upon_language.specs.Grammar.{HasTree};
+ghost use Rattle.upon_language.specs.FirstFault.{IsFirstFault};
+ghost use Rattle.upon_language.specs.DefaultDelimiters.{default_delimiters};
+
+/// Under the default delimiters a UTF-8 text has exactly one tree and no first fault, or exactly one first fault and no
+/// tree.
+pub fn default_one_answer()
+    ensures { (s : List ℕ) → IsUtf8 s
+        → ((tree : Statements) × HasTree default_delimiters s tree
+        × ((other : Statements) → HasTree default_delimiters s other → tree ≡ other)
+        × ((place : Span) (reason : List ℕ) → IsFirstFault default_delimiters s place reason → ⊥))
+        ⊎ ((place : Span) × (reason : List ℕ) × IsFirstFault default_delimiters s place reason
+        × ((other : Span) (words : List ℕ) → IsFirstFault default_delimiters s other words → (place ≡ other) × (reason ≡ words))
+        × ((tree : Statements) → HasTree default_delimiters s tree → ⊥)) }
+{}
