@@ -8,6 +8,7 @@ use Rattle.upon_language.specs.LiteralFaults.{NumberFault, bad_digit, too_large}
 use Rattle.upon_syntax.specs.declared.compile.parse.literal.DigitFault.{DigitFault}
 use Rattle.upon_syntax.specs.declared.compile.parse.literal.DigitFault.TheVariants.{BadDigit, TooLarge}
 
+-- what is wrong with digits
 abbrev pub fault_of_digits : DigitFault → NumberFault
 fault_of_digits (BadDigit offset) = bad_digit offset
 fault_of_digits TooLarge = too_large
@@ -16,12 +17,14 @@ fault_of_digits TooLarge = too_large
 abbrev pub lexeme_of : Lexed → Lexeme
 lexeme_of x = record { token = x.token; hyphen = false; span = x.span }
 
+-- the token before, where there is one
 abbrev pub before_of : Option Lexed → Option Lexeme
 before_of None = None
 before_of (Some x) = Some (lexeme_of x)
 
-abbrev pub told_by : Refusal → Report
-told_by refusal = record { span = refusal.span; reason = refusal.reason.now }
+-- what a refusal reports
+abbrev pub report_of : Refusal → Report
+report_of refusal = record { span = refusal.span; reason = refusal.reason.now }
 
 -- a base that numbers are written in
 abbrev pub IsBase : ℕ → Type 0

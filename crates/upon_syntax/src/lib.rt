@@ -4,5 +4,4 @@
 pub mod compile;
 
 pub use upon_language::laws;
-pub use upon_lexer::laws as default_laws;
-pub use upon_lexer::types;
+pub use upon_lexer::{laws as default_laws, types};

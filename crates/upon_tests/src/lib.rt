@@ -10,6 +10,8 @@ mod functions;
 #[cfg(test)]
 mod lexer;
 #[cfg(test)]
+mod literals;
+#[cfg(test)]
 mod pictures;
 #[cfg(test)]
 mod program;

@@ -6,7 +6,7 @@ ghost use Rattle.upon_language.specs.Inside.{IsQuoted};
 ghost use Rattle.upon_language.specs.LaterFaults.{minus_before, start_from, number_report};
 ghost use Rattle.upon_types.specs.Span.{LiesIn, slice};
 ghost use Rattle.std.specs.Fmt.{decimal};
-ghost use Rattle.upon_syntax.specs.Literals.{fault_of_digits, before_of, told_by, IsBase};
+ghost use Rattle.upon_syntax.specs.Literals.{fault_of_digits, before_of, report_of, IsBase};
 
 use std::alloc::{AllocError, Global};
 use upon_lexer::compile::chars::char_at;
@@ -56,7 +56,7 @@ pub fn number(text: &str, minus: bool) -> Result<i64, DigitFault>
 /// What is wrong with a template's text: the span, in bytes, and the reason.
 #[derive(Clone, Copy)]
 pub struct Refusal {
-    pub place: Span,
+    pub span: Span,
     pub reason: &'static str,
 }
 
@@ -72,7 +72,7 @@ pub fn number_at(source: &str, before: Option<Lexed>, span: Span) -> Result<i64,
     requires span { LiesIn source.now span }
     ensures ok { IfOk result (λ z. IsInteger (minus_before (before_of before)) (slice source.now span) z) }
     ensures err { IfErr result (λ refusal.
-        number_report (slice source.now span) (before_of before) span.m span.n ≡ Some (told_by refusal)) }
+        number_report (slice source.now span) (before_of before) span.m span.n ≡ Some (report_of refusal)) }
 {
     let text = slice(source, span);
     let whole = Span {
@@ -81,21 +81,21 @@ pub fn number_at(source: &str, before: Option<Lexed>, span: Span) -> Result<i64,
     };
     if is_float(text) {
         return Err(Refusal {
-            place: whole,
+            span: whole,
             reason: "invalid float literal",
         });
     }
     match number(text, is_minus(before)) {
         Ok(value) => Ok(value),
         Err(DigitFault::BadDigit(offset)) => Err(Refusal {
-            place: Span {
+            span: Span {
                 m: span.m + offset,
                 n: span.m + offset + 1,
             },
             reason: invalid_digit(notation_of(text).base),
         }),
         Err(DigitFault::TooLarge) => Err(Refusal {
-            place: whole,
+            span: whole,
             reason: out_of_range(notation_of(text).base),
         }),
     }
