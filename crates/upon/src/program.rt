@@ -120,8 +120,10 @@ fn work<R: Read + Drop, O: Write>(
     }
     let source = read_source(alloc, file)?;
     let context = read_context(alloc, &args[1..])?;
-    let text = render(alloc, source, &context)
-        .map_err(|error| error.with_name(alloc, args[0].as_str()))?;
+    let text = render(alloc, source, &context).map_err(|error| error.with_name(
+        alloc,
+        args[0].as_str(),
+    ))?;
     show(text.as_str(), out)?;
     Ok(())
 }

@@ -1,5 +1,5 @@
 -- A lexer that has read some tokens has read one more after it: where its open tag begins, and which brackets are open.
-use Rattle.std.proofs.Common.{◌≡◌, ℕ, List, [], ◌∷◌, ◌++◌, Bool, true, false, Option, Some, inl, inr, refl, sym, ap, ◌∙◌, subst, if◌then◌else◌}
+use Rattle.std.proofs.Common.{◌≡◌, ℕ, List, [], ◌∷◌, ◌++◌, Bool, true, false, Option, inl, inr, refl, sym, ap, ◌∙◌, subst, if◌then◌else◌}
 use Rattle.upon_types.specs.declared.types.Span.{Span}
 use Rattle.upon_types.specs.declared.types.token.Token.{Token}
 use Rattle.upon_types.specs.declared.types.token.Token.TheVariants.{Raw, BeginExpr, EndExpr, BeginBlock, EndBlock, BeginComment, EndComment}
@@ -7,7 +7,7 @@ use Rattle.upon_language.specs.Search.{DelimiterText}
 use Rattle.upon_language.specs.Delimiters.{Sort, expression, block, comment, begin_token, end_token}
 use Rattle.upon_language.specs.Inside.{Extent, in_path_after}
 use Rattle.upon_language.specs.Cut.{Lexeme, Mode, outside, in_tag, in_comment, IsToken, same_mode, mode_after}
-use Rattle.upon_language.specs.Reading.{opens_tag, from_begin, open_tag, first_span, brackets_after, brackets_from, open_brackets, ReadsTo, last_of}
+use Rattle.upon_language.specs.Reading.{opens_tag, from_begin, open_tag, first_span, brackets_after, brackets_from, open_brackets, ReadsTo}
 use Rattle.upon_language.specs.Lexing.{LexerState, HasRead, begin_in, brackets_in, is_trimming_end}
 use Rattle.upon_language.specs.LexStep.{IsNext, Fits, begin_after, state_after}
 use Rattle.upon_language.specs.CutFaults.{ClearTo}

@@ -1,14 +1,14 @@
 -- What is left of a string at an offset inside it: the pieces from there on, what is wrong with them, and what they say.
-use Rattle.std.proofs.Common.{◌≡◌, ℕ, ◌+◌, ◌<◌, ◌≤◌, List, [], ◌∷◌, ◌++◌, length, drop, Option, Some, None, encode_utf8, refl, sym, ap, ◌∙◌, subst, arith, append_assoc, length-append, length-drop}
+use Rattle.std.proofs.Common.{◌≡◌, ℕ, ◌+◌, ◌<◌, List, [], ◌∷◌, ◌++◌, length, drop, Option, Some, None, encode_utf8, refl, sym, ap, ◌∙◌, subst, arith, append_assoc, length-append, length-drop}
 use Rattle.std.proofs.lemmas.List.{append-nil, drop-drop, drop_at}
 use Rattle.std.proofs.lemmas.Str.{encode_same, encode_ascii}
 use Rattle.upon_language.specs.Search.{Occurs}
-use Rattle.upon_language.specs.Inside.{Piece, plain, escape, is_piece, pieces_text, EachIsPiece, string_text, IsQuoted}
+use Rattle.upon_language.specs.Inside.{Piece, plain, escape, pieces_text, EachIsPiece, string_text, IsQuoted}
 use Rattle.upon_language.specs.Literal.{escape_value, join, text_of_pieces}
 use Rattle.upon_language.specs.LiteralFaults.{escape_fault}
 use Rattle.upon_language.proofs.SpansLieIn.Offsets.{drop-Occurs}
 use Rattle.upon_language.proofs.OneCut.Run.{char_has_bytes}
-use Rattle.upon_language.proofs.OneCut.Quoted.{is_byte, quote_is_no_piece, backslash_is_no_piece, quote_is_no_backslash, same_rest, reads}
+use Rattle.upon_language.proofs.OneCut.Quoted.{is_byte, quote_is_no_piece, backslash_is_no_piece, quote_is_no_backslash, reads}
 
 -- from this span on these pieces are left, and this holds of them
 pub record LeftAt (s : List ℕ) (P : ℕ → List Piece → Type 0) (at : ℕ) : Type 0 where

@@ -1,4 +1,4 @@
-use Rattle.std.proofs.Common.{◌+◌, ◌-◌, ◌≤◌, ◌≡◌, ◌<◌, take, drop, length, arith, ap, length-take, length-drop}
+use Rattle.std.proofs.Common.{◌+◌, ◌-◌, ◌≤◌, ◌≡◌, take, drop, length, arith, ap, length-take, length-drop}
 use Rattle.upon_lexer.proofs.Starts.{starts_nowhere}
 use Rattle.upon_lexer.proofs.compile.search.first_start.Goals as goal
 

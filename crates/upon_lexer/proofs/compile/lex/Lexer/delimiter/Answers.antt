@@ -1,4 +1,4 @@
-use Rattle.std.proofs.Common.{ℕ, List, sym, ap, subst}
+use Rattle.std.proofs.Common.{ℕ, sym, ap, subst}
 use Rattle.upon_language.specs.Search.{IsBestDelimiter}
 use Rattle.upon_language.specs.Faults.{span_of}
 use Rattle.upon_lexer.specs.Roles.{sort_of}

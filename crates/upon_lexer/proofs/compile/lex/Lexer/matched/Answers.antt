@@ -1,4 +1,4 @@
-use Rattle.std.proofs.Common.{◌≡◌, ℕ, List, false, sym, subst}
+use Rattle.std.proofs.Common.{◌≡◌, ℕ, false, sym, subst}
 use Rattle.upon_types.specs.declared.types.token.Token.{Token}
 use Rattle.upon_language.specs.Inside.{IsInside}
 use Rattle.upon_language.specs.Faults.{span_of, closes_first}

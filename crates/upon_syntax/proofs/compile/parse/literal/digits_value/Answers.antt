@@ -1,4 +1,4 @@
-use Rattle.std.proofs.Common.{◌≡◌, ◌≤◌, ℕ, ◌+◌, ◌*◌, List, drop, Some, arith, sym, ap, ◌∙◌, subst, get_or}
+use Rattle.std.proofs.Common.{◌≡◌, ℕ, ◌+◌, ◌*◌, List, drop, Some, arith, sym, ap, ◌∙◌, subst}
 use Rattle.std.specs.Char.{digit_value}
 use Rattle.upon_language.specs.Literal.{sum_of_digits, digits_in}
 use Rattle.upon_syntax.proofs.Digits.{Onward, ended, past_underscore, past_digit}

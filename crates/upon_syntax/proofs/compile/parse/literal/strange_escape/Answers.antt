@@ -1,7 +1,7 @@
-use Rattle.std.proofs.Common.{ℕ, ◌+◌, ◌-◌, ◌≡◌, List, [], ◌∷◌, ◌++◌, Some, arith, rules, refl, sym, ap, ◌∙◌, subst, length, encode_utf8}
+use Rattle.std.proofs.Common.{ℕ, ◌+◌, ◌-◌, ◌≡◌, [], ◌∷◌, ◌++◌, Some, arith, rules, refl, sym, ap, ◌∙◌, subst, length, encode_utf8}
 use Rattle.std.specs.Str.{IsCharBoundary}
 use Rattle.std.proofs.lemmas.Str.{length-encode}
-use Rattle.upon_language.specs.Inside.{IsQuoted, pieces_text}
+use Rattle.upon_language.specs.Inside.{pieces_text}
 use Rattle.upon_language.specs.LiteralFaults.{escape_fault}
 use Rattle.upon_language.proofs.Offsets.Bytes.{behind_byte, first_of}
 use Rattle.upon_syntax.proofs.StringPieces.{LeftAt, HaveFault, taken_holds, fault_after, left_at_start, at_quote, past_plain, at_backslash, not_at_end, strange, past_escape, inside_text}

@@ -1,7 +1,7 @@
-use Rattle.std.proofs.Common.{ℕ, ◌+◌, ◌≡◌, List, [], ◌∷◌, ◌++◌, string_bytes, arith, rules, sym, ap, ◌∙◌, subst, length, encode_utf8}
+use Rattle.std.proofs.Common.{ℕ, ◌+◌, ◌≡◌, List, [], ◌∷◌, ◌++◌, string_bytes, arith, rules, sym, ◌∙◌, subst, length, encode_utf8}
 use Rattle.std.specs.Str.{IsCharBoundary}
 use Rattle.std.proofs.lemmas.Str.{length-encode}
-use Rattle.upon_language.specs.Inside.{IsQuoted, pieces_text}
+use Rattle.upon_language.specs.Inside.{pieces_text}
 use Rattle.upon_language.specs.Literal.{text_of_pieces}
 use Rattle.upon_language.proofs.Offsets.Bytes.{behind_byte, first_of}
 use Rattle.upon_syntax.proofs.StringPieces.{LeftAt, HaveText, left_at_start, at_quote, past_plain, at_backslash, not_at_end, taken_holds, past_escape, inside_text, text_start, text_plain, text_escape, text_end, none_strange}

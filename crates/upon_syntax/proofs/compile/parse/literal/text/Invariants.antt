@@ -1,4 +1,4 @@
-use Rattle.std.proofs.Common.{length, ◌-◌, ◌+◌, string_bytes}
+use Rattle.std.proofs.Common.{length, ◌-◌, string_bytes}
 use Rattle.std.specs.Str.{IsCharBoundary}
 use Rattle.upon_language.specs.Inside.{IsQuoted}
 use Rattle.upon_language.specs.Literal.{text_of_pieces}
