@@ -2,7 +2,7 @@
 use Rattle.std.specs.Prelude.{ℕ, List, [], ◌++◌}
 use Rattle.upon_types.specs.Fault.{Fault}
 
--- well, with a fault, or where an include would are too deep inside others
+-- well, with a fault, or where an include would be too deep inside others
 pub data End : Type 0 where
   good : End
   fails : Fault → End
