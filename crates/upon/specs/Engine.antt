@@ -29,7 +29,7 @@ template_syntax template = syntax_delimiters template.syntax
 abbrev pub template_tree : Template → Statements
 template_tree template = tree_of template.tree
 
--- the value that a context stands for
+-- the value that a context denotes
 abbrev pub context_value : Context → Val
 context_value context = view context.value.now
 

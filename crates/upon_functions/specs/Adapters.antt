@@ -15,6 +15,7 @@ abbrev pub after_tests : List Test → ℕ → List Val → Answer → Answer
 after_tests (test ∷ tests) i (v ∷ vs) answer = unless_misfit (test v) i (after_tests tests (i + 1) vs answer)
 after_tests tests i vs answer = answer
 
+-- what an adapter with these tests answers, of a callable with this meaning
 abbrev pub adapter_answer : List Test → (List Val → Outcome) → List Val → Answer
 adapter_answer tests meaning vs = if length vs == length tests then after_tests tests 0 vs (answer_of (meaning vs)) else wrong_number (length tests)
 
@@ -23,6 +24,7 @@ abbrev pub IsFairAt : Option Val → Misfit → Type 0
 IsFairAt None misfit = ⊥
 IsFairAt (Some v) misfit = IsFair v (Some misfit)
 
+-- a wrong argument is one of those that were given, and a fair one
 abbrev pub BlamesGiven : List Val → Answer → Type 0
 BlamesGiven vs (gives v) = Unit {0}
 BlamesGiven vs (wrong_number n) = Unit {0}

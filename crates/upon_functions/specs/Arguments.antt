@@ -16,6 +16,7 @@ abbrev pub unit_misfit : Test
 unit_misfit none_val = None
 unit_misfit v = Some (wrong_type (codes "()"))
 
+-- a truth value
 abbrev pub bool_misfit : Test
 bool_misfit (bool_val b) = None
 bool_misfit v = Some (wrong_type (codes "bool"))
@@ -25,16 +26,20 @@ abbrev pub text_misfit : List ℕ → Test
 text_misfit word (text_val bytes) = None
 text_misfit word v = Some (wrong_type word)
 
+-- a text that is owned
 abbrev pub string_misfit : Test
 string_misfit = text_misfit (codes "string")
 
+-- a text that is lent
 abbrev pub str_misfit : Test
 str_misfit = text_misfit (codes "&str")
 
+-- a list
 abbrev pub list_misfit : Test
 list_misfit (list_val vs) = None
 list_misfit v = Some (wrong_type (codes "list"))
 
+-- a map
 abbrev pub map_misfit : Test
 map_misfit (map_val es) = None
 map_misfit v = Some (wrong_type (codes "map"))

@@ -8,6 +8,7 @@ number_fair : (fits : Bool) (range : Range) (z : _) → IsFair (int_val z) (if f
 number_fair true range z = tt
 number_fair false range z = tt
 
+-- the test of an integer type is fair
 pub integer_misfit-fair : (range : Range) (v : Val) → IsFair v (integer_misfit range v)
 integer_misfit-fair range (int_val z) = number_fair (int_le range.least z && int_le z range.greatest) range z
 integer_misfit-fair range none_val = tt
@@ -16,6 +17,7 @@ integer_misfit-fair range (text_val bytes) = tt
 integer_misfit-fair range (list_val vs) = tt
 integer_misfit-fair range (map_val es) = tt
 
+-- the test of no value is fair
 pub unit_misfit-fair : (v : Val) → IsFair v (unit_misfit v)
 unit_misfit-fair none_val = tt
 unit_misfit-fair (bool_val b) = tt
@@ -24,6 +26,7 @@ unit_misfit-fair (text_val bytes) = tt
 unit_misfit-fair (list_val vs) = tt
 unit_misfit-fair (map_val es) = tt
 
+-- the test of a truth value is fair
 pub bool_misfit-fair : (v : Val) → IsFair v (bool_misfit v)
 bool_misfit-fair none_val = tt
 bool_misfit-fair (bool_val b) = tt
@@ -32,6 +35,7 @@ bool_misfit-fair (text_val bytes) = tt
 bool_misfit-fair (list_val vs) = tt
 bool_misfit-fair (map_val es) = tt
 
+-- the test of a text is fair
 pub string_misfit-fair : (v : Val) → IsFair v (string_misfit v)
 string_misfit-fair none_val = tt
 string_misfit-fair (bool_val b) = tt
@@ -40,6 +44,7 @@ string_misfit-fair (text_val bytes) = tt
 string_misfit-fair (list_val vs) = tt
 string_misfit-fair (map_val es) = tt
 
+-- the test of a list is fair
 pub list_misfit-fair : (v : Val) → IsFair v (list_misfit v)
 list_misfit-fair none_val = tt
 list_misfit-fair (bool_val b) = tt
@@ -48,6 +53,7 @@ list_misfit-fair (text_val bytes) = tt
 list_misfit-fair (list_val vs) = tt
 list_misfit-fair (map_val es) = tt
 
+-- the test of a map is fair
 pub map_misfit-fair : (v : Val) → IsFair v (map_misfit v)
 map_misfit-fair none_val = tt
 map_misfit-fair (bool_val b) = tt

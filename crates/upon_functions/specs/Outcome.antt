@@ -1,8 +1,9 @@
--- What a callable makes of arguments that fit: a value, or a refusal with its text. out of memory is no outcome.
+-- What a callable makes of arguments that fit: a value, or a refusal with its text. Out of memory is no outcome.
 use Rattle.std.specs.Prelude.{◌≡◌, ℕ, List, Option, Some, None, Result, Ok, Err}
 use Rattle.upon_types.specs.Answers.{Answer, gives, declines}
 use Rattle.upon_types.specs.Val.{Val, none_val}
 
+-- a value, or a refusal with its text
 pub data Outcome : Type 0 where
   value : Val → Outcome
   refusal : List ℕ → Outcome
@@ -12,7 +13,7 @@ abbrev pub answer_of : Outcome → Answer
 answer_of (value v) = gives v
 answer_of (refusal text) = declines text
 
--- what was returned has this outcome; nothing was returned for memory is out
+-- what was returned has this outcome; nothing was returned as memory is out
 abbrev pub Gives : Option Outcome → Outcome → Type 0
 Gives (Some o) meant = o ≡ meant
 Gives None meant = Unit {0}
@@ -22,11 +23,12 @@ abbrev pub option_outcome : {T : Type 0} → (T → Option Outcome) → Option T
 option_outcome outcome (Some x) = outcome x
 option_outcome outcome None = Some (value none_val)
 
--- of a result: the outcome of what is returned, or the refusal
+-- a refusal with this text, where there was memory for it
 abbrev pub refusal_of : Option (List ℕ) → Option Outcome
 refusal_of (Some text) = Some (refusal text)
 refusal_of None = None
 
+-- of a result: what its value comes to, else a refusal with the text of its error
 abbrev pub result_outcome : {T E : Type 0} → (T → Option Outcome) → (E → Option (List ℕ)) → Result T E → Option Outcome
 result_outcome outcome message (Ok x) = outcome x
 result_outcome outcome message (Err e) = refusal_of (message e)

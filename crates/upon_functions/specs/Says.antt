@@ -1,4 +1,4 @@
--- How the results of calls say the pure answers. out of memory says nothing.
+-- How the results of calls say the pure answers. Out of memory says nothing.
 use Rattle.std.specs.Prelude.{◌≡◌, ℕ, List, Option, Some, None, Result, Ok, Err, map, string_bytes}
 use Rattle.upon_functions.specs.Outcome.{Outcome, answer_of}
 use Rattle.upon_functions.specs.declared.function.ArgError.{ArgError}
@@ -12,10 +12,11 @@ use Rattle.upon_types.specs.View.{view}
 use Rattle.upon_types.specs.declared.value.Value.{Value}
 use Rattle.upon_types.specs.declared.value.cow.ValueCow.{ValueCow}
 
--- what the arguments of a call stand for
+-- what the arguments of a call denote
 abbrev pub arguments_view : List ValueCow → List Val
 arguments_view = map cow_view
 
+-- the misfit that the code's error denotes
 abbrev pub misfit_of : ArgError → Misfit
 misfit_of (WrongType word) = wrong_type word.now
 misfit_of (OutOfRange word) = out_of_range word.now
@@ -38,7 +39,7 @@ abbrev pub Refuses : CallError → Option (List ℕ) → Type 0
 Refuses e (Some text) = Says (Err e) (declines text)
 Refuses e None = e ≡ Memory
 
--- an argument that fits is taken as what it stands for; else its misfit is answered, at its index
+-- an argument that fits is taken as what it denotes; else its misfit is answered, at its index
 abbrev pub Takes : {A : Type 0} → (A → Val) → Option Misfit → ℕ → Val → Result A CallError → Type 0
 Takes stands_for misfit i v (Ok x) = (misfit ≡ None) × (stands_for x ≡ v)
 Takes stands_for misfit i v (Err (Arg j e)) = (j ≡ i) × (misfit ≡ Some (misfit_of e))

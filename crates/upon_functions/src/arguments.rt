@@ -16,7 +16,7 @@ pub(crate) mod lent;
 
 /// An owned argument: what is made of a value for a callable to keep.
 pub trait OwnedArgument: Sized {
-    // The value that it stands for.
+    // The value that it denotes.
     ghost stands_for: { Self → Val };
 
     // What is wrong with a value that does not fit.

@@ -13,7 +13,7 @@ use upon_types::value::{Value, ValueCow};
 
 /// Names what a closure answers.
 pub trait Meaning {
-    // Its outcome, by what its arguments stand for.
+    // Its outcome, by what its arguments denote.
     ghost means: { List Val → Outcome };
 }
 

@@ -42,7 +42,7 @@ impl From<AllocError> for CallError {
 
 /// A function that templates can call.
 pub trait Function: Drop {
-    // What it answers, by what its arguments stand for.
+    // What it answers, by what its arguments denote.
     ghost answers: { Self → List Val → Answer };
 
     /// Calls the function. The error is `Arity` for another number of arguments, `Arg` for the first argument that

@@ -10,7 +10,7 @@ use Rattle.upon_language.specs.Words.{is_tag_space, begins_name, IsRun, is_keywo
 use Rattle.upon_types.specs.Bytes.{line_feed, carriage_return, quote, open_paren, close_paren, plus, comma, hyphen, dot, colon, question_mark, open_bracket, backslash, close_bracket, underscore, open_brace, bar, close_brace}
 
 -- The kind of the token that a character begins; in a path a digit begins an index, else a number.
--- `Ident` stands for keywords too.
+-- `Ident` denotes keywords too.
 abbrev pub token_kind : Bool → ℕ → Option Token
 token_kind in_path c =
     if is_tag_space c then Some Whitespace else (if c == dot then Some Dot else (if c == question_mark then Some QuestionDot

@@ -79,13 +79,13 @@ number_report_of base start p n (Some too_large) = Some
           (base ++ codes " literal out of range for 64-bit integer");
     })
 
--- the report of a number that stands for no integer, where it is wrong
+-- the report of a number that denotes no integer, where it is wrong
 abbrev pub number_report : List ℕ → Option Lexeme → ℕ → ℕ → Option Report
 number_report text before p n = if is_float text then Some
     (record { span = span_of (start_from before p) n; reason = codes "invalid float literal" }) else number_report_of
     (base_text text) (start_from before p) p n (number_fault (minus_before before) text)
 
--- a number is where one may be, and stands for no integer
+-- a number is where one may be, and denotes no integer
 pub record WrongNumber (delimiters : List DelimiterText) (s : List ℕ) (p : ℕ) (span : Span) (reason : List ℕ)
     : Type 0 where
   pub lexemes : List Lexeme

@@ -1,4 +1,4 @@
--- What the text of a number, an index or a string stands for.
+-- What the text of a number, an index or a string denotes.
 use Rattle.std.specs.Prelude.{◌≡◌, ℕ, zero, suc, ◌+◌, ◌*◌, ◌^◌, ◌<◌, ◌==◌, nat_lt, ℤ, pos, negsuc, List, [], ◌∷◌, ◌++◌, length, Bool, true, false, Option, Some, None, encode_utf8, if◌then◌else◌, FitsSigned}
 use Rattle.std.specs.Int.{w64}
 use Rattle.std.specs.Char.{digit_value}
@@ -41,21 +41,21 @@ with_sign false n = pos n
 with_sign true zero = pos 0
 with_sign true (suc n) = negsuc n
 
--- the number's text, after a minus where the first argument is true, stands for the integer
+-- the number's text, after a minus where the first argument is true, denotes the integer
 pub record IsInteger (minus : Bool) (text : List ℕ) (z : ℤ) : Type 0 where
   pub digits : List ℕ
   pub are_digits : digits_in (base_and_digits text).0 (base_and_digits text).1 ≡ Some digits
   pub value : z ≡ with_sign minus (sum_of_digits (base_and_digits text).0 digits)
   pub in_range : FitsSigned w64 z
 
--- the index's text stands for the number
+-- the index's text denotes the number
 pub record IsIndex (text : List ℕ) (i : ℕ) : Type 0 where
   pub digits : List ℕ
   pub are_digits : digits_in 10 text ≡ Some digits
   pub value : i ≡ sum_of_digits 10 digits
   pub in_range : i < 2 ^ 64
 
--- the character that an escape stands for: `\n`, `\r`, `\t`, `\\` and `\"`
+-- the character that an escape denotes: `\n`, `\r`, `\t`, `\\` and `\"`
 abbrev pub escape_value : ℕ → Option (List ℕ)
 escape_value c = if c == letter_n then Some (line_feed ∷ []) else
     (if c == letter_r then Some (carriage_return ∷ []) else (if c == letter_t then Some (tab ∷ [])
@@ -72,7 +72,7 @@ text_of_pieces [] = Some []
 text_of_pieces (plain c ∷ pieces) = join (Some (encode_utf8 c)) (text_of_pieces pieces)
 text_of_pieces (escape c ∷ pieces) = join (escape_value c) (text_of_pieces pieces)
 
--- the string from m to n stands for the text
+-- the string from m to n denotes the text
 pub record IsText (s : List ℕ) (m n : ℕ) (text : List ℕ) : Type 0 where
   pub string : IsQuoted s m n
   pub value : text_of_pieces string.pieces ≡ Some text

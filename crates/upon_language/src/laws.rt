@@ -50,32 +50,32 @@ pub fn one_tree()
         → HasTexts delimiters → HasTree delimiters s a → HasTree delimiters s b → a ≡ b }
 {}
 
-/// A number stands for one integer at most, with a minus before it or without.
+/// A number denotes one integer at most, with a minus before it or without.
 pub fn one_integer()
     ensures { (minus : Bool) (text : List ℕ) (z w : ℤ) → IsInteger minus text z → IsInteger minus text w → z ≡ w }
 {}
 
-/// An index stands for one number at most.
+/// An index denotes one number at most.
 pub fn one_index()
     ensures { (text : List ℕ) (i j : ℕ) → IsIndex text i → IsIndex text j → i ≡ j }
 {}
 
-/// A string that begins at an offset stands for one text at most.
+/// A string that begins at an offset denotes one text at most.
 pub fn one_text()
     ensures { (s : List ℕ) (m n k : ℕ) (t u : List ℕ) → IsText s m n t → IsText s m k u → t ≡ u }
 {}
 
 /// A text has one first fault at most: one span and one reason.
 pub fn one_first_fault()
-    ensures { (delimiters : List DelimiterText) (s : List ℕ) (place other : Span) (reason words : List ℕ)
-        → HasTexts delimiters → IsFirstFault delimiters s place reason → IsFirstFault delimiters s other words
-        → (place ≡ other) × (reason ≡ words) }
+    ensures { (delimiters : List DelimiterText) (s : List ℕ) (span other : Span) (reason words : List ℕ)
+        → HasTexts delimiters → IsFirstFault delimiters s span reason → IsFirstFault delimiters s other words
+        → (span ≡ other) × (reason ≡ words) }
 {}
 
 /// A text that has a first fault has no tree.
 pub fn no_tree_with_fault()
-    ensures { (delimiters : List DelimiterText) (s : List ℕ) (place : Span) (reason : List ℕ) (tree : Statements)
-        → HasTexts delimiters → IsFirstFault delimiters s place reason → HasTree delimiters s tree → ⊥ }
+    ensures { (delimiters : List DelimiterText) (s : List ℕ) (span : Span) (reason : List ℕ) (tree : Statements)
+        → HasTexts delimiters → IsFirstFault delimiters s span reason → HasTree delimiters s tree → ⊥ }
 {}
 
 /// The tokens that a lexer gives for a whole text, one by one, are its tokens with what trimming leaves of the raw parts.
@@ -87,9 +87,9 @@ pub fn given_is_shown()
 
 /// A text has one first fault that ends its cutting at most: at one point, with one span and one reason.
 pub fn one_first_cut_fault()
-    ensures { (delimiters : List DelimiterText) (s : List ℕ) (p q : ℕ) (place other : Span) (reason words : List ℕ)
-        → HasTexts delimiters → IsFirstCutFault delimiters s p place reason → IsFirstCutFault delimiters s q other words
-        → (p ≡ q) × (place ≡ other) × (reason ≡ words) }
+    ensures { (delimiters : List DelimiterText) (s : List ℕ) (p q : ℕ) (span other : Span) (reason words : List ℕ)
+        → HasTexts delimiters → IsFirstCutFault delimiters s p span reason → IsFirstCutFault delimiters s q other words
+        → (p ≡ q) × (span ≡ other) × (reason ≡ words) }
 {}
 
 /// The parts of what a text reads to, and then the rest of the text, are the text: nothing of it is lost on the way.
@@ -103,16 +103,16 @@ pub fn read_joins()
 pub fn tree_or_first_fault()
     ensures { (delimiters : List DelimiterText) (s : List ℕ) → HasTexts delimiters → HasUtf8 delimiters → IsUtf8 s
         → ((tree : Statements) × HasTree delimiters s tree)
-        ⊎ ((place : Span) × (reason : List ℕ) × IsFirstFault delimiters s place reason) }
+        ⊎ ((span : Span) × (reason : List ℕ) × IsFirstFault delimiters s span reason) }
 {}
 
 /// A UTF-8 text has exactly one tree and no first fault, or exactly one first fault and no tree.
 pub fn one_answer()
     ensures { (delimiters : List DelimiterText) (s : List ℕ) → HasTexts delimiters → HasUtf8 delimiters → IsUtf8 s
         → ((tree : Statements) × HasTree delimiters s tree × ((other : Statements) → HasTree delimiters s other → tree ≡ other)
-        × ((place : Span) (reason : List ℕ) → IsFirstFault delimiters s place reason → ⊥))
-        ⊎ ((place : Span) × (reason : List ℕ) × IsFirstFault delimiters s place reason
-        × ((other : Span) (words : List ℕ) → IsFirstFault delimiters s other words → (place ≡ other) × (reason ≡ words))
+        × ((span : Span) (reason : List ℕ) → IsFirstFault delimiters s span reason → ⊥))
+        ⊎ ((span : Span) × (reason : List ℕ) × IsFirstFault delimiters s span reason
+        × ((other : Span) (words : List ℕ) → IsFirstFault delimiters s other words → (span ≡ other) × (reason ≡ words))
         × ((tree : Statements) → HasTree delimiters s tree → ⊥)) }
 {}
 
@@ -136,8 +136,8 @@ pub fn parts_want()
 
 /// A text that has a tree has no fault of any kind, first or not.
 pub fn no_fault_with_tree()
-    ensures { (delimiters : List DelimiterText) (s : List ℕ) (tree : Statements) (row : SyntaxFault) (p : ℕ) (place : Span) (reason : List ℕ)
-        → HasTexts delimiters → HasTree delimiters s tree → Holds delimiters s row p place reason → ⊥ }
+    ensures { (delimiters : List DelimiterText) (s : List ℕ) (tree : Statements) (row : SyntaxFault) (p : ℕ) (span : Span) (reason : List ℕ)
+        → HasTexts delimiters → HasTree delimiters s tree → Holds delimiters s row p span reason → ⊥ }
 {}
 
 /// Up to each offset a text reads in one way at most: the same tokens, and then the same mode.
@@ -173,12 +173,12 @@ pub fn tree_lies_in()
 
 /// The span of a fault of a UTF-8 text, the first or another, lies in the text, on character boundaries.
 pub fn fault_lies_in()
-    ensures { (delimiters : List DelimiterText) (s : List ℕ) (row : SyntaxFault) (p : ℕ) (place : Span) (reason : List ℕ)
-        → HasTexts delimiters → HasUtf8 delimiters → IsUtf8 s → Holds delimiters s row p place reason → LiesIn s place }
+    ensures { (delimiters : List DelimiterText) (s : List ℕ) (row : SyntaxFault) (p : ℕ) (span : Span) (reason : List ℕ)
+        → HasTexts delimiters → HasUtf8 delimiters → IsUtf8 s → Holds delimiters s row p span reason → LiesIn s span }
 {}
 
 /// The span of the first fault lies in the text, on character boundaries.
 pub fn first_fault_lies_in()
-    ensures { (delimiters : List DelimiterText) (s : List ℕ) (place : Span) (reason : List ℕ)
-        → HasTexts delimiters → HasUtf8 delimiters → IsUtf8 s → IsFirstFault delimiters s place reason → LiesIn s place }
+    ensures { (delimiters : List DelimiterText) (s : List ℕ) (span : Span) (reason : List ℕ)
+        → HasTexts delimiters → HasUtf8 delimiters → IsUtf8 s → IsFirstFault delimiters s span reason → LiesIn s span }
 {}

@@ -1,4 +1,4 @@
--- What the code's shapes of brackets stand for, and its open brackets.
+-- What the code's shapes of brackets denote, and its open brackets.
 use Rattle.std.specs.Prelude.{◌≡◌, List, [], ◌∷◌, false, Option, Some, None}
 use Rattle.upon_types.specs.declared.types.Span.{Span}
 use Rattle.upon_types.specs.declared.types.token.Token.{Token}

@@ -1,4 +1,4 @@
--- The delimiters that a list of the code's entries stands for.
+-- The delimiters that a list of the code's entries denotes.
 use Rattle.std.specs.Prelude.{List, map, string_bytes}
 use Rattle.upon_language.specs.DefaultDelimiters.{default_delimiters}
 use Rattle.upon_language.specs.Search.{DelimiterText}
@@ -6,7 +6,7 @@ use Rattle.upon_lexer.specs.declared.types.syntax.Entry.{Entry}
 use Rattle.upon_lexer.specs.declared.types.syntax.Entries.{Entries}
 use Rattle.upon_lexer.specs.declared.types.syntax.Entries.TheVariants.{Default, Built}
 
--- the delimiter that an entry stands for
+-- the delimiter that an entry denotes
 abbrev pub delimiter_text_of : Entry → DelimiterText
 delimiter_text_of e = record { kind = e.kind; text = string_bytes e.text }
 

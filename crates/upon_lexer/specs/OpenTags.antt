@@ -1,4 +1,4 @@
--- What the code's open tag stands for.
+-- What the code's open tag denotes.
 use Rattle.std.specs.Prelude.{Bool, Option, Some, None}
 use Rattle.upon_types.specs.declared.types.Span.{Span}
 use Rattle.upon_language.specs.Delimiters.{expression, block}

@@ -1,4 +1,4 @@
--- What the code's kinds of delimiters stand for.
+-- What the code's kinds of delimiters denote.
 use Rattle.std.specs.Prelude.{◌≡◌, Some}
 use Rattle.upon_types.specs.declared.types.Delimiter.{Delimiter}
 use Rattle.upon_language.specs.Delimiters.{expression, block, comment, begin_sort, end_sort}
@@ -8,7 +8,7 @@ use Rattle.upon_lexer.specs.declared.compile.roles.Sort.TheVariants.{Expr, Block
 use Rattle.upon_lexer.specs.declared.compile.roles.Role.{Role}
 use Rattle.upon_lexer.specs.declared.compile.roles.Role.TheVariants.{Begin, End}
 
--- the sort that a sort of the code stands for
+-- the sort that a sort of the code denotes
 abbrev pub sort_of : Sort → language.Sort
 sort_of Expr = expression
 sort_of Block = block

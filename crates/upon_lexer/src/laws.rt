@@ -13,8 +13,8 @@ pub fn default_one_answer()
     ensures { (s : List ℕ) → IsUtf8 s
         → ((tree : Statements) × HasTree default_delimiters s tree
         × ((other : Statements) → HasTree default_delimiters s other → tree ≡ other)
-        × ((place : Span) (reason : List ℕ) → IsFirstFault default_delimiters s place reason → ⊥))
-        ⊎ ((place : Span) × (reason : List ℕ) × IsFirstFault default_delimiters s place reason
-        × ((other : Span) (words : List ℕ) → IsFirstFault default_delimiters s other words → (place ≡ other) × (reason ≡ words))
+        × ((span : Span) (reason : List ℕ) → IsFirstFault default_delimiters s span reason → ⊥))
+        ⊎ ((span : Span) × (reason : List ℕ) × IsFirstFault default_delimiters s span reason
+        × ((other : Span) (words : List ℕ) → IsFirstFault default_delimiters s other words → (span ≡ other) × (reason ≡ words))
         × ((tree : Statements) → HasTree default_delimiters s tree → ⊥)) }
 {}

@@ -10,6 +10,7 @@ JumpsTo end (jump_if_false n) = n ≤ end
 JumpsTo end (loop_next n) = n ≤ end
 JumpsTo end i = Unit {0}
 
+-- each jump of a program goes into it or to its end
 abbrev pub JumpWithin : ℕ → List Instr → Type 0
 JumpWithin end [] = Unit {0}
 JumpWithin end (i ∷ is) = JumpsTo end i × JumpWithin end is

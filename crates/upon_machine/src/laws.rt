@@ -29,14 +29,14 @@ pub fn runs_once<V, T>()
 {}
 
 /// Where the spans in a template's tree lie in its text, all spans that the machine holds at its start lie so.
-pub fn places_lie_at_start<V, T>()
+pub fn spans_lie_at_start<V, T>()
     ensures { (t : Template) (name : Option (List ℕ)) (left : ℕ) (s : States V T)
         → TreeLiesIn t.source t.tree → StateLies (at_start t name left s) }
 {}
 
 /// Where all spans that the machine holds lie in the texts of their templates, they lie so after a step, and the step's
 /// fault lies in the text of the template that runs. The same is asked of the templates that answer the names of includes.
-pub fn places_lie_on<V, T>()
+pub fn spans_lie_on<V, T>()
     ensures { (calls : Calls V) (resolve : Resolver T) (root : Root) (s : State V T)
         → TemplatesLie resolve → StateLies s → NextLies s.active.running.source (step calls resolve root s) }
 {}

@@ -12,16 +12,19 @@ use Rattle.upon_meaning.specs.Outcome.{End, good, fails, too_deep, Outcome}
 abbrev pub WordsAlike : Ident → Ident → Type 0
 WordsAlike a b = a.text ≡ b.text
 
+-- two accesses with the same key or index
 abbrev pub SelectorsAlike : Access → Access → Type 0
 SelectorsAlike (by_index m span) (by_index n place) = m ≡ n
 SelectorsAlike (by_key a) (by_key b) = WordsAlike a b
 SelectorsAlike _ _ = ⊥
 
+-- two paths with the same members
 abbrev pub StepsAlike : List Member → List Member → Type 0
 StepsAlike [] [] = Unit {0}
 StepsAlike (a ∷ as') (b ∷ bs) = (a.op ≡ b.op) × SelectorsAlike a.access b.access × StepsAlike as' bs
 StepsAlike _ _ = ⊥
 
+-- two loops' names
 abbrev pub NamesAlike : LoopVars → LoopVars → Type 0
 NamesAlike (item a) (item b) = WordsAlike a b
 NamesAlike (key_value key value both) (key_value key' value' both') = WordsAlike key key' × WordsAlike value value'
@@ -29,12 +32,14 @@ NamesAlike _ _ = ⊥
 
 -- expressions
 abbrev mutual
+  -- two expressions that differ in spans alone
   pub ExpressionsAlike : Expression → Expression → Type 0
   ExpressionsAlike (base a) (base b) = BaseAlike a b
   ExpressionsAlike (filtered receiver name args span) (filtered receiver' name' args' place) =
       ExpressionsAlike receiver receiver' × WordsAlike name name' × ArgumentsAlike args args'
   ExpressionsAlike _ _ = ⊥
 
+  -- two expressions without a filter
   pub BaseAlike : Base → Base → Type 0
   BaseAlike (var first rest) (var first' rest') = StepsAlike (first ∷ rest) (first' ∷ rest')
   BaseAlike (literal v span) (literal w place) = v ≡ w
@@ -44,27 +49,32 @@ abbrev mutual
   BaseAlike (call name args span) (call name' args' place) = WordsAlike name name' × ArgumentsAlike args args'
   BaseAlike _ _ = ⊥
 
+  -- two lists of them
   pub BasesAlike : Bases → Bases → Type 0
   BasesAlike no_bases no_bases = Unit {0}
   BasesAlike (base_then a as') (base_then b bs) = BaseAlike a b × BasesAlike as' bs
   BasesAlike _ _ = ⊥
 
+  -- two maps' items
   pub ItemsAlike : Items → Items → Type 0
   ItemsAlike no_items no_items = Unit {0}
   ItemsAlike (item_then key a items) (item_then key' b items') =
       WordsAlike key key' × BaseAlike a b × ItemsAlike items items'
   ItemsAlike _ _ = ⊥
 
+  -- two calls' arguments
   pub ArgumentsAlike : Arguments → Arguments → Type 0
   ArgumentsAlike no_arguments no_arguments = Unit {0}
   ArgumentsAlike (arguments as' span) (arguments bs place) = BasesAlike as' bs
   ArgumentsAlike _ _ = ⊥
 
+-- two values that an include may be given
 abbrev pub GivenAlike : Option Expression → Option Expression → Type 0
 GivenAlike None None = Unit {0}
 GivenAlike (Some a) (Some b) = ExpressionsAlike a b
 GivenAlike _ _ = ⊥
 
+-- there are no statements
 abbrev pub IsEmpty : Statements → Type 0
 IsEmpty no_statements = Unit {0}
 IsEmpty (statement_then t ts) = ⊥
@@ -73,6 +83,7 @@ IsEmpty (statement_then t ts) = ⊥
 -- negated in one of the two alone, and the branches are alike the other way round. No other case is like one without
 -- statements.
 abbrev mutual
+  -- two statements, each under its own text
   pub StatementAlike : List ℕ → List ℕ → Statement → Statement → Type 0
   StatementAlike s s' (raw span) (raw place) = slice s span ≡ slice s' place
   StatementAlike s s' (inline_expr e span) (inline_expr e' place) = ExpressionsAlike e e'
@@ -95,6 +106,7 @@ abbrev mutual
       ExpressionsAlike e e' × WordsAlike word word' × StatementsAlike s s' body body'
   StatementAlike s s' _ _ = ⊥
 
+  -- two rows of statements, each under its own text
   pub StatementsAlike : List ℕ → List ℕ → Statements → Statements → Type 0
   StatementsAlike s s' no_statements no_statements = Unit {0}
   StatementsAlike s s' (statement_then t ts) (statement_then u us) =
@@ -105,6 +117,7 @@ abbrev mutual
 abbrev pub without_span : Fault → Fault
 without_span f = record f { span = None; picture = None }
 
+-- two ends that differ in the span of a fault, and so in its picture, alone
 abbrev pub EndsAlike : End → End → Type 0
 EndsAlike good good = Unit {0}
 EndsAlike (fails f) (fails g) = without_span f ≡ without_span g

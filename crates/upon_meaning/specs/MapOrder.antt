@@ -28,6 +28,7 @@ abbrev pub item_bases : Items → Bases
 item_bases no_items = no_bases
 item_bases (item_then key b items) = base_then b (item_bases items)
 
+-- the keys of a map literal, each with the value that its expression came to
 abbrev pub item_values : Items → List Operand → List (List ℕ × Val)
 item_values no_items os = []
 item_values (item_then key b items) [] = []

@@ -106,6 +106,6 @@ TemplatesLie {T} resolve =
     (q : T) (name : List ℕ) (t : Template) → (resolve q name).answer ≡ says t → TreeLiesIn t.source t.tree
 
 -- it holds of the span of each value
-abbrev pub EachPlace : (Span → Type 0) → List Operand → Type 0
-EachPlace P [] = Unit {0}
-EachPlace P (o ∷ os) = P o.span × EachPlace P os
+abbrev pub EachSpan : (Span → Type 0) → List Operand → Type 0
+EachSpan P [] = Unit {0}
+EachSpan P (o ∷ os) = P o.span × EachSpan P os

@@ -5,7 +5,7 @@ use Rattle.std.specs.Str.{IsCharBoundary}
 use Rattle.upon_types.specs.Path.{Member, last_member, path_span}
 use Rattle.upon_types.specs.Span.{LiesIn, combine}
 use Rattle.upon_types.specs.declared.types.Span.{Span}
-use Rattle.upon_render.specs.PathPlace.{StepsLieIn}
+use Rattle.upon_render.specs.PathSpans.{StepsLieIn}
 
 last_step_lies_in : (source : List ℕ) (first : Member) (rest : List Member) → LiesIn source first.span → StepsLieIn source rest → LiesIn source (last_member first rest).span
 last_step_lies_in source first [] lies lie = lies

@@ -32,7 +32,7 @@ abbrev pub Answers : {A B : Type 0} → (A → B) → List ℕ → Finding B →
 Answers shows source outcome (Ok a) = outcome ≡ found (shows a)
 Answers shows source outcome (Err error) = TellsFaultOrMemory source outcome error
 
--- what a reference that may be missing stands for
+-- what a reference that may be missing denotes
 abbrev pub lent_view : Option (Bor Value) → Option Val
 lent_view value = option_map (λ v. view v.now) value
 
@@ -41,10 +41,11 @@ abbrev pub lent_or_none : Option (Bor Value) → Val
 lent_or_none None = none_val
 lent_or_none (Some value) = view value.now
 
--- what a value that may be missing stands for
+-- what a value that may be missing denotes
 abbrev pub maybe_view : Option ValueCow → Option Val
 maybe_view value = option_map cow_view value
 
+-- whether the value is lent
 abbrev pub is_borrowed : ValueCow → Bool
 is_borrowed (Borrowed v) = true
 is_borrowed (Owned v) = false

@@ -35,7 +35,7 @@ Asked shows (Ok l) state r = (r.answer ≡ says (shows l)) × (r.next ≡ state)
 Asked shows (Err (Refused text)) state r = (r.answer ≡ refuses (string_bytes text)) × (r.next ≡ state)
 Asked shows (Err Memory) state r = Unit {0}
 
--- a source that is never asked
+-- a source that refuses each path, without words
 abbrev pub never : {Q : Type 0} → Source Q
 never q path = reply (refuses []) q
 

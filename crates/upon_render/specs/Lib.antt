@@ -7,7 +7,7 @@ pub mod Items
 pub mod Source
 pub mod Lookup
 pub mod Answer
-pub mod PathPlace
+pub mod PathSpans
 pub mod Asked
 pub mod ValueFn
 pub mod Cursor

@@ -1,4 +1,4 @@
--- What the parts of a loop stand for: the items that it has yet to give, and the one that it is at.
+-- What the parts of a loop denote: the items that it has yet to give, and the one that it is at.
 use Rattle.std.specs.Prelude.{◌≡◌, ℕ, ◌+◌, Bool, true, false, List, [], map, Option, Some, None, String, string_bytes}
 use Rattle.std.specs.Cow.{cow_str_bytes}
 use Rattle.std.specs.Slice.Iter.{iter_rest}
@@ -32,13 +32,16 @@ binds (key_value key value both) (entry text v) = entry_binds key value (text, v
 binds (item name) (entry text v) = []
 binds (key_value key value both) (lone v) = []
 
+-- the item that the code's item denotes
 abbrev pub item_of : Item → LoopItem
 item_of (Lone value) = lone (cow_view value)
 item_of (Entry key value) = entry (cow_str_bytes key) (cow_view value)
 
+-- the items of a list
 abbrev pub lone_items : List Value → List LoopItem
 lone_items vs = map (λ v. lone (view v)) vs
 
+-- the items of a map
 abbrev pub entry_items : List (String Global × Value) → List LoopItem
 entry_items es = map (λ e. entry (string_bytes e.0) (view e.1)) es
 
@@ -56,6 +59,7 @@ is_lent_rest (ListOwned items) = false
 is_lent_rest (MapLent entries) = true
 is_lent_rest (MapOwned entries) = false
 
+-- whether an item is lent
 abbrev pub is_lent_item : Item → Bool
 is_lent_item (Lone value) = is_borrowed value
 is_lent_item (Entry key value) = is_borrowed value
@@ -74,10 +78,12 @@ given (Some here) = here.index + 1
 abbrev pub names_of_both : KeyValue → LoopVars
 names_of_both both = key_value (ident_of both.key) (ident_of both.value) both.span
 
+-- the value is no list
 abbrev pub IsNoList : Val → Type 0
 IsNoList (list_val vs) = ⊥
 IsNoList v = Unit {0}
 
+-- the value is no map
 abbrev pub IsNoMap : Val → Type 0
 IsNoMap (map_val es) = ⊥
 IsNoMap v = Unit {0}

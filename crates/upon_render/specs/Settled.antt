@@ -18,6 +18,7 @@ root_settles (context v) first rest = Some (or_not_in_scope (context_walk first 
 root_settles value_source first rest = None
 root_settles nothing first rest = Some (at_fault (not_in_scope first.span))
 
+-- what is found among the bindings, else what the root answers; none where that is the source
 abbrev pub or_root_settles : Finding (Option Val) → Root → Member → List Member → Option (Finding Val)
 or_root_settles (found (Some v)) root first rest = Some (found v)
 or_root_settles (found None) root first rest = root_settles root first rest
@@ -28,6 +29,7 @@ pub record Known : Type 0 where
   pub settled : Option (Finding Val)
   pub is_lent : Bool
 
+-- what is known of a path in an environment, before the source is asked
 abbrev pub known : Environment → Bool → Member → List Member → Known
 known env lent first rest = record { settled = or_root_settles (bindings_walk env.bindings first rest) env.root first rest; is_lent = lent }
 

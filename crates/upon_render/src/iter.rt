@@ -11,7 +11,7 @@ ghost use Rattle.upon_render.specs.Cursor.{advance, loop_bindings, loop_walk, le
 ghost use Rattle.upon_render.specs.Items.{items_of};
 ghost use Rattle.upon_render.specs.Lookup.{bindings_walk, maybe_bound, key_walk, state_map, state_walk};
 ghost use Rattle.upon_render.specs.LoopItems.{names_of_both, IsNoList, IsNoMap, KeysRise, given, is_lent_here, is_lent_rest, is_lent_item, items_left, item_of, binds};
-ghost use Rattle.upon_render.specs.PathPlace.{StepsLieIn};
+ghost use Rattle.upon_render.specs.PathSpans.{StepsLieIn};
 ghost use Rattle.upon_render.specs.Walk.{as_some};
 
 use crate::faults;
@@ -121,7 +121,7 @@ impl<'a> LoopState<'a> {
         path: &[Member],
     ) -> Result<Option<ValueCow<'a>>>
         requires some { 0 < length path.now }
-        requires places { StepsLieIn source.now (map member_of path.now) }
+        requires spans { StepsLieIn source.now (map member_of path.now) }
         ensures { Answers maybe_view source.now (loop_walk (cursor self.now) (map member_of path.now)) result }
     {
         match (path, &self.here) {
@@ -144,7 +144,7 @@ fn lookup_state<'a>(
 ) -> Result<Option<ValueCow<'a>>>
     requires index { index < 2 ^ 63 }
     requires count { index < count }
-    requires places { StepsLieIn source.now (map member_of path.now) }
+    requires spans { StepsLieIn source.now (map member_of path.now) }
     ensures { Answers maybe_view source.now (as_some (state_walk index count (map member_of path.now))) result }
 {
     match walk_state(alloc, source, index, count, path) {
@@ -162,7 +162,7 @@ fn walk_state(
 ) -> Result<Value>
     requires index { index < 2 ^ 63 }
     requires count { index < count }
-    requires places { StepsLieIn source.now (map member_of path.now) }
+    requires spans { StepsLieIn source.now (map member_of path.now) }
     ensures { Answers view source.now (state_walk index count (map member_of path.now)) result }
 {
     match path {

@@ -88,9 +88,18 @@ impl<S: ValueSource> ValueSource for &mut S {
     }
 }
 
-/// No source: there is none to ask where the root is a value.
+/// No source: it refuses every path, without words. A stack whose root is a value names this type, and never asks it.
 #[derive(Drop)]
-pub enum NoSource {}
+pub struct NoSource {
+    alloc: Global,
+}
+
+impl NoSource {
+    /// A source that refuses every path.
+    pub fn new(alloc: Global) -> NoSource {
+        NoSource { alloc }
+    }
+}
 
 impl ValueSource for NoSource {
     ghost use Rattle.std.specs.Prelude.{[]};
@@ -105,7 +114,7 @@ impl ValueSource for NoSource {
     ghost holds = { λ _. [] };
 
     fn value(&mut self, _path: &[ValueMember]) -> Result<Value, SourceError> {
-        match *self {}
+        Err(SourceError::Refused(String::new(self.alloc)))
     }
 }
 

@@ -8,7 +8,7 @@ ghost use Rattle.upon_render.specs.Cursor.{lends_bound};
 ghost use Rattle.upon_render.specs.Environment.{Environment, value_source, binding, plain, binding_of};
 ghost use Rattle.upon_render.specs.Frames.{frame_over, frames_over, frame_lends, frames_lend};
 ghost use Rattle.upon_render.specs.Lookup.{lookup, root_value, bindings_walk, or_not_in_scope};
-ghost use Rattle.upon_render.specs.PathPlace.{StepsLieIn};
+ghost use Rattle.upon_render.specs.PathSpans.{StepsLieIn};
 ghost use Rattle.upon_render.specs.Settled.{known, Finds};
 ghost use Rattle.upon_render.specs.Source.{Source};
 ghost use Rattle.upon_render.specs.Roots.{pure_root, root_lends, HasSource, KeepsRoot, IsValidRoot, OrOutOfMemory};
@@ -81,7 +81,7 @@ impl<'a, V: ValueSource> Stack<'a, V> {
     ///
     /// What a lent value binds is lent. A source is asked once, for the whole path, where no frame binds it.
     pub fn lookup_var(&mut self, source: &str, var: &Var) -> Result<ValueCow<'a>>
-        requires places { StepsLieIn source.now (first_member var.now ∷ rest_members var.now) }
+        requires spans { StepsLieIn source.now (first_member var.now ∷ rest_members var.now) }
         requires valid { IsValidRoot V.valid (root_of self.old) }
         ensures answer { (ask : Source V.State) (q : V.State) → HasSource V.ask V.value_state (root_of self.old) ask q → Answers
             cow_view
@@ -225,7 +225,7 @@ fn lookup_root<'a, V: ValueSource>(
     root: &mut Root<'a, V>,
     var: &Var,
 ) -> Result<ValueCow<'a>>
-    requires places { StepsLieIn source.now (first_member var.now ∷ rest_members var.now) }
+    requires spans { StepsLieIn source.now (first_member var.now ∷ rest_members var.now) }
     requires valid { IsValidRoot V.valid root.old }
     ensures answer { (ask : Source V.State) (q : V.State) → HasSource V.ask V.value_state root.old ask q → Answers
         cow_view
@@ -263,7 +263,7 @@ fn ask_source<'a, V: ValueSource>(
     values: &mut V,
     var: &Var,
 ) -> Result<ValueCow<'a>>
-    requires places { StepsLieIn source.now (first_member var.now ∷ rest_members var.now) }
+    requires spans { StepsLieIn source.now (first_member var.now ∷ rest_members var.now) }
     requires valid { V.valid values.old }
     ensures answer { Answers
         cow_view
@@ -379,7 +379,7 @@ fn lookup_context<'a>(
     rest: &[Member],
 ) -> Result<ValueCow<'a>>
     requires span { LiesIn source.now first.now.span }
-    requires places { StepsLieIn source.now (map member_of rest.now) }
+    requires spans { StepsLieIn source.now (map member_of rest.now) }
     ensures answer { Answers
         cow_view
         source.now

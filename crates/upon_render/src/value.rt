@@ -6,7 +6,7 @@ ghost use Rattle.upon_types.specs.Span.{LiesIn};
 ghost use Rattle.upon_types.specs.View.{view, vals_view};
 ghost use Rattle.upon_render.specs.Answer.{AnswersAlways, Answers, TellsFault, lent_view, lent_or_none, maybe_view, is_borrowed, IsLent, IsLentIfAny, Lends};
 ghost use Rattle.upon_render.specs.Finding.{found, found_only};
-ghost use Rattle.upon_render.specs.PathPlace.{StepsLieIn};
+ghost use Rattle.upon_render.specs.PathSpans.{StepsLieIn};
 ghost use Rattle.upon_render.specs.Vals.{val_list};
 ghost use Rattle.upon_render.specs.Walk.{lookup_member as member_in, walk, as_some, context_walk, path_in_context, found_or_missed};
 ghost use Rattle.upon_types.specs.Fault.{Fault};
@@ -73,7 +73,7 @@ pub fn lookup_path_maybe<'a>(
     path: &[Member],
 ) -> Result<Option<ValueCow<'a>>>
     requires some { 0 < length path.now }
-    requires places { StepsLieIn source.now (map member_of path.now) }
+    requires spans { StepsLieIn source.now (map member_of path.now) }
     ensures answer { Answers maybe_view source.now (path_in_context (map member_of path.now) (cow_view value.now)) result }
     ensures lent { is_borrowed value.now ≡ true → Lends IsLentIfAny (path_in_context (map member_of path.now) (cow_view value.now)) result }
     ensures unbound { path_in_context (map member_of path.now) (cow_view value.now) ≡ found None → result ≡ Ok None }

@@ -1,4 +1,4 @@
--- The reasons for a number that stands for nothing, in each of the four bases.
+-- The reasons for a number that denotes nothing, in each of the four bases.
 use Rattle.std.proofs.Common.{◌≡◌, inl, inr, ℕ, List, ◌++◌, codes, refl}
 use Rattle.std.specs.Fmt.{decimal, digits}
 use Rattle.upon_syntax.specs.Literals.{IsBase}

@@ -3,7 +3,7 @@ use Rattle.upon_language.specs.Wanted as wanted
 use Rattle.upon_syntax.specs.declared.compile.parse.want.Want.{Want}
 use Rattle.upon_syntax.specs.declared.compile.parse.want.Want.TheVariants.{Expression, Text, NameOrIndex, EndExpr, EndBlock, CloseParen, CloseBracket, CloseBrace, In, As, BlockWord, Name, Number, Colon}
 
--- the definition that a wanted word of the code stands for
+-- the definition that a wanted word of the code denotes
 abbrev pub wanted_of : Want → wanted.Wanted
 wanted_of Expression = wanted.an_expression
 wanted_of Text = wanted.a_string

@@ -17,6 +17,7 @@ abbrev pub doubled : List Val → Outcome
 doubled ((int_val z) ∷ vs) = wrapped z z
 doubled vs = refusal []
 
+-- the sum of two
 abbrev pub added : List Val → Outcome
 added ((int_val y) ∷ (int_val z) ∷ vs) = wrapped y z
 added vs = refusal []

@@ -1,8 +1,8 @@
-// Numbers of templates: what they stand for, and what is wrong with their digits.
+// Numbers of templates: what they denote, and what is wrong with their digits.
 use std::test::Fail;
 use upon_syntax::compile::parse::literal::{DigitFault, number};
 
-/// A number's text, whether a minus stands before it, and what it stands for.
+/// A number's text, whether a minus stands before it, and what it denotes.
 type Number = (&'static str, bool, Result<i64, DigitFault>);
 
 const NUMBERS: &[Number] = &[

@@ -3,7 +3,7 @@ ghost use Rattle.std.specs.Prelude.{◌≡◌, map, IsTrue};
 ghost use Rattle.upon_types.specs.AstPath.{member_of, loop_vars_of};
 ghost use Rattle.upon_types.specs.Span.{LiesIn};
 ghost use Rattle.upon_render.specs.Loop.{names_span};
-ghost use Rattle.upon_render.specs.PathPlace.{StepsLieIn};
+ghost use Rattle.upon_render.specs.PathSpans.{StepsLieIn};
 ghost use Rattle.upon_render.specs.Roots.{IsValidRoot};
 ghost use Rattle.upon_render.specs.Stack.{root_of};
 

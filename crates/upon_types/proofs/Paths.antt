@@ -1,4 +1,4 @@
--- The members of a path, as the steps that they stand for.
+-- The members of a path, as the steps that they denote.
 use Rattle.std.proofs.Common.{◌≡◌, ◌<◌, ◌-◌, List, [], ◌∷◌, length, map, drop, get_or, refl, sym, ap, ◌∙◌, arith}
 use Rattle.std.proofs.Math.Nat.{lt_irrefl}
 use Rattle.upon_types.specs.AstPath.{member_of, first_of, first_member, rest_members}

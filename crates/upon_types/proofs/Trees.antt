@@ -1,4 +1,4 @@
--- What the expressions and the statements of the code stand for, one level at a time. A struct of a tree is opened
+-- What the expressions and the statements of the code denote, one level at a time. A struct of a tree is opened
 -- by its `out-`, which computes at a literal.
 use Rattle.std.proofs.Common.{◌≡◌, option_map, rules}
 use Rattle.upon_types.specs.Ast.{statement_of, for_of, if_of, scope_of, with_of, statements_of, else_of}

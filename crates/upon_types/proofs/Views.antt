@@ -1,4 +1,4 @@
--- What a value stands for, one level at a time, and what a look-up in its entries finds.
+-- What a value denotes, one level at a time, and what a look-up in its entries finds.
 use Rattle.std.proofs.Common.{◌≡◌, ℕ, List, [], ◌∷◌, Option, Some, None, option_map, Bool, true, false, cond, String, Vec, BTreeMap, Global, Bor, string_bytes, nat_cmp, refl, rules}
 use Rattle.std.proofs.lemmas.Map.Text.{is_eq-slice_cmp}
 use Rattle.std.specs.BTreeMap.{is_at}
@@ -42,7 +42,7 @@ pub view-lookup : (key : List ℕ) (es : List Entry) → option_map view (lookup
 view-lookup key [] = refl
 view-lookup key (e ∷ es) = rw is_eq-slice_cmp (found_or_later _ _ _ _ (view-lookup key es))
 
--- lent values stand for what they point to
+-- lent values denote what they point to
 pub view-lent : (found : Option (Bor Value)) → option_map (λ v. view v.now) found ≡ option_map view (option_map (λ v. v.now) found)
 view-lent None = refl
 view-lent (Some v) = refl

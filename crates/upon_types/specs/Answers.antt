@@ -1,4 +1,4 @@
--- What functions and formatters answer, by the values that they are given. out of memory is no answer.
+-- What functions and formatters answer, by the values that they are given. Out of memory is no answer.
 use Rattle.std.specs.Prelude.{ℕ, List, Option}
 use Rattle.upon_types.specs.Val.{Val}
 

@@ -1,4 +1,4 @@
--- What the tree of the code stands for.
+-- What the tree of the code denotes.
 use Rattle.std.specs.Prelude.{List, [], ◌∷◌, map, Option, Some, None, option_map}
 use Rattle.upon_types.specs.AstExpression.{expression_of}
 use Rattle.upon_types.specs.AstPath.{ident_of, string_of, loop_vars_of}

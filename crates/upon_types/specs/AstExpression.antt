@@ -1,4 +1,4 @@
--- What the expressions of the code stand for.
+-- What the expressions of the code denote.
 use Rattle.std.specs.Prelude.{List, [], ◌∷◌, map, Option, Some, None, option_map}
 use Rattle.upon_types.specs.AstPath.{ident_of, string_of, first_member, rest_members}
 use Rattle.upon_types.specs.Expression.{Expression, base, filtered, Base, var, literal, list, mapping, paren, call, Bases, no_bases, base_then, Items, no_items, item_then, Arguments, no_arguments, arguments}

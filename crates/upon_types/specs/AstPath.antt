@@ -1,4 +1,4 @@
--- What the names and the paths of the code stand for.
+-- What the names and the paths of the code denote.
 use Rattle.std.specs.Prelude.{◌<◌, List, [], ◌∷◌, length, map, drop, string_bytes}
 use Rattle.std.proofs.Math.Nat.{lt_irrefl}
 use Rattle.upon_types.specs.Path.{Ident, Access, by_index, by_key, Member, LoopVars, item, key_value}
@@ -15,7 +15,7 @@ use Rattle.upon_types.specs.declared.types.ast.path.Var.{Var}
 abbrev pub ident_of : AstIdent → Ident
 ident_of ident = record { text = string_bytes ident.name; span = ident.span }
 
--- a string: the text that it stands for
+-- a string: the text that it denotes
 abbrev pub string_of : Quoted → Ident
 string_of quoted = record { text = string_bytes quoted.value; span = quoted.span }
 

@@ -22,11 +22,12 @@ pairs_of [] vs = []
 pairs_of (e ∷ es) [] = []
 pairs_of (e ∷ es) (v ∷ vs) = (string_bytes e.0, view v) ∷ pairs_of es vs
 
--- the last value that is paired with a key
+-- the first of two, where it is there
 abbrev pub or_else : {A : Type 0} → Option A → Option A → Option A
 or_else (Some x) other = Some x
 or_else None other = other
 
+-- the last value that is paired with a key
 abbrev pub last_at : List ℕ → List (List ℕ × Val) → Option Val
 last_at key [] = None
 last_at key (p ∷ pairs) = or_else (last_at key pairs) (if bytes_eq p.0 key then Some p.1 else None)

@@ -1,4 +1,4 @@
--- The value that a `ValueCow` stands for, borrowed or owned.
+-- The value that a `ValueCow` denotes, borrowed or owned.
 use Rattle.upon_types.specs.Val.{Val}
 use Rattle.upon_types.specs.View.{view}
 use Rattle.upon_types.specs.declared.value.cow.ValueCow.{ValueCow}

@@ -39,7 +39,7 @@ fault_at kind reason (Some at) = fault_with_picture at.0 (bare_fault kind reason
 abbrev pub fault_of_kind : Kind → Fault
 fault_of_kind kind = bare_fault kind None None
 
--- out of memory
+-- Out of memory
 abbrev pub out_of_memory : Fault
 out_of_memory = fault_of_kind memory
 

@@ -11,24 +11,29 @@ abbrev pub SelectorSpans : (Span → Type 0) → Access → Type 0
 SelectorSpans P (by_index n span) = P span
 SelectorSpans P (by_key word) = P word.span
 
+-- the spans of a member of a path
 abbrev pub StepSpans : (Span → Type 0) → Member → Type 0
 StepSpans P step = P step.span × SelectorSpans P step.access
 
+-- those of each member
 abbrev pub StepsSpans : (Span → Type 0) → List Member → Type 0
 StepsSpans P [] = Unit {0}
 StepsSpans P (step ∷ steps) = StepSpans P step × StepsSpans P steps
 
+-- those of a loop's names
 abbrev pub LoopNamesSpans : (Span → Type 0) → LoopVars → Type 0
 LoopNamesSpans P (item name) = P name.span
 LoopNamesSpans P (key_value key value both) = P key.span × P value.span × P both
 
 -- expressions
 abbrev mutual
+  -- those of an expression and of what it is made of
   pub ExpressionSpans : (Span → Type 0) → Expression → Type 0
   ExpressionSpans P (base b) = BaseSpans P b
   ExpressionSpans P (filtered receiver name args span) =
       ExpressionSpans P receiver × P name.span × ArgumentsSpans P args × P span
 
+  -- those of an expression without a filter
   pub BaseSpans : (Span → Type 0) → Base → Type 0
   BaseSpans P (var first rest) = StepSpans P first × StepsSpans P rest
   BaseSpans P (literal v span) = P span
@@ -37,14 +42,17 @@ abbrev mutual
   BaseSpans P (paren e span) = ExpressionSpans P e × P span
   BaseSpans P (call name args span) = P name.span × ArgumentsSpans P args × P span
 
+  -- those of the items of a list
   pub BasesSpans : (Span → Type 0) → Bases → Type 0
   BasesSpans P no_bases = Unit {0}
   BasesSpans P (base_then b bs) = BaseSpans P b × BasesSpans P bs
 
+  -- those of the items of a map
   pub ItemsSpans : (Span → Type 0) → Items → Type 0
   ItemsSpans P no_items = Unit {0}
   ItemsSpans P (item_then key b items) = P key.span × BaseSpans P b × ItemsSpans P items
 
+  -- those of the arguments of a call or a filter
   pub ArgumentsSpans : (Span → Type 0) → Arguments → Type 0
   ArgumentsSpans P no_arguments = Unit {0}
   ArgumentsSpans P (arguments bases span) = BasesSpans P bases × P span
@@ -56,6 +64,7 @@ GivenSpans P (Some e) = ExpressionSpans P e
 
 -- statements
 abbrev mutual
+  -- those of a statement and of what it is made of
   pub StatementSpans : (Span → Type 0) → Statement → Type 0
   StatementSpans P (raw span) = P span
   StatementSpans P (inline_expr e span) = ExpressionSpans P e × P span
@@ -64,10 +73,12 @@ abbrev mutual
   StatementSpans P (for_loop names e body) = LoopNamesSpans P names × ExpressionSpans P e × StatementsSpans P body
   StatementSpans P (with e word body) = ExpressionSpans P e × P word.span × StatementsSpans P body
 
+  -- those of each statement
   pub StatementsSpans : (Span → Type 0) → Statements → Type 0
   StatementsSpans P no_statements = Unit {0}
   StatementsSpans P (statement_then t ts) = StatementSpans P t × StatementsSpans P ts
 
+  -- those of the statements after `else`
   pub ElseSpans : (Span → Type 0) → Else → Type 0
   ElseSpans P no_else = Unit {0}
   ElseSpans P (otherwise body) = StatementsSpans P body

@@ -74,9 +74,11 @@ mutual
 pub val_eq-Decides : (v w : Val) → Decides (val_eq v w) (v ≡ w)
 val_eq-Decides v w = (val_one v w, λ is. ap (val_eq v) (sym is) ∙ val_itself v)
 
+-- the test of maps decides whether two maps' entries are one
 pub entries_eq-Decides : (es fs : Entries) → Decides (entries_eq es fs) (es ≡ fs)
 entries_eq-Decides es fs = (entries_one es fs, λ are. ap (entries_eq es) (sym are) ∙ entries_itself es)
 
+-- so equality is reflexive, symmetric and transitive
 pub val_eq-IsEquivalence : IsEquivalence val_eq
 val_eq-IsEquivalence = record {
   refl = val_itself;

@@ -1,4 +1,4 @@
--- What a `Value` stands for.
+-- What a `Value` denotes.
 use Rattle.std.specs.Prelude.{List, [], ◌∷◌, map, String, string_bytes}
 use Rattle.std.specs.declared.alloc.Global.{Global}
 use Rattle.upon_types.specs.Val.{Val, none_val, bool_val, int_val, text_val, list_val, map_val, Vals, no_vals, val_then, Entries, no_entries, entry_then}
@@ -24,14 +24,14 @@ level (Value-F.String s) = text_val (string_bytes s)
 level (Value-F.List items) = list_val (vals_of items.items)
 level (Value-F.Map entries) = map_val (entries_of entries.entries)
 
--- the value that a `Value` stands for
+-- the value that a `Value` denotes
 abbrev pub view : Value → Val
 view = fold-Value Val level
 
--- what the items of a list stand for
+-- what the items of a list denote
 abbrev pub vals_view : List Value → Vals
 vals_view vs = vals_of (map view vs)
 
--- what the entries of a map stand for
+-- what the entries of a map denote
 abbrev pub entries_view : List (String Global × Value) → Entries
 entries_view es = entries_of (map (λ e. (e.0, view e.1)) es)

@@ -13,7 +13,7 @@ use upon_types::value::{Value, ValueCow};
 
 /// A callable without arguments.
 pub trait Call0<R: FunctionReturn>: Drop {
-    // Its outcome, by what its arguments stand for.
+    // Its outcome, by what its arguments denote.
     ghost meaning: { Self → List Val → Outcome };
 
     /// Calls it.
@@ -54,7 +54,7 @@ impl<C: Call0<R>, R: FunctionReturn + Drop> Function for Fn0<C, R> {
 
 /// A callable of one owned argument.
 pub trait Call1<A: OwnedArgument, R: FunctionReturn>: Drop {
-    // Its outcome, by what its arguments stand for.
+    // Its outcome, by what its arguments denote.
     ghost meaning: { Self → List Val → Outcome };
 
     /// Calls it.
@@ -96,7 +96,7 @@ impl<C: Call1<A, R>, A: OwnedArgument + Drop, R: FunctionReturn + Drop> Function
 
 /// A callable of two owned arguments.
 pub trait Call2<A: OwnedArgument, B: OwnedArgument, R: FunctionReturn>: Drop {
-    // Its outcome, by what its arguments stand for.
+    // Its outcome, by what its arguments denote.
     ghost meaning: { Self → List Val → Outcome };
 
     /// Calls it.

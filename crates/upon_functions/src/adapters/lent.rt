@@ -16,7 +16,7 @@ use upon_types::value::{Value, ValueCow};
 
 /// A callable of a lent text.
 pub trait Call1S<R: FunctionReturn>: Drop {
-    // Its outcome, by what its arguments stand for.
+    // Its outcome, by what its arguments denote.
     ghost meaning: { Self → List Val → Outcome };
 
     /// Calls it.
@@ -58,7 +58,7 @@ impl<C: Call1S<R>, R: FunctionReturn + Drop> Function for Fn1S<C, R> {
 
 /// A callable of a lent list.
 pub trait Call1L<R: FunctionReturn>: Drop {
-    // Its outcome, by what its arguments stand for.
+    // Its outcome, by what its arguments denote.
     ghost meaning: { Self → List Val → Outcome };
 
     /// Calls it.
@@ -100,7 +100,7 @@ impl<C: Call1L<R>, R: FunctionReturn + Drop> Function for Fn1L<C, R> {
 
 /// A callable of a lent map.
 pub trait Call1M<R: FunctionReturn>: Drop {
-    // Its outcome, by what its arguments stand for.
+    // Its outcome, by what its arguments denote.
     ghost meaning: { Self → List Val → Outcome };
 
     /// Calls it.
@@ -142,7 +142,7 @@ impl<C: Call1M<R>, R: FunctionReturn + Drop> Function for Fn1M<C, R> {
 
 /// A callable of a lent value.
 pub trait Call1V<R: FunctionReturn>: Drop {
-    // Its outcome, by what its arguments stand for.
+    // Its outcome, by what its arguments denote.
     ghost meaning: { Self → List Val → Outcome };
 
     /// Calls it.

@@ -13,7 +13,7 @@ use upon_types::value::{Value, ValueCow};
 
 /// A callable of three owned arguments.
 pub trait Call3<A: OwnedArgument, B: OwnedArgument, C: OwnedArgument, R: FunctionReturn>: Drop {
-    // Its outcome, by what its arguments stand for.
+    // Its outcome, by what its arguments denote.
     ghost meaning: { Self → List Val → Outcome };
 
     /// Calls it.
@@ -71,7 +71,7 @@ pub trait Call4<
     D: OwnedArgument,
     R: FunctionReturn,
 >: Drop {
-    // Its outcome, by what its arguments stand for.
+    // Its outcome, by what its arguments denote.
     ghost meaning: { Self → List Val → Outcome };
 
     /// Calls it.
@@ -132,7 +132,7 @@ pub trait Call5<
     E: OwnedArgument,
     R: FunctionReturn,
 >: Drop {
-    // Its outcome, by what its arguments stand for.
+    // Its outcome, by what its arguments denote.
     ghost meaning: { Self → List Val → Outcome };
 
     /// Calls it.

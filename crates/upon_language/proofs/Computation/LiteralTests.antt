@@ -1,4 +1,4 @@
--- Whether the text of a number, an index or a string stands for a value, as tests that compute.
+-- Whether the text of a number, an index or a string denotes a value, as tests that compute.
 use Rattle.std.proofs.Common.{◌≡◌, ℕ, ◌^◌, ◌&&◌, nat_lt, ◌==◌, ℤ, pos, negsuc, FitsSigned, List, Bool, true, false, Option, Some, None, bytes_eq, refl, sym, ap, ◌∙◌}
 use Rattle.std.proofs.lemmas.Bool.{ltb-true}
 use Rattle.std.proofs.lemmas.Bool.Decides.{Decides-int_eq}

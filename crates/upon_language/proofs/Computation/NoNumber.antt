@@ -1,4 +1,4 @@
--- A tag whose first token inside is a number: its text stands for an integer.
+-- A tag whose first token inside is a number: its text denotes an integer.
 use Rattle.std.proofs.Common.{◌≡◌, ◌⊎◌, inl, inr, ℕ, ℤ, List, ◌∷◌, Bool, true, false, sym, ◌∙◌, subst}
 use Rattle.upon_types.specs.declared.types.Span.{Span}
 use Rattle.upon_types.specs.declared.types.token.Token.{Token}
@@ -17,7 +17,7 @@ use Rattle.upon_language.specs.Expressions.{op_token, sign_token, IsBareName, Is
 use Rattle.upon_language.specs.Grammar.{IsStatement}
 use Rattle.upon_language.proofs.Computation.NoTree.{NothingReads, first_goes, first_is, by_block}
 
--- the text of the token stands for an integer
+-- the text of the token denotes an integer
 abbrev pub StandsForInteger : List ℕ → Lexeme → Type 0
 StandsForInteger s l = (z : ℤ) × IsInteger false (slice s l.span) z
 
@@ -76,7 +76,7 @@ module _ (s : List ℕ) (begin l : Lexeme) (ls : List Lexeme) (begins : begin.to
   statement_number (for_loop names e body) rest h = absurd (not_block begin begins (by_block s _ begin (l ∷ ls) h.2.0 h.2.4))
   statement_number (with e name body) rest h = absurd (not_block begin begins (by_block s _ begin (l ∷ ls) h.2.0 h.2.4))
 
-  -- no tree reads from a begin and a number whose text stands for no integer
+  -- no tree reads from a begin and a number whose text denotes no integer
   pub no_number_reads : (StandsForInteger s l → ⊥) → NothingReads s (begin ∷ l ∷ ls)
   no_number_reads other no_statements are = cc are
   no_number_reads other (statement_then t ts) are = other (statement_number t are.0 are.1)

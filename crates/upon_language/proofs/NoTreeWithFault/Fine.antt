@@ -1,4 +1,4 @@
--- Tokens inside a tag that are fine as they are: literals stand for something, brackets match, and no delimiter is among them.
+-- Tokens inside a tag that are fine as they are: literals denote something, brackets match, and no delimiter is among them.
 use Rattle.std.proofs.Common.{◌≡◌, ℕ, ℤ, List, [], ◌∷◌, ◌++◌, true, false, Option, Some, refl, sym, ap, ◌∙◌, subst, append_assoc}
 use Rattle.upon_types.specs.declared.types.Span.{Span}
 use Rattle.upon_types.specs.declared.types.token.Token.{Token}

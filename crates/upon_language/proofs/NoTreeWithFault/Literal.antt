@@ -1,4 +1,4 @@
--- A text with a literal that stands for nothing, or with a comment that ends where it has just begun, has no tree.
+-- A text with a literal that denotes nothing, or with a comment that ends where it has just begun, has no tree.
 use Rattle.std.proofs.Common.{◌≡◌, inr, ℕ, suc, ◌+◌, ◌^◌, ◌<◌, ◌≤◌, nat_lt, List, [], ◌∷◌, ◌++◌, length, Bool, true, false, Option, Some, None, refl, ap, ◌∙◌, subst, arith, if◌then◌else◌}
 use Rattle.upon_types.specs.declared.types.Span.{Span}
 use Rattle.upon_types.specs.declared.types.token.Token.{Token}

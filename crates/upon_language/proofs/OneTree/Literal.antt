@@ -1,4 +1,4 @@
--- A literal's text stands for one value at most.
+-- A literal's text denotes one value at most.
 use Rattle.std.proofs.Common.{◌≡◌, ℕ, ◌+◌, ◌<◌, ℤ, List, [], ◌∷◌, ◌++◌, length, drop, Bool, true, Some, encode_utf8, refl, sym, ap, ◌∙◌, append_assoc, lit<}
 use Rattle.std.proofs.lemmas.Str.{encode_same, encode_ascii}
 use Rattle.upon_language.specs.Inside.{Piece, plain, escape, is_piece, pieces_text, EachIsPiece, string_text, IsQuoted}

@@ -32,7 +32,7 @@ first_is_magnitude [] = false
 first_is_magnitude (p ∷ ps) = is_magnitude p
 
 module _ (s : List ℕ) where
-  -- what a token stands for, where it is after no sign
+  -- what a token denotes, where it is after no sign
   abbrev pub Value : Token → Key → Lexeme → Type 0
   Value Keyword k l = is_key k ≡ true → slice s l.span ≡ key_word k
   Value Number k l = (z : ℤ) × IsInteger false (slice s l.span) z
@@ -40,7 +40,7 @@ module _ (s : List ℕ) where
   Value String k l = (text : List ℕ) × IsText s l.span.m l.span.n text
   Value t k l = Unit {0}
 
-  -- a number after the token stands for an integer, with the token as its sign where it is one
+  -- a number after the token denotes an integer, with the token as its sign where it is one
   abbrev pub NumberBehind : Lexeme → List Lexeme → Type 0
   NumberBehind l ls = (number : Lexeme) (rest : List Lexeme) → ls ≡ number ∷ rest → number.token ≡ Number → (z : ℤ) × IsInteger (minus_before (Some l)) (slice s number.span) z
 

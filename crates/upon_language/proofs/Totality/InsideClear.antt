@@ -25,7 +25,7 @@ use Rattle.upon_language.specs.FirstFault.{IsFirstFault}
 use Rattle.upon_language.proofs.Wanted.WantedAt.{path_one}
 use Rattle.upon_language.proofs.Totality.FittingClears.{StandsAt, AllClear, Fits, fitting_clears, clear_behind, first_stuck, stuck_token}
 
--- a literal after this token stands for something
+-- a literal after this token denotes something
 pub record FineLiteral (s : List ℕ) (before : Option Lexeme) (l : Lexeme) : Type 0 where
   pub number : l.token ≡ Number → number_report (slice s l.span) before l.span.m l.span.n ≡ None
   pub index : l.token ≡ Index → nat_lt (index_value (digits_in 10 (slice s l.span))) (2 ^ 64) ≡ true

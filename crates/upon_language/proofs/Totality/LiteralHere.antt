@@ -30,7 +30,7 @@ use Rattle.upon_language.proofs.Totality.LiteralValues.{number_stands, index_sta
 abbrev pub Fault : List DelimiterText → List ℕ → Type 0
 Fault delimiters s = (place : Span) × (reason : List ℕ) × IsFirstFault delimiters s place reason
 
--- a token that stands for something where it is a literal
+-- a token that denotes something where it is a literal
 pub record FineHere (s : List ℕ) (ls : List Lexeme) (p : ℕ) (t : Token) (hyphen : Bool) (to : ℕ) : Type 0 where
   pub number : t ≡ Number → number_report (slice s (span_of p to)) (last_of (tag_tokens ls)) p to ≡ None
   pub index : t ≡ Index → nat_lt (index_value (digits_in 10 (slice s (span_of p to)))) (2 ^ 64) ≡ true

@@ -1,4 +1,4 @@
--- A literal that has no fault stands for something.
+-- A literal that has no fault denotes something.
 use Rattle.std.proofs.Common.{◌≡◌, ℕ, zero, suc, ◌+◌, ◌-◌, ◌*◌, ◌^◌, ◌<◌, ◌≤◌, ◌==◌, nat_lt, ℤ, FitsSigned, List, [], ◌∷◌, ◌++◌, length, take, drop, Bool, true, false, Option, Some, None, if◌then◌else◌, encode_utf8, encode_utf8_all, codes, refl, sym, ap, ◌∙◌, subst, arith}
 use Rattle.std.proofs.Math.Nat.{add-mul, mul_assoc, pow-zero, pow-succ'}
 use Rattle.std.proofs.lemmas.Bool.{ltb-true}

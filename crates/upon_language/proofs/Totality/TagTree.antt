@@ -12,7 +12,7 @@ use Rattle.upon_language.specs.Parts.{Part, a_base, after_name, after_member, a_
 use Rattle.upon_language.proofs.Wanted.LeadingBegins.{known}
 use Rattle.upon_language.proofs.Totality.ExpressionTree.{is_magnitude, first_is_magnitude, Value, NumberBehind, Means, Reads, reads_on}
 
--- a literal after this token stands for something
+-- a literal after this token denotes something
 abbrev pub StandsFor : List ℕ → Option Lexeme → Token → Lexeme → Type 0
 StandsFor s before Number l = (z : ℤ) × IsInteger (minus_before before) (slice s l.span) z
 StandsFor s before Index l = (i : ℕ) × IsIndex (slice s l.span) i

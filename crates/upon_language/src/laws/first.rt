@@ -15,7 +15,7 @@ pub fn one_tree()
 
 /// Every span in the tree of a UTF-8 text lies in it, on character boundaries, and every name is what is at its
 /// span: whatever the delimiters, as long as each is UTF-8 and none is empty.
-pub fn places_lie_in()
+pub fn spans_lie_in()
     ensures { (delimiters : List DelimiterText) (s : List ℕ) (tree : Statements)
         → HasTexts delimiters → HasUtf8 delimiters → IsUtf8 s → HasTree delimiters s tree → EachLiesIn s tree }
 {}

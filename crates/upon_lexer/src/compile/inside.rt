@@ -41,7 +41,7 @@ pub fn token_inside(
     }
 }
 
-// The kind of the token that a character begins; a name's stands for keywords too.
+// The kind of the token that a character begins; a name's denotes keywords too.
 fn token_kind(c: char, in_path: bool) -> Option<Token>
     ensures { result ≡ token_kind in_path c }
 {

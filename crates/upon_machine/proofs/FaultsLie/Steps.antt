@@ -17,7 +17,7 @@ use Rattle.upon_meaning.specs.Emission.{format_outcome, callable_outcome}
 use Rattle.upon_meaning.specs.Engine.{Template, Calls, Resolver}
 use Rattle.upon_meaning.specs.Evaluation.{Operand, operand, call_value}
 use Rattle.upon_meaning.specs.Outcome.{End, good, fails, too_deep, States}
-use Rattle.upon_meaning.specs.RenderFaults.{EachPlace, TemplatesLie}
+use Rattle.upon_meaning.specs.RenderFaults.{EachSpan, TemplatesLie}
 use Rattle.upon_meaning.proofs.FaultsStated.Emissions.{EndFine, default_fine, emitted_fine}
 use Rattle.upon_meaning.proofs.FaultsStated.Expressions.{called_fine}
 use Rattle.upon_meaning.proofs.FaultsStated.Lookups.{Any, FoundFine, lookup_fine}
@@ -32,12 +32,12 @@ use Rattle.upon_machine.proofs.FaultsLie.Code.{program_spans}
 -- operands that are taken, and those below them
 abbrev Both : (Span → Type 0) → Option (List Operand × List Operand) → Type 0
 Both P None = Unit {0}
-Both P (Some both) = EachPlace P both.0 × EachPlace P both.1
+Both P (Some both) = EachSpan P both.0 × EachSpan P both.1
 
-taken_places : (P : Span → Type 0) (n : ℕ) (os ops : List Operand) → EachPlace P os → EachPlace P ops → Both P (taken_before n os ops)
-taken_places P zero os ops h k = (h, k)
-taken_places P (suc n) os [] h k = tt
-taken_places P (suc n) os (o ∷ ops) h k = taken_places P n (o ∷ os) ops (k.0, h) k.1
+taken_spans : (P : Span → Type 0) (n : ℕ) (os ops : List Operand) → EachSpan P os → EachSpan P ops → Both P (taken_before n os ops)
+taken_spans P zero os ops h k = (h, k)
+taken_spans P (suc n) os [] h k = tt
+taken_spans P (suc n) os (o ∷ ops) h k = taken_spans P n (o ∷ os) ops (k.0, h) k.1
 
 -- the instruction at an offset
 abbrev Instruction : (Span → Type 0) → Option Instr → Type 0
@@ -58,23 +58,23 @@ module _ {V T : Type 0} (calls : Calls V) (resolve : Resolver T) where
     P = LiesIn source
 
     -- on in the same template, with these operands
-    on_with : (ops : List Operand) (fs : List Frame) (place : ℕ) (q : States V T) → EachPlace P ops → StateLies (record s { position = place; operands = ops; frames = fs; asked = q })
+    on_with : (ops : List Operand) (fs : List Frame) (place : ℕ) (q : States V T) → EachSpan P ops → StateLies (record s { position = place; operands = ops; frames = fs; asked = q })
     on_with ops fs place q k = record { active = h.active; callers = h.callers; operands = k }
 
-    ends_lie : (text : List ℕ) (end : End) (ops : List Operand) → EndFine calls resolve P end → EachPlace P ops → NextLies source (ends_with text end (moved s ops s.frames s.asked.values))
+    ends_lie : (text : List ℕ) (end : End) (ops : List Operand) → EndFine calls resolve P end → EachSpan P ops → NextLies source (ends_with text end (moved s ops s.frames s.asked.values))
     ends_lie text good ops x k = on_with ops s.frames (s.position + 1) _ k
     ends_lie text (fails f) ops x k = record { span = x.span; placed = x.placed; lies = x.lies }
     ends_lie text too_deep ops x k = tt
 
-    pushes_lie : (x : Finding Val) (at : Span) (ops : List Operand) (q : V) → FoundFine calls resolve P Any x → P at → EachPlace P ops → NextLies source (pushes x at s ops q)
+    pushes_lie : (x : Finding Val) (at : Span) (ops : List Operand) (q : V) → FoundFine calls resolve P Any x → P at → EachSpan P ops → NextLies source (pushes x at s ops q)
     pushes_lie (found v) at ops q x k os = on_with (operand v at ∷ ops) s.frames (s.position + 1) _ (k, os)
     pushes_lie (at_fault f) at ops q x k os = record { span = x.span; placed = x.placed; lies = x.lies }
 
-    top_lies : (ops : List Operand) (go : Operand → List Operand → Next V T) → EachPlace P ops → ((o : Operand) (below : List Operand) → P o.span → EachPlace P below → NextLies source (go o below)) → NextLies source (with_top ops go)
+    top_lies : (ops : List Operand) (go : Operand → List Operand → Next V T) → EachSpan P ops → ((o : Operand) (below : List Operand) → P o.span → EachSpan P below → NextLies source (go o below)) → NextLies source (with_top ops go)
     top_lies [] go k then = tt
     top_lies (o ∷ ops) go k then = then o ops k.0 k.1
 
-    taken_lie : (x : Option (List Operand × List Operand)) (go : List Operand → List Operand → Next V T) → Both P x → ((os ops : List Operand) → EachPlace P os → EachPlace P ops → NextLies source (go os ops)) → NextLies source (with_taken x go)
+    taken_lie : (x : Option (List Operand × List Operand)) (go : List Operand → List Operand → Next V T) → Both P x → ((os ops : List Operand) → EachSpan P os → EachSpan P ops → NextLies source (go os ops)) → NextLies source (with_taken x go)
     taken_lie None go k then = tt
     taken_lie (Some both) go k then = then both.0 both.1 k.0 k.1
 
@@ -82,7 +82,7 @@ module _ {V T : Type 0} (calls : Calls V) (resolve : Resolver T) where
     none_lies [] next k = k
     none_lies (o ∷ ops) next k = tt
 
-    item_lies : (w v : Val) (at : Span) (ops : List Operand) → P at → EachPlace P ops → NextLies source (adds_item w v at s ops)
+    item_lies : (w v : Val) (at : Span) (ops : List Operand) → P at → EachSpan P ops → NextLies source (adds_item w v at s ops)
     item_lies (list_val vs) v at ops k os = on_with _ s.frames (s.position + 1) _ (k, os)
     item_lies none_val v at ops k os = tt
     item_lies (bool_val b) v at ops k os = tt
@@ -90,7 +90,7 @@ module _ {V T : Type 0} (calls : Calls V) (resolve : Resolver T) where
     item_lies (text_val t) v at ops k os = tt
     item_lies (map_val es) v at ops k os = tt
 
-    entry_lies : (w : Val) (key : Ident) (v : Val) (at : Span) (ops : List Operand) → P at → EachPlace P ops → NextLies source (adds_entry w key v at s ops)
+    entry_lies : (w : Val) (key : Ident) (v : Val) (at : Span) (ops : List Operand) → P at → EachSpan P ops → NextLies source (adds_entry w key v at s ops)
     entry_lies (map_val es) key v at ops k os = on_with _ s.frames (s.position + 1) _ (k, os)
     entry_lies none_val key v at ops k os = tt
     entry_lies (bool_val b) key v at ops k os = tt
@@ -98,7 +98,7 @@ module _ {V T : Type 0} (calls : Calls V) (resolve : Resolver T) where
     entry_lies (text_val t) key v at ops k os = tt
     entry_lies (list_val vs) key v at ops k os = tt
 
-    starts_lie : (x : Finding (List (List Binding))) (ops : List Operand) → FoundFine calls resolve P Any x → EachPlace P ops → NextLies source (starts x s ops)
+    starts_lie : (x : Finding (List (List Binding))) (ops : List Operand) → FoundFine calls resolve P Any x → EachSpan P ops → NextLies source (starts x s ops)
     starts_lie (found items) ops x k = on_with ops _ (s.position + 1) _ k
     starts_lie (at_fault f) ops x k = record { span = x.span; placed = x.placed; lies = x.lies }
 
@@ -124,8 +124,8 @@ module _ {V T : Type 0} (calls : Calls V) (resolve : Resolver T) where
     enters_lie (refuses text) word scoped fs templates k at = record { span = word.span; placed = refl; lies = at }
 
     returns_lie : (scoped : Bool) (c : Caller) (callers : List Caller) (fs : List Frame) → CallersLie (c ∷ callers) → s.operands ≡ [] → NextLies source (returns scoped c callers fs s)
-    returns_lie false c callers fs k none = record { active = k.0; callers = k.1; operands = subst (EachPlace (LiesIn c.active.running.source)) (sym none) tt }
-    returns_lie true c callers (scope v ∷ fs) k none = record { active = k.0; callers = k.1; operands = subst (EachPlace (LiesIn c.active.running.source)) (sym none) tt }
+    returns_lie false c callers fs k none = record { active = k.0; callers = k.1; operands = subst (EachSpan (LiesIn c.active.running.source)) (sym none) tt }
+    returns_lie true c callers (scope v ∷ fs) k none = record { active = k.0; callers = k.1; operands = subst (EachSpan (LiesIn c.active.running.source)) (sym none) tt }
     returns_lie true c callers (variable word v ∷ fs) k none = tt
     returns_lie true c callers (loop count next bs items ∷ fs) k none = tt
     returns_lie true c callers [] k none = tt
@@ -146,7 +146,7 @@ module _ {V T : Type 0} (calls : Calls V) (resolve : Resolver T) where
     act_lies root others (Some emit) k = top_lies s.operands _ h.operands (λ o ops at below. ends_lie _ (format_outcome (calls.default_formatter o.value) o.span).end ops (default_fine calls resolve P o.value o.span at) below)
     act_lies root others (Some (emit_raw span)) k = on_with s.operands s.frames (s.position + 1) _ h.operands
     act_lies root others (Some (emit_with name n span)) k =
-        taken_lie (taken n s.operands) _ (taken_places P n [] s.operands tt h.operands)
+        taken_lie (taken n s.operands) _ (taken_spans P n [] s.operands tt h.operands)
         (λ os ops at below. ends_lie _ (callable_outcome calls.default_formatter name span os (calls.callables name.text)).end ops (emitted_fine calls resolve P name span os at k.0 k.1) below)
     act_lies root others (Some (loop_start names span)) k = top_lies s.operands _ h.operands (λ o ops at below. starts_lie (items_of names o.value span) ops (items_fine calls resolve P names o.value span k.0 k.1) below)
     act_lies root others (Some (loop_next n)) k = turn_lies n s.frames
@@ -167,7 +167,7 @@ module _ {V T : Type 0} (calls : Calls V) (resolve : Resolver T) where
     act_lies root others (Some expr_list_push) k = top_lies s.operands _ h.operands (λ v below at rest. top_lies below _ rest (λ o ops there left. item_lies o.value v.value o.span ops there left))
     act_lies root others (Some (expr_map_insert key)) k = top_lies s.operands _ h.operands (λ v below at rest. top_lies below _ rest (λ o ops there left. entry_lies o.value key v.value o.span ops there left))
     act_lies root others (Some (apply name n span)) k =
-        taken_lie (taken n s.operands) _ (taken_places P n [] s.operands tt h.operands)
+        taken_lie (taken n s.operands) _ (taken_spans P n [] s.operands tt h.operands)
         (λ os ops at below. pushes_lie (call_value name span os (calls.callables name.text)) span ops s.asked.values (called_fine calls resolve P name span os at k.0 k.1) k.1 below)
 
   pub step_lies : (root : Root) (s : State V T) → TemplatesLie resolve → StateLies s → NextLies s.active.running.source (step calls resolve root s)

@@ -14,8 +14,8 @@ use Rattle.upon_meaning.specs.Emission.{Emission, end_of, format_outcome, or_fau
 use Rattle.upon_meaning.specs.Engine.{Calls, Resolver}
 use Rattle.upon_meaning.specs.Evaluation.{Operand, values_of, answer_value, append_operand, evaluate, evaluate_base, evaluate_arguments}
 use Rattle.upon_meaning.specs.Outcome.{End, good, fails, too_deep}
-use Rattle.upon_meaning.specs.RenderFaults.{EachPlace, IsStated, unknown_callable, formatter_expects, formatter_refused, default_refused}
-use Rattle.upon_meaning.proofs.FaultsStated.Expressions.{AtPlace, answered_fine, then_fine, expression_fine, base_fine, arguments_fine}
+use Rattle.upon_meaning.specs.RenderFaults.{EachSpan, IsStated, unknown_callable, formatter_expects, formatter_refused, default_refused}
+use Rattle.upon_meaning.proofs.FaultsStated.Expressions.{AtSpan, answered_fine, then_fine, expression_fine, base_fine, arguments_fine}
 use Rattle.upon_meaning.proofs.FaultsStated.Lookups.{Any, IsFine, FoundFine, wrong_fine}
 
 module _ {V T : Type 0} (calls : Calls V) (resolve : Resolver T) (P : Span → Type 0) where
@@ -41,19 +41,19 @@ module _ {V T : Type 0} (calls : Calls V) (resolve : Resolver T) (P : Span → T
   formatted_fine f name (o ∷ []) is n = end_fine (f o.value).end name.span (λ message e. formatter_refused name.text f o.value message is e) n
   formatted_fine f name (o ∷ p ∷ given) is n = wrong_fine calls resolve P _ name.span (formatter_expects (length (o ∷ p ∷ given))) n
 
-  emitted_by : (name : Ident) (whole : Span) (given : List Operand) (callable : Option Callable) → calls.callables name.text ≡ callable → EachPlace P given → P name.span → P whole → EndFine (callable_outcome calls.default_formatter name whole given callable).end
+  emitted_by : (name : Ident) (whole : Span) (given : List Operand) (callable : Option Callable) → calls.callables name.text ≡ callable → EachSpan P given → P name.span → P whole → EndFine (callable_outcome calls.default_formatter name whole given callable).end
   emitted_by name whole given None is h n k = wrong_fine calls resolve P _ name.span unknown_callable n
   emitted_by name whole given (Some (formatter f)) is h n k = formatted_fine f name given is n
   emitted_by name whole given (Some (function f)) is h n k = found_shown Any (answer_value name name.span given (f (values_of given))) _ (answered_fine calls resolve P name name.span given f (f (values_of given)) is refl h n) (λ v x. default_fine v whole k)
 
-  pub emitted_fine : (name : Ident) (whole : Span) (given : List Operand) → EachPlace P given → P name.span → P whole → EndFine (callable_outcome calls.default_formatter name whole given (calls.callables name.text)).end
+  pub emitted_fine : (name : Ident) (whole : Span) (given : List Operand) → EachSpan P given → P name.span → P whole → EndFine (callable_outcome calls.default_formatter name whole given (calls.callables name.text)).end
   emitted_fine name whole given h n k = emitted_by name whole given (calls.callables name.text) refl h n k
 
-  applied_fine : (name : Ident) (whole : Span) (r : Reply V (Finding (List Operand))) → FoundFine calls resolve P (EachPlace P) r.answer → P name.span → P whole → EndFine (emit_call calls name whole r).end
-  applied_fine name whole r h n k = found_shown (EachPlace P) r.answer _ h (λ os x. emitted_fine name whole os x n k)
+  applied_fine : (name : Ident) (whole : Span) (r : Reply V (Finding (List Operand))) → FoundFine calls resolve P (EachSpan P) r.answer → P name.span → P whole → EndFine (emit_call calls name whole r).end
+  applied_fine name whole r h n k = found_shown (EachSpan P) r.answer _ h (λ os x. emitted_fine name whole os x n k)
 
-  value_fine : (r : Reply V (Finding Operand)) → FoundFine calls resolve P (AtPlace calls resolve P) r.answer → EndFine (emit_value calls r).end
-  value_fine r h = found_shown (AtPlace calls resolve P) r.answer _ h (λ o x. default_fine o.value o.span x)
+  value_fine : (r : Reply V (Finding Operand)) → FoundFine calls resolve P (AtSpan calls resolve P) r.answer → EndFine (emit_value calls r).end
+  value_fine r h = found_shown (AtSpan calls resolve P) r.answer _ h (λ o x. default_fine o.value o.span x)
 
   module _ (covers : Covers P) (env : Environment) where
     mutual

@@ -22,7 +22,7 @@ use Rattle.upon_meaning.specs.Outcome.{End, good, fails, too_deep, Outcome, Stat
 use Rattle.upon_meaning.specs.RenderFaults.{IsStated, list_item_into_two, map_item_into_one, not_iterable, template_refused, Runs, itself, EndStated}
 use Rattle.upon_meaning.specs.RenderFaults.{included as of_include}
 use Rattle.upon_meaning.proofs.FaultsStated.Emissions.{EndFine, emission_fine}
-use Rattle.upon_meaning.proofs.FaultsStated.Expressions.{AtPlace, expression_fine}
+use Rattle.upon_meaning.proofs.FaultsStated.Expressions.{AtSpan, expression_fine}
 use Rattle.upon_meaning.proofs.FaultsStated.Lookups.{Any, IsFine, FoundFine, wrong_fine}
 
 module _ {V T : Type 0} (calls : Calls V) (resolve : Resolver T) where
@@ -75,7 +75,7 @@ module _ {V T : Type 0} (calls : Calls V) (resolve : Resolver T) where
 
     -- statements, where includes end so
     module _ (from : RunningTemplate) (runs : Runs resolve top top_name from) (i : Inclusion V T) (h : (word : Ident) → Lies from.source word.span → (env : Environment) (s : States V T) → Stated (i from word env s).end) where
-      value_stated : (x : Finding Operand) (s : States V T) (go : Val → States V T → Outcome (States V T)) → FoundFine calls resolve (Lies from.source) (AtPlace calls resolve (Lies from.source)) x → ((v : Val) (s : States V T) → Stated (go v s).end) → Stated (on_value from x s go).end
+      value_stated : (x : Finding Operand) (s : States V T) (go : Val → States V T → Outcome (States V T)) → FoundFine calls resolve (Lies from.source) (AtSpan calls resolve (Lies from.source)) x → ((v : Val) (s : States V T) → Stated (go v s).end) → Stated (on_value from x s go).end
       value_stated (found o) s go x k = k o.value s
       value_stated (at_fault f) s go x k = told_stated from runs f x
 

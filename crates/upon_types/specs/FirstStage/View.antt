@@ -1,4 +1,4 @@
--- The tree that a tree of the code stands for.
+-- The tree that a tree of the code denotes.
 use Rattle.std.specs.Prelude.{List, [], ◌∷◌, string_bytes}
 use Rattle.upon_types.specs.FirstStage.Tree.{Statement, raw, inline_expr, Statements, no_statements, statement_then}
 use Rattle.upon_types.specs.declared.types.first.Stmt.{Stmt}

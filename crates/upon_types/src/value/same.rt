@@ -1,4 +1,4 @@
-// When two values are the same: where they stand for one value. A map is known by what is at each key.
+// When two values are the same: where they denote one value. A map is known by what is at each key.
 ghost use Rattle.std.specs.Prelude.{◌≡◌, ◌↔◌, ℕ, List, true, IsTrue, length};
 ghost use Rattle.std.specs.BTreeMap.{btree_map_len};
 ghost use Rattle.std.specs.Cmp.{partial_equiv_from_equiv, on_equiv};
@@ -87,7 +87,7 @@ pub fn is_same_map(a: &BTreeMap<String, Value>, b: &BTreeMap<String, Value>) -> 
     a.len() == b.len() && same_entries(a, b)
 }
 
-/// Nothing runs here: the clauses are the laws of `==`, over what values stand for.
+/// Nothing runs here: the clauses are the laws of `==`, over what values denote.
 pub fn laws_of_equality()
     ensures reflexive { (v : Val) → val_eq v v ≡ true }
     ensures symmetric { (v w : Val) → val_eq v w ≡ true → val_eq w v ≡ true }

@@ -15,7 +15,7 @@ use upon_types::value::{Value, ValueCow};
 
 /// A callable of a lent list and an owned argument.
 pub trait Call2LO<A: OwnedArgument, R: FunctionReturn>: Drop {
-    // Its outcome, by what its arguments stand for.
+    // Its outcome, by what its arguments denote.
     ghost meaning: { Self → List Val → Outcome };
 
     /// Calls it.
@@ -59,7 +59,7 @@ impl<C: Call2LO<A, R>, A: OwnedArgument + Drop, R: FunctionReturn + Drop> Functi
 
 /// A callable of a lent list and a lent text.
 pub trait Call2LS<R: FunctionReturn>: Drop {
-    // Its outcome, by what its arguments stand for.
+    // Its outcome, by what its arguments denote.
     ghost meaning: { Self → List Val → Outcome };
 
     /// Calls it.
@@ -102,7 +102,7 @@ impl<C: Call2LS<R>, R: FunctionReturn + Drop> Function for Fn2LS<C, R> {
 
 /// A callable of a lent list and a lent value.
 pub trait Call2LV<R: FunctionReturn>: Drop {
-    // Its outcome, by what its arguments stand for.
+    // Its outcome, by what its arguments denote.
     ghost meaning: { Self → List Val → Outcome };
 
     /// Calls it.

@@ -16,7 +16,7 @@ use upon_types::value::{Value, ValueCow};
 
 /// A callable of a lent map and an owned argument.
 pub trait Call2MO<A: OwnedArgument, R: FunctionReturn>: Drop {
-    // Its outcome, by what its arguments stand for.
+    // Its outcome, by what its arguments denote.
     ghost meaning: { Self → List Val → Outcome };
 
     /// Calls it.
@@ -60,7 +60,7 @@ impl<C: Call2MO<A, R>, A: OwnedArgument + Drop, R: FunctionReturn + Drop> Functi
 
 /// A callable of a lent map and a lent text.
 pub trait Call2MS<R: FunctionReturn>: Drop {
-    // Its outcome, by what its arguments stand for.
+    // Its outcome, by what its arguments denote.
     ghost meaning: { Self → List Val → Outcome };
 
     /// Calls it.
@@ -103,7 +103,7 @@ impl<C: Call2MS<R>, R: FunctionReturn + Drop> Function for Fn2MS<C, R> {
 
 /// A callable of a lent map and a lent value.
 pub trait Call2MV<R: FunctionReturn>: Drop {
-    // Its outcome, by what its arguments stand for.
+    // Its outcome, by what its arguments denote.
     ghost meaning: { Self → List Val → Outcome };
 
     /// Calls it.

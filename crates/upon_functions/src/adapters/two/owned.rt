@@ -15,7 +15,7 @@ use upon_types::value::{Value, ValueCow};
 
 /// A callable of an owned argument and a lent text.
 pub trait Call2OS<A: OwnedArgument, R: FunctionReturn>: Drop {
-    // Its outcome, by what its arguments stand for.
+    // Its outcome, by what its arguments denote.
     ghost meaning: { Self → List Val → Outcome };
 
     /// Calls it.
@@ -59,7 +59,7 @@ impl<C: Call2OS<A, R>, A: OwnedArgument + Drop, R: FunctionReturn + Drop> Functi
 
 /// A callable of an owned argument and a lent value.
 pub trait Call2OV<A: OwnedArgument, R: FunctionReturn>: Drop {
-    // Its outcome, by what its arguments stand for.
+    // Its outcome, by what its arguments denote.
     ghost meaning: { Self → List Val → Outcome };
 
     /// Calls it.

@@ -15,7 +15,7 @@ use upon_types::value::{Value, ValueCow};
 
 /// A callable of a lent text and an owned argument.
 pub trait Call2SO<A: OwnedArgument, R: FunctionReturn>: Drop {
-    // Its outcome, by what its arguments stand for.
+    // Its outcome, by what its arguments denote.
     ghost meaning: { Self → List Val → Outcome };
 
     /// Calls it.
@@ -59,7 +59,7 @@ impl<C: Call2SO<A, R>, A: OwnedArgument + Drop, R: FunctionReturn + Drop> Functi
 
 /// A callable of two lent texts.
 pub trait Call2SS<R: FunctionReturn>: Drop {
-    // Its outcome, by what its arguments stand for.
+    // Its outcome, by what its arguments denote.
     ghost meaning: { Self → List Val → Outcome };
 
     /// Calls it.
@@ -102,7 +102,7 @@ impl<C: Call2SS<R>, R: FunctionReturn + Drop> Function for Fn2SS<C, R> {
 
 /// A callable of a lent text and a lent value.
 pub trait Call2SV<R: FunctionReturn>: Drop {
-    // Its outcome, by what its arguments stand for.
+    // Its outcome, by what its arguments denote.
     ghost meaning: { Self → List Val → Outcome };
 
     /// Calls it.

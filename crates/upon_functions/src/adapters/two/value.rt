@@ -15,7 +15,7 @@ use upon_types::value::{Value, ValueCow};
 
 /// A callable of a lent value and an owned argument.
 pub trait Call2VO<A: OwnedArgument, R: FunctionReturn>: Drop {
-    // Its outcome, by what its arguments stand for.
+    // Its outcome, by what its arguments denote.
     ghost meaning: { Self → List Val → Outcome };
 
     /// Calls it.
@@ -58,7 +58,7 @@ impl<C: Call2VO<A, R>, A: OwnedArgument + Drop, R: FunctionReturn + Drop> Functi
 
 /// A callable of a lent value and a lent text.
 pub trait Call2VS<R: FunctionReturn>: Drop {
-    // Its outcome, by what its arguments stand for.
+    // Its outcome, by what its arguments denote.
     ghost meaning: { Self → List Val → Outcome };
 
     /// Calls it.
@@ -100,7 +100,7 @@ impl<C: Call2VS<R>, R: FunctionReturn + Drop> Function for Fn2VS<C, R> {
 
 /// A callable of two lent values.
 pub trait Call2VV<R: FunctionReturn>: Drop {
-    // Its outcome, by what its arguments stand for.
+    // Its outcome, by what its arguments denote.
     ghost meaning: { Self → List Val → Outcome };
 
     /// Calls it.

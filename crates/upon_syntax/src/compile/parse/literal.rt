@@ -1,4 +1,4 @@
-// What the text of a number or an index stands for, or what is wrong with it.
+// What the text of a number or an index denotes, or what is wrong with it.
 ghost use Rattle.std.specs.Prelude.{◌≡◌, ℕ, ◌^◌, ◌≤◌, ◌<◌, List, length, drop, nat_lt, false, Some, IfOk, IfErr, MatchOption, codes, ◌++◌, ◌+◌, ◌-◌, string_bytes, encode_utf8, None, [], ◌∷◌};
 ghost use Rattle.upon_language.specs.Literal.{IsText, escape_value, with_sign, sum_of_digits, digits_in, base_and_digits, IsInteger, IsIndex};
 ghost use Rattle.upon_language.specs.LiteralFaults.{magnitude_limit, digit_fault, number_fault, index_value, is_float, escape_fault};
@@ -43,7 +43,7 @@ pub fn notation_of(text: &str) -> Notation
     }
 }
 
-/// The integer that a number stands for, after a minus or without one; or what is wrong with its digits.
+/// The integer that a number denotes, after a minus or without one; or what is wrong with its digits.
 pub fn number(text: &str, minus: bool) -> Result<i64, DigitFault>
     ensures ok { IfOk result (λ z. IsInteger minus text.now z) }
     ensures err { IfErr result (λ fault. number_fault minus text.now ≡ Some (fault_of_digits fault)) }
@@ -67,7 +67,7 @@ pub struct Lexed {
     pub span: Span,
 }
 
-/// The integer that the number at an offset stands for, with the sign that the token before it may be; or its fault.
+/// The integer that the number at an offset denotes, with the sign that the token before it may be; or its fault.
 pub fn number_at(source: &str, before: Option<Lexed>, span: Span) -> Result<i64, Refusal>
     requires span { LiesIn source.now span }
     ensures ok { IfOk result (λ z. IsInteger (minus_before (before_of before)) (slice source.now span) z) }
@@ -131,7 +131,7 @@ pub fn strange_escape(source: &str, span: Span) -> Option<Span>
     None
 }
 
-/// The text that a string stands for, whose escapes are all of the five.
+/// The text that a string denotes, whose escapes are all of the five.
 pub fn text(alloc: Global, source: &str, span: Span) -> Result<String, AllocError>
     requires span { LiesIn source.now span }
     requires string { IsQuoted source.now span.m span.n }
@@ -163,7 +163,7 @@ pub fn text(alloc: Global, source: &str, span: Span) -> Result<String, AllocErro
     Ok(text)
 }
 
-// The character that an escape stands for, where it is one of the five.
+// The character that an escape denotes, where it is one of the five.
 fn unescape(c: char) -> Option<char>
     ensures { MatchOption result (escape_value c ≡ None) (λ d. escape_value c ≡ Some (encode_utf8 d)) }
 {
@@ -239,7 +239,7 @@ fn out_of_range(base: u32) -> &'static str
     }
 }
 
-/// The number that an index stands for; none where it is too large.
+/// The number that an index denotes; none where it is too large.
 pub fn index(text: &str) -> Option<usize>
     requires { (digits : List ℕ) × (digits_in 10 text.now ≡ Some digits) }
     ensures { MatchOption
