@@ -84,6 +84,7 @@ impl<'a> LoopState<'a> {
         self.here = Some(Here { index, item });
         Some(())
     }
+
     /// What the loop binds to the path, or `None` where it does not bind the name that is the path's first member, and
     /// before the first item.
     ///

@@ -21,7 +21,7 @@ pub enum ValueAccessOp {
 /// What a member asks for.
 #[derive(Clone, Copy, Debug, PartialEq, Eq, Hash)]
 pub enum ValueAccess<'a> {
-    /// The item at this span of a list.
+    /// The item at this index of a list.
     Index(usize),
     /// The value at this key of a map.
     Key(&'a str),

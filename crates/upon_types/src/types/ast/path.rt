@@ -29,7 +29,7 @@ pub enum AccessOp {
 /// What picks a value out of another.
 #[derive(Drop)]
 pub enum Access {
-    /// The item at this span of a list.
+    /// The item at this index of a list.
     Index(Index),
     /// The value at this key of a map.
     Key(Ident),
