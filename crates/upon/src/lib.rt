@@ -9,10 +9,11 @@ ghost use Rattle.upon_types.specs.Fault.{syntax, OrMemory};
 ghost use Rattle.upon_types.specs.FirstStage.Tree.{Statements};
 ghost use Rattle.upon_types.specs.View.{view};
 ghost use Rattle.upon_language.specs.FirstStage.Grammar.{HasTree};
-ghost use Rattle.upon_syntax.specs.Parsed.{unsupported};
+ghost use Rattle.upon_syntax.specs.FirstStage.Parsed.{unsupported};
 ghost use Rattle.upon_language.specs.DefaultDelimiters.{default_delimiters};
 ghost use Rattle.upon_lexer.specs.Syntax.{syntax_delimiters};
 
+pub mod functions;
 pub mod program;
 pub mod render;
 
@@ -23,7 +24,7 @@ use std::alloc::Global;
 use std::borrow::CowStr;
 use std::marker::PhantomData;
 pub use upon_syntax::compile;
-use upon_syntax::compile::parse::Parser;
+use upon_syntax::compile::first::Parser;
 use upon_syntax::compile::search::Searcher;
 pub use upon_syntax::types::syntax::Syntax;
 pub use upon_types::error::{Error, Result};

@@ -11,7 +11,7 @@ Test = Val → Option Misfit
 abbrev pub any_misfit : Test
 any_misfit v = None
 
--- arguments that take one kind of value, each with its word
+-- no value
 abbrev pub unit_misfit : Test
 unit_misfit none_val = None
 unit_misfit v = Some (wrong_type (codes "()"))

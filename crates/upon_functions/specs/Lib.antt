@@ -3,4 +3,4 @@ pub mod Integers
 pub mod Fair
 pub mod Outcome
 pub mod Says
-pub mod Adapters
+pub mod Blames

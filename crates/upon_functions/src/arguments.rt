@@ -12,7 +12,7 @@ use upon_types::value::Value;
 
 mod integers;
 mod kinds;
-pub(crate) mod lent;
+pub mod lent;
 
 /// An owned argument: what is made of a value for a callable to keep.
 pub trait OwnedArgument: Sized {

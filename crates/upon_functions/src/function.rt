@@ -1,6 +1,6 @@
 // What a template's function is, and how it fails.
 ghost use Rattle.std.specs.Prelude.{◌≡◌, List};
-ghost use Rattle.upon_functions.specs.Adapters.{BlamesGiven};
+ghost use Rattle.upon_functions.specs.Blames.{BlamesGiven};
 ghost use Rattle.upon_functions.specs.Says.{Says, arguments_view};
 ghost use Rattle.upon_types.specs.Answers.{Answer};
 ghost use Rattle.upon_types.specs.Val.{Val};

@@ -1,8 +1,6 @@
-// The functions that templates call: what a function is, and adapters that make one of a callable over Rust's types.
+// The functions that templates call: what a function is, what it takes as arguments, and what it may return.
 #![tactic(auto)]
 
-pub mod adapters;
 pub mod arguments;
-pub mod closures;
 pub mod function;
 pub mod returns;

@@ -130,8 +130,8 @@ abbrev mutual
   -- [Args] ")": the arguments are from the call's name to the last of them
   pub IsCallBody : List ℕ → Arguments → Span → List Lexeme → List Lexeme → Type 0
   IsCallBody s no_arguments span before rest = Closes CloseParen span before rest
-  IsCallBody s (arguments bases place) span before rest = (mid : List Lexeme) × IsArgs s bases before mid ×
-      (place ≡ record { m = span.m; n = last_end 0 bases }) × Closes CloseParen span mid rest
+  IsCallBody s (arguments bases at) span before rest = (mid : List Lexeme) × IsArgs s bases before mid ×
+      (at ≡ record { m = span.m; n = last_end 0 bases }) × Closes CloseParen span mid rest
 
   -- Args = Base ("," Base)*
   pub IsArgs : List ℕ → Bases → List Lexeme → List Lexeme → Type 0
@@ -155,5 +155,5 @@ abbrev mutual
   -- [":" Args]: the arguments are from the colon to the last of them
   pub IsFilterArgs : List ℕ → Arguments → List Lexeme → List Lexeme → Type 0
   IsFilterArgs s no_arguments before rest = before ≡ rest
-  IsFilterArgs s (arguments bases place) before rest = (colon : Span) × (mid : List Lexeme)
-      × Goes Colon colon before mid × IsArgs s bases mid rest × (place ≡ record { m = colon.m; n = last_end 0 bases })
+  IsFilterArgs s (arguments bases at) before rest = (colon : Span) × (mid : List Lexeme)
+      × Goes Colon colon before mid × IsArgs s bases mid rest × (at ≡ record { m = colon.m; n = last_end 0 bases })

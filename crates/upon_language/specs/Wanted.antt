@@ -66,13 +66,13 @@ shows a_number = plain_symbol Number
 shows a_colon = plain_symbol Colon
 
 -- this word may follow the row
-abbrev pub MayStand : List Symbol → Wanted → Type 0
-MayStand row w = BeginsTag (row ++ shows w ∷ [])
+abbrev pub MayFollow : List Symbol → Wanted → Type 0
+MayFollow row w = BeginsTag (row ++ shows w ∷ [])
 
 -- after the row this word may be, and none of a lesser rank
 pub record IsWanted (row : List Symbol) (w : Wanted) : Type 0 where
-  pub may_stand : MayStand row w
-  pub least : (v : Wanted) → rank v < rank w → MayStand row v → ⊥
+  pub may_follow : MayFollow row w
+  pub least : (v : Wanted) → rank v < rank w → MayFollow row v → ⊥
 
 -- the words that report it
 abbrev pub wanted_word : Wanted → List ℕ

@@ -1,4 +1,6 @@
 pub mod Entries
+pub mod SetTexts
+pub mod SameDelimiters
 pub mod OpenBrackets
 pub mod Trims
 pub mod OpenTagPlaces
@@ -7,3 +9,4 @@ pub mod ReadMore
 pub mod Lines
 pub mod Spaces
 pub mod Starts
+pub mod Spelling

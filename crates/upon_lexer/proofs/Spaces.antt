@@ -1,5 +1,5 @@
 -- No whitespace follows whitespace: its run has gone as far as it goes.
-use Rattle.std.proofs.Common.{◌≡◌, ℕ, List, [], ◌∷◌, ◌++◌, Bool, true, false, Some, None, Ok, Err, Option, Result, inl, inr, refl, sym, ap, ◌∙◌, subst}
+use Rattle.std.proofs.Common.{◌≡◌, ℕ, ◌<◌, arith, IfOk, IfSome, List, [], ◌∷◌, ◌++◌, Bool, true, false, Some, None, Ok, Err, Option, Result, inl, inr, refl, sym, ap, ◌∙◌, subst}
 use Rattle.std.proofs.lemmas.List.{append-nil}
 use Rattle.upon_types.specs.declared.types.Span.{Span}
 use Rattle.upon_types.specs.declared.types.token.Token.{Token}
@@ -14,6 +14,7 @@ use Rattle.upon_language.specs.Tokens.{is_space}
 use Rattle.upon_language.proofs.NoTreeWithFault.InsideTag.{end_is_no_space}
 use Rattle.upon_language.proofs.NoTreeWithFault.NextToken.{begin_is_no_space}
 use Rattle.upon_language.specs.Lexing.{LexerState, HasRead, Lexes, LexesAfterSpace, IsNoSpace}
+use Rattle.upon_lexer.specs.Spelling.{LiesBetween}
 
 -- the last step of a cut
 pub record LastStep (delimiters : List DelimiterText) (s : List ℕ) (mode : Mode) (m : ℕ) (ls : List Lexeme) (l : Lexeme) (n : ℕ) : Type 0 where
@@ -95,3 +96,15 @@ module _ (delimiters : List DelimiterText) (s : List ℕ) where
     has_read = r;
     counts = no_space_behind behind ls a result after spaced h;
   }
+
+-- what is further after more is further after all
+pub further_still : {A E : Type 0} (m n k : ℕ) (result : Result (Option A) E) → m < n → IfOk result (λ found. IfSome found (λ _. n < k)) → IfOk result (λ found. IfSome found (λ _. m < k))
+further_still m n k (Ok (Some a)) l h = omega (arith, l, h)
+further_still m n k (Ok None) l h = tt
+further_still m n k (Err e) l h = tt
+
+-- and lies between the same offsets, one of them less
+pub between_still : {E : Type 0} (m n k : ℕ) (result : Result (Option (Token × Span)) E) → m < n → IfOk result (λ found. IfSome found (λ given. LiesBetween n k given.0 given.1)) → IfOk result (λ found. IfSome found (λ given. LiesBetween m k given.0 given.1))
+between_still m n k (Ok (Some given)) l h = λ plain. (omega (arith, l, (h plain).0), (h plain).1)
+between_still m n k (Ok None) l h = tt
+between_still m n k (Err e) l h = tt

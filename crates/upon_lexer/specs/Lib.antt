@@ -1,5 +1,9 @@
 pub mod Entries
 pub mod Syntax
+pub mod SetTexts
+pub mod TagTexts
+pub mod Builder
+pub mod SyntaxEquality
 pub mod Searcher
 pub mod Class
 pub mod Roles
@@ -7,3 +11,4 @@ pub mod Brackets
 pub mod Reasons
 pub mod OpenTags
 pub mod Lexers
+pub mod Spelling

@@ -14,7 +14,7 @@ WordsAlike a b = a.text ≡ b.text
 
 -- two accesses with the same key or index
 abbrev pub SelectorsAlike : Access → Access → Type 0
-SelectorsAlike (by_index m span) (by_index n place) = m ≡ n
+SelectorsAlike (by_index m span) (by_index n span') = m ≡ n
 SelectorsAlike (by_key a) (by_key b) = WordsAlike a b
 SelectorsAlike _ _ = ⊥
 
@@ -35,18 +35,18 @@ abbrev mutual
   -- two expressions that differ in spans alone
   pub ExpressionsAlike : Expression → Expression → Type 0
   ExpressionsAlike (base a) (base b) = BaseAlike a b
-  ExpressionsAlike (filtered receiver name args span) (filtered receiver' name' args' place) =
+  ExpressionsAlike (filtered receiver name args span) (filtered receiver' name' args' span') =
       ExpressionsAlike receiver receiver' × WordsAlike name name' × ArgumentsAlike args args'
   ExpressionsAlike _ _ = ⊥
 
   -- two expressions without a filter
   pub BaseAlike : Base → Base → Type 0
   BaseAlike (var first rest) (var first' rest') = StepsAlike (first ∷ rest) (first' ∷ rest')
-  BaseAlike (literal v span) (literal w place) = v ≡ w
-  BaseAlike (list bases span) (list bases' place) = BasesAlike bases bases'
-  BaseAlike (mapping items span) (mapping items' place) = ItemsAlike items items'
-  BaseAlike (paren e span) (paren e' place) = ExpressionsAlike e e'
-  BaseAlike (call name args span) (call name' args' place) = WordsAlike name name' × ArgumentsAlike args args'
+  BaseAlike (literal v span) (literal w span') = v ≡ w
+  BaseAlike (list bases span) (list bases' span') = BasesAlike bases bases'
+  BaseAlike (mapping items span) (mapping items' span') = ItemsAlike items items'
+  BaseAlike (paren e span) (paren e' span') = ExpressionsAlike e e'
+  BaseAlike (call name args span) (call name' args' span') = WordsAlike name name' × ArgumentsAlike args args'
   BaseAlike _ _ = ⊥
 
   -- two lists of them
@@ -65,7 +65,7 @@ abbrev mutual
   -- two calls' arguments
   pub ArgumentsAlike : Arguments → Arguments → Type 0
   ArgumentsAlike no_arguments no_arguments = Unit {0}
-  ArgumentsAlike (arguments as' span) (arguments bs place) = BasesAlike as' bs
+  ArgumentsAlike (arguments as' span) (arguments bs span') = BasesAlike as' bs
   ArgumentsAlike _ _ = ⊥
 
 -- two values that an include may be given
@@ -85,8 +85,8 @@ IsEmpty (statement_then t ts) = ⊥
 abbrev mutual
   -- two statements, each under its own text
   pub StatementAlike : List ℕ → List ℕ → Statement → Statement → Type 0
-  StatementAlike s s' (raw span) (raw place) = slice s span ≡ slice s' place
-  StatementAlike s s' (inline_expr e span) (inline_expr e' place) = ExpressionsAlike e e'
+  StatementAlike s s' (raw span) (raw span') = slice s span ≡ slice s' span'
+  StatementAlike s s' (inline_expr e span) (inline_expr e' span') = ExpressionsAlike e e'
   StatementAlike s s' (include word given) (include word' given') = WordsAlike word word' × GivenAlike given given'
   StatementAlike s s' (if_else n e a (otherwise b)) (if_else n' e' a' (otherwise b')) =
       ExpressionsAlike e e'

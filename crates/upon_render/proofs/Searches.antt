@@ -40,13 +40,28 @@ known-push env lent frames frame first rest =
     ∙ ap (λ l. known (frame_over frame (frames_over env frames)) l first rest) (frames_lend-push lent frames frame first.access)
 
 -- the frame at k, ahead of those below it
-pub known-take : (env : Environment) (lent : Bool) (frames : List State) (n k : ℕ) (frame : State) (first : Member) (rest : List Member)
+known-take : (env : Environment) (lent : Bool) (frames : List State) (n k : ℕ) (frame : State) (first : Member) (rest : List Member)
     → n ≡ k + 1 → n ≤ length frames → frame ≡ get_or frames k frame
     → known_by_frames env lent (take n frames) first rest ≡ known_by_frame frame env lent (take k frames) first rest
 known-take env lent frames n k frame first rest next within is =
     let below : k < length frames = omega arith in
     let took : take n frames ≡ take k frames ++ frame ∷ [] = ap (λ i. take i frames) next ∙ take_more frames k frame below ∙ ap (λ y. take k frames ++ y ∷ []) (sym is) in
     ap (λ fs. known_by_frames env lent fs first rest) took ∙ known-push env lent (take k frames) frame first rest
+
+-- what all frames say, by the frame at k ahead of those below it
+pub known-step : (env : Environment) (lent : Bool) (frames : List State) (n k : ℕ) (frame : State) (first : Member) (rest : List Member)
+    → n ≡ k + 1 → n ≤ length frames → frame ≡ get_or frames k frame
+    → known_by_frames env lent frames first rest ≡ known_by_frames env lent (take n frames) first rest
+    → known_by_frames env lent frames first rest ≡ known_by_frame frame env lent (take k frames) first rest
+known-step env lent frames n k frame first rest next within is same = same ∙ known-take env lent frames n k frame first rest next within is
+
+-- where that frame binds nothing, by those below it
+pub known-passed : (env : Environment) (lent : Bool) (frames : List State) (n k : ℕ) (frame : State) (first : Member) (rest : List Member)
+    → n ≡ k + 1 → n ≤ length frames → frame ≡ get_or frames k frame
+    → known_by_frames env lent frames first rest ≡ known_by_frames env lent (take n frames) first rest
+    → known_by_frame frame env lent (take k frames) first rest ≡ known_by_frames env lent (take k frames) first rest
+    → known_by_frames env lent frames first rest ≡ known_by_frames env lent (take k frames) first rest
+known-passed env lent frames n k frame first rest next within is same passed = known-step env lent frames n k frame first rest next within is same ∙ passed
 
 -- ---- what is settled is what a look-up finds
 inner_is : (a b : Finding Val) → Some a ≡ Some b → a ≡ b

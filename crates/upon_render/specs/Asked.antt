@@ -1,6 +1,5 @@
 -- What a source is asked, and how its call says the answer. Memory that runs out is no answer.
 use Rattle.std.specs.Prelude.{◌≡◌, List, [], map, Bool, true, false, Result, Ok, Err, string_bytes}
-use Rattle.upon_types.specs.Val.{Val}
 use Rattle.upon_render.specs.Finding.{Reply, reply}
 use Rattle.upon_render.specs.Source.{SourceAnswer, says, refuses, ValueAccess, index, key, ValueMember, Source}
 use Rattle.upon_render.specs.declared.source.SourceError.{SourceError}
@@ -38,7 +37,3 @@ Asked shows (Err Memory) state r = Unit {0}
 -- a source that refuses each path, without words
 abbrev pub never : {Q : Type 0} → Source Q
 never q path = reply (refuses []) q
-
--- a source that answers each path in one way
-abbrev pub always : {Q : Type 0} → (List ValueMember → SourceAnswer Val) → Source Q
-always answer q path = reply (answer path) q

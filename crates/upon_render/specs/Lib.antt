@@ -9,7 +9,6 @@ pub mod Lookup
 pub mod Answer
 pub mod PathSpans
 pub mod Asked
-pub mod ValueFn
 pub mod Cursor
 pub mod LoopItems
 pub mod Loop

@@ -28,7 +28,8 @@ pub(crate) fn not_in_scope(alloc: Global, source: &str, at: Span) -> Error
     wrong(alloc, source, "not found in this scope", at)
 }
 
-fn made(alloc: Global, source: &str, reason: Result<String, AllocError>, at: Span) -> Error
+// The fault with a reason that was formatted, or that memory ran out while it was.
+fn with_reason(alloc: Global, source: &str, reason: Result<String, AllocError>, at: Span) -> Error
     requires { LiesIn source.now at }
     ensures { MatchResult
         reason
@@ -36,7 +37,9 @@ fn made(alloc: Global, source: &str, reason: Result<String, AllocError>, at: Spa
         (λ _. fault_of result ≡ out_of_memory) }
 {
     match reason {
-        Ok(reason) => wrong(alloc, source, reason.as_str(), at),
+        Ok(reason) => {
+            Error::from_owned_parts(alloc, ErrorKind::Render, Some(reason), Some((source, at)))
+        }
         Err(error) => error.into(),
     }
 }
@@ -47,7 +50,7 @@ pub(crate) fn out_of_bounds(alloc: Global, source: &str, len: usize, at: Span) -
     ensures { OrMemory (fault_with_picture source.now (out_of_bounds len at)) (fault_of result) }
 {
     let reason = format!(in alloc; "index out of bounds, the length is {len}");
-    made(alloc, source, reason, at)
+    with_reason(alloc, source, reason, at)
 }
 
 /// A value of this kind has no items by index.
@@ -57,7 +60,7 @@ pub(crate) fn no_index_access(alloc: Global, source: &str, value: &Value, at: Sp
 {
     let kind = value.human();
     let reason = format!(in alloc; "{kind} does not support integer-based access");
-    made(alloc, source, reason, at)
+    with_reason(alloc, source, reason, at)
 }
 
 /// A value of this kind has no values by key.
@@ -67,7 +70,7 @@ pub(crate) fn no_key_access(alloc: Global, source: &str, value: &Value, at: Span
 {
     let kind = value.human();
     let reason = format!(in alloc; "{kind} does not support key-based access");
-    made(alloc, source, reason, at)
+    with_reason(alloc, source, reason, at)
 }
 
 /// A loop's state has a value of this kind, which has no members.
@@ -77,7 +80,7 @@ pub(crate) fn index_into(alloc: Global, source: &str, value: &Value, at: Span) -
 {
     let kind = value.human();
     let reason = format!(in alloc; "cannot index into {kind}");
-    made(alloc, source, reason, at)
+    with_reason(alloc, source, reason, at)
 }
 
 /// A loop does not go over a value of this kind.
@@ -87,5 +90,5 @@ pub(crate) fn not_iterable(alloc: Global, source: &str, value: &Value, at: Span)
 {
     let kind = value.human();
     let reason = format!(in alloc; "expected iterable, but expression evaluated to {kind}");
-    made(alloc, source, reason, at)
+    with_reason(alloc, source, reason, at)
 }

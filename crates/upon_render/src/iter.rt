@@ -305,17 +305,11 @@ fn list_items<'a>(
 {
     match iterable {
         ValueCow::Borrowed(value) => match value {
-            Value::List(items) => {
-                let _len = items.len();
-                Ok(Rest::ListLent(items.iter()))
-            }
+            Value::List(items) => Ok(Rest::ListLent(items.iter())),
             _ => Err(not_listed(alloc, source, name, value, span)),
         },
         ValueCow::Owned(value) => match value {
-            Value::List(items) => {
-                let _len = items.len();
-                Ok(Rest::ListOwned(items.into_iter()))
-            }
+            Value::List(items) => Ok(Rest::ListOwned(items.into_iter())),
             other => Err(not_listed(alloc, source, name, &other, span)),
         },
     }
@@ -343,17 +337,11 @@ fn map_items<'a>(
 {
     match iterable {
         ValueCow::Borrowed(value) => match value {
-            Value::Map(entries) => {
-                let _len = entries.len();
-                Ok(Rest::MapLent(entries.iter()))
-            }
+            Value::Map(entries) => Ok(Rest::MapLent(entries.iter())),
             _ => Err(not_mapped(alloc, source, names, value, span)),
         },
         ValueCow::Owned(value) => match value {
-            Value::Map(entries) => {
-                let _len = entries.len();
-                Ok(Rest::MapOwned(entries.into_iter()))
-            }
+            Value::Map(entries) => Ok(Rest::MapOwned(entries.into_iter())),
             other => Err(not_mapped(alloc, source, names, &other, span)),
         },
     }

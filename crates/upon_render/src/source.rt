@@ -58,13 +58,8 @@ pub trait ValueSource: Drop {
     /// The references that it holds.
     ghost holds: { Self → List ℕ };
 
-    /// Whether it may be asked.
-    ghost valid: { Self → Type 0 } = { λ _. Unit {0} };
-
     /// The value at this path.
     fn value(&mut self, path: &[ValueMember]) -> Result<Value, SourceError>
-        requires { valid self.old }
-        ensures valid { valid self.new }
         ensures same { holds self.new ≡ holds self.old }
         ensures stays { ask self.new ≡ ask self.old }
         ensures asked { Asked view result (value_state self.new) (ask self.old (value_state self.old) (asked_path path.now)) };
@@ -80,8 +75,6 @@ impl<S: ValueSource> ValueSource for &mut S {
     ghost ask = { λ s. S.ask s.now };
 
     ghost holds = { λ s. s.ghost_name ∷ S.holds s.now };
-
-    ghost valid = { λ s. S.valid s.now };
 
     fn value(&mut self, path: &[ValueMember]) -> Result<Value, SourceError> {
         (**self).value(path)

@@ -11,7 +11,7 @@ ghost use Rattle.upon_render.specs.Lookup.{lookup, root_value, bindings_walk, or
 ghost use Rattle.upon_render.specs.PathSpans.{StepsLieIn};
 ghost use Rattle.upon_render.specs.Settled.{known, Finds};
 ghost use Rattle.upon_render.specs.Source.{Source};
-ghost use Rattle.upon_render.specs.Roots.{pure_root, root_lends, HasSource, KeepsRoot, IsValidRoot, OrOutOfMemory};
+ghost use Rattle.upon_render.specs.Roots.{pure_root, root_lends, HasSource, KeepsRoot, OrOutOfMemory};
 ghost use Rattle.upon_render.specs.Walk.{context_walk};
 
 use crate::faults;
@@ -57,7 +57,6 @@ impl<'a, V: ValueSource> Stack<'a, V> {
     pub fn new(alloc: Global, context: &'a Value) -> Stack<'a, V>
         ensures frames { frames_of result ≡ [] }
         ensures root { root_of result ≡ Root.Value context.entry }
-        ensures valid { IsValidRoot V.valid (root_of result) }
     {
         Stack {
             root: Root::Value(context),
@@ -69,7 +68,6 @@ impl<'a, V: ValueSource> Stack<'a, V> {
     pub fn with_value_fn(alloc: Global, values: V) -> Stack<'a, V>
         ensures frames { frames_of result ≡ [] }
         ensures root { root_of result ≡ Root.Source values }
-        ensures valid { V.valid values → IsValidRoot V.valid (root_of result) }
     {
         Stack {
             root: Root::Source(values),
@@ -81,8 +79,7 @@ impl<'a, V: ValueSource> Stack<'a, V> {
     ///
     /// What a lent value binds is lent. A source is asked once, for the whole path, where no frame binds it.
     pub fn lookup_var(&mut self, source: &str, var: &Var) -> Result<ValueCow<'a>>
-        requires spans { StepsLieIn source.now (first_member var.now ∷ rest_members var.now) }
-        requires valid { IsValidRoot V.valid (root_of self.old) }
+        requires { StepsLieIn source.now (first_member var.now ∷ rest_members var.now) }
         ensures answer { (ask : Source V.State) (q : V.State) → HasSource V.ask V.value_state (root_of self.old) ask q → Answers
             cow_view
             source.now
@@ -97,7 +94,6 @@ impl<'a, V: ValueSource> Stack<'a, V> {
             result }
         ensures frames { frames_of self.new ≡ frames_of self.old }
         ensures root { KeepsRoot V.ask V.holds (root_of self.old) (root_of self.new) }
-        ensures valid { IsValidRoot V.valid (root_of self.new) }
     {
         let alloc = *self.frames.allocator();
         match search(alloc, source, self.frames.as_slice(), var) {
@@ -225,8 +221,7 @@ fn lookup_root<'a, V: ValueSource>(
     root: &mut Root<'a, V>,
     var: &Var,
 ) -> Result<ValueCow<'a>>
-    requires spans { StepsLieIn source.now (first_member var.now ∷ rest_members var.now) }
-    requires valid { IsValidRoot V.valid root.old }
+    requires { StepsLieIn source.now (first_member var.now ∷ rest_members var.now) }
     ensures answer { (ask : Source V.State) (q : V.State) → HasSource V.ask V.value_state root.old ask q → Answers
         cow_view
         source.now
@@ -240,7 +235,6 @@ fn lookup_root<'a, V: ValueSource>(
         (root_value ask (pure_root root.old) (first_member var.now) (rest_members var.now) q).answer
         result }
     ensures root { KeepsRoot V.ask V.holds root.old root.new }
-    ensures valid { IsValidRoot V.valid root.new }
 {
     match root {
         Root::Value(context) => {
@@ -263,8 +257,7 @@ fn ask_source<'a, V: ValueSource>(
     values: &mut V,
     var: &Var,
 ) -> Result<ValueCow<'a>>
-    requires spans { StepsLieIn source.now (first_member var.now ∷ rest_members var.now) }
-    requires valid { V.valid values.old }
+    requires { StepsLieIn source.now (first_member var.now ∷ rest_members var.now) }
     ensures answer { Answers
         cow_view
         source.now
@@ -275,7 +268,6 @@ fn ask_source<'a, V: ValueSource>(
         (V.value_state values.new ≡ (root_value (V.ask values.old) value_source (first_member var.now) (rest_members var.now) (V.value_state values.old)).next) }
     ensures stays { V.ask values.new ≡ V.ask values.old }
     ensures same { V.holds values.new ≡ V.holds values.old }
-    ensures valid { V.valid values.new }
 {
     let path = match members(alloc, var.path.as_slice()) {
         Ok(path) => path,
@@ -392,7 +384,7 @@ fn lookup_context<'a>(
 {
     match lookup_in_context(alloc, source, context, first, rest) {
         Ok(Some(value)) => Ok(value),
-        Ok(None) => Err(faults::wrong(alloc, source, "not found in this scope", first.span)),
+        Ok(None) => Err(faults::not_in_scope(alloc, source, first.span)),
         Err(error) => Err(error),
     }
 }

@@ -1,62 +1,56 @@
-// A closure as a source of values.
-ghost use Rattle.std.specs.Prelude.{List};
-ghost use Rattle.std.specs.Fn.{FnReturnsAt};
-ghost use Rattle.upon_types.specs.Val.{Val};
+// Functions from paths to values as sources.
+ghost use Rattle.std.specs.Prelude.{◌≡◌};
 ghost use Rattle.upon_types.specs.View.{view};
 ghost use Rattle.upon_render.specs.Asked.{Asked, asked_path};
-ghost use Rattle.upon_render.specs.Finding.{reply};
-ghost use Rattle.upon_render.specs.Source.{SourceAnswer, ValueMember};
+ghost use Rattle.upon_render.specs.Source.{Source};
 
 use crate::source::{SourceError, ValueMember, ValueSource};
-use std::marker::PhantomData;
 use upon_types::value::Value;
 
-/// The name of a function from paths to answers. It is named by a type, since no field can hold a fact about a closure.
-pub trait ValueName: Drop {
-    /// The answer to each path.
-    ghost means: { List ValueMember → SourceAnswer Val };
+/// A function from paths to values, which may keep a state. It is named by a type, since no field can hold a fact about
+/// a closure.
+pub trait CallPath: Drop {
+    // What its answers depend on, beside the path.
+    ghost State: { Type 0 };
+
+    ghost call_state: { Self → State };
+
+    // The answer and the next state, in each state and for each path.
+    ghost answers_path: { Source State };
+
+    /// The value at this path. The error is `Refused` where the function refuses, and `Memory` where memory is out.
+    fn call(&mut self, path: &[ValueMember]) -> Result<Value, SourceError>
+        ensures { Asked view result (call_state self.new) (answers_path (call_state self.old) (asked_path path.now)) };
 }
 
-/// A closure that answers paths, and the name of the function that it is.
+/// The source that is a function.
 #[derive(Drop)]
-pub struct ValueFn<N, F> {
-    function: F,
-    name: PhantomData<N>,
+pub struct ValueFn<C> {
+    /// The function.
+    pub callable: C,
 }
 
-impl<N: ValueName, F: Fn(&[ValueMember]) -> Result<Value, SourceError>> ValueFn<N, F> {
-    ghost use Rattle.upon_render.specs.ValueFn.{function_of};
-
-    /// The closure as a source. It may be called on every path, and answers what the named function says.
-    pub fn new(function: F) -> Self
-        requires callable { F.IsAlwaysCallable function }
-        requires answers { (path : _) (result : _) → FnReturnsAt F.Fn function path result → Asked view result (tt {0}) (reply (N.means (asked_path path)) (tt {0})) }
-        ensures callable { F.IsAlwaysCallable (function_of result) }
-        ensures answers { (path : _) (answer : _) → FnReturnsAt F.Fn (function_of result) path answer → Asked view answer (tt {0}) (reply (N.means (asked_path path)) (tt {0})) }
+impl<C> ValueFn<C> {
+    /// The source that calls this function.
+    pub fn new(callable: C) -> Self
+        ensures { result.callable ≡ callable }
     {
-        ValueFn {
-            function,
-            name: PhantomData,
-        }
+        ValueFn { callable }
     }
 }
 
-impl<N: ValueName, F: Fn(&[ValueMember]) -> Result<Value, SourceError>> ValueSource
-    for ValueFn<N, F> {
+impl<C: CallPath> ValueSource for ValueFn<C> {
     ghost use Rattle.std.specs.Prelude.{[]};
-    ghost use Rattle.upon_render.specs.Asked.{always};
 
-    ghost State = { Unit {0} };
+    ghost State = { C.State };
 
-    ghost value_state = { λ _. tt };
+    ghost value_state = { λ s. C.call_state s.callable };
 
-    ghost ask = { λ _. always N.means };
+    ghost ask = { λ _. C.answers_path };
 
     ghost holds = { λ _. [] };
 
-    ghost valid = { λ s. F.IsAlwaysCallable s.function × ((path : _) (result : _) → FnReturnsAt F.Fn s.function path result → Asked view result (tt {0}) (reply (N.means (asked_path path)) (tt {0}))) };
-
     fn value(&mut self, path: &[ValueMember]) -> Result<Value, SourceError> {
-        (self.function)(path)
+        self.callable.call(path)
     }
 }

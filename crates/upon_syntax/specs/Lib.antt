@@ -1,4 +1,15 @@
-pub mod Steps
-pub mod Parsed
 pub mod Literals
 pub mod Wants
+pub mod TagTokens
+pub mod TagParsing
+pub mod Pieces
+pub mod WholeTags
+pub mod TagReading
+pub mod TagReaders
+pub mod TagEnds
+pub mod TagFaults
+pub mod OpenBlocks
+pub mod PieceReading
+pub mod PieceTrees
+pub mod Parsed
+pub mod FirstStage

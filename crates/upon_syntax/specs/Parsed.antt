@@ -1,6 +1,5 @@
--- What a parser reads, and the tree and the fault that it answers.
-use Rattle.std.specs.Prelude.{ℕ, List, Some, codes}
-use Rattle.upon_types.specs.Fault.{Fault, syntax, bare_fault, fault_with_picture}
+-- What a parser of the whole language reads.
+use Rattle.std.specs.Prelude.{ℕ, List}
 use Rattle.upon_language.specs.Search.{DelimiterText}
 use Rattle.upon_lexer.specs.Searcher.{searcher_delimiters}
 use Rattle.upon_syntax.specs.declared.compile.parse.Parser.{Parser}
@@ -12,8 +11,3 @@ source_of parser = parser.source.now
 -- its delimiters
 abbrev pub syntax_of : Parser → List DelimiterText
 syntax_of parser = searcher_delimiters parser.searcher.now
-
--- the fault of a text that has no tree
-abbrev pub unsupported : List ℕ → Fault
-unsupported source = fault_with_picture source
-    (bare_fault syntax (Some (codes "unsupported template")) (Some (record { m = 0; n = 0 })))

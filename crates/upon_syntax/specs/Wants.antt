@@ -1,7 +1,10 @@
 -- What a tag wants at an offset, as the code says it.
 use Rattle.upon_language.specs.Wanted as wanted
 use Rattle.upon_syntax.specs.declared.compile.parse.want.Want.{Want}
-use Rattle.upon_syntax.specs.declared.compile.parse.want.Want.TheVariants.{Expression, Text, NameOrIndex, EndExpr, EndBlock, CloseParen, CloseBracket, CloseBrace, In, As, BlockWord, Name, Number, Colon}
+use Rattle.upon_syntax.specs.declared.compile.parse.want.Want.TheVariants.{Expression, Text, NameOrIndex, EndExpr}
+use Rattle.upon_syntax.specs.declared.compile.parse.want.Want.TheVariants.{EndBlock, CloseParen, CloseBracket}
+use Rattle.upon_syntax.specs.declared.compile.parse.want.Want.TheVariants.{CloseBrace, In, As, BlockWord, Name, Number}
+use Rattle.upon_syntax.specs.declared.compile.parse.want.Want.TheVariants.{Colon}
 
 -- the definition that a wanted word of the code denotes
 abbrev pub wanted_of : Want → wanted.Wanted

@@ -1,4 +1,5 @@
 // The steps from a template's text to its tree.
+pub mod first;
 pub mod parse;
 
 pub use upon_lexer::compile::{lex, search};

@@ -25,7 +25,7 @@ is_less Equal h = absurd cc
 is_less Greater h = absurd cc
 
 -- a key that is before all of some entries is before the one in their midst
-before_middle : (k l : List ℕ) (v : Val) (es fs : Entries) → below_all (slice_cmp nat_cmp) k (entry_list (joined es (entry_then l v fs))) ≡ true → slice_cmp nat_cmp k l ≡ Less
+pub before_middle : (k l : List ℕ) (v : Val) (es fs : Entries) → below_all (slice_cmp nat_cmp) k (entry_list (joined es (entry_then l v fs))) ≡ true → slice_cmp nat_cmp k l ≡ Less
 before_middle k l v no_entries fs h = is_less _ (and_parts _ _ h).0
 before_middle k l v (entry_then m w es) fs h = before_middle k l v es fs (and_parts _ _ h).1
 

@@ -24,7 +24,7 @@ pub record Fault : Type 0 where
 
 -- a fault without a name and without a picture
 abbrev pub bare_fault : Kind → Option (List ℕ) → Option Span → Fault
-bare_fault kind reason place = record { kind = kind; name = None; reason = reason; span = place; picture = None }
+bare_fault kind reason at = record { kind = kind; name = None; reason = reason; span = at; picture = None }
 
 -- the same fault with the picture of its span in a source
 abbrev pub fault_with_picture : List ℕ → Fault → Fault

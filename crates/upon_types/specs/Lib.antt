@@ -6,6 +6,7 @@ pub mod Pretty
 pub mod Error
 pub mod Val
 pub mod View
+pub mod Events
 pub mod Truth
 pub mod Same
 pub mod ValueEquality

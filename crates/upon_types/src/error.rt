@@ -56,12 +56,12 @@ impl Error {
         reason: Option<&str>,
         at: Option<(&str, Span)>,
     ) -> Error
-        requires { ForSome at (λ place. LiesIn place.0.now place.1) }
+        requires { ForSome at (λ shown. LiesIn shown.0.now shown.1) }
         ensures fault { OrMemory
             (fault_at
             (kind_of kind)
             (option_map (λ r. r.now) reason.entry)
-            (option_map (λ place. (place.0.now, place.1)) at.entry))
+            (option_map (λ shown. (shown.0.now, shown.1)) at.entry))
             (fault_of result) }
         ensures kind { KeepsKind kind result }
     {
@@ -78,12 +78,12 @@ impl Error {
         reason: Option<String>,
         at: Option<(&str, Span)>,
     ) -> Error
-        requires { ForSome at (λ place. LiesIn place.0.now place.1) }
+        requires { ForSome at (λ shown. LiesIn shown.0.now shown.1) }
         ensures fault { OrMemory
             (fault_at
             (kind_of kind)
             (option_map string_bytes reason)
-            (option_map (λ place. (place.0.now, place.1)) at.entry))
+            (option_map (λ shown. (shown.0.now, shown.1)) at.entry))
             (fault_of result) }
         ensures kind { KeepsKind kind result }
     {

@@ -11,6 +11,7 @@ mod from_maps;
 mod from_texts;
 pub mod look;
 pub mod same;
+mod ser;
 
 pub use clone::{clone_entries, clone_items};
 pub use cow::ValueCow;

@@ -46,10 +46,10 @@ pub no_tree_inside : (delimiters : List DelimiterText) (s : List ℕ) (lexemes :
 no_tree_inside delimiters s lexemes texts h ends tree has = no_cut_inside delimiters s (last_mode outside lexemes) lexemes has.lexemes texts (steps_tested delimiters s outside 0 (length s) lexemes h) (inside _ ends) has.cut
 
 -- whether a delimiter may be at an offset in this mode
-abbrev pub may_stand : Mode → Delimiter → Bool
-may_stand outside kind = is_sort expression (begin_sort kind) || (is_sort block (begin_sort kind) || is_sort comment (begin_sort kind))
-may_stand (in_tag sort in_path) kind = is_sort sort (end_sort kind)
-may_stand in_comment kind = is_sort comment (end_sort kind)
+abbrev pub may_follow : Mode → Delimiter → Bool
+may_follow outside kind = is_sort expression (begin_sort kind) || (is_sort block (begin_sort kind) || is_sort comment (begin_sort kind))
+may_follow (in_tag sort in_path) kind = is_sort sort (end_sort kind)
+may_follow in_comment kind = is_sort comment (end_sort kind)
 
 is_that_sort : (sort : Sort) (o : Option Sort) → o ≡ Some sort → is_sort sort o ≡ true
 is_that_sort expression o h = ap (is_sort expression) h
@@ -66,16 +66,16 @@ module _ (delimiters : List DelimiterText) (s : List ℕ) (kind : Delimiter) (n 
   other_sort : (of : Delimiter → Option Sort) (other : Delimiter) (sort : Sort) (k : ℕ) → IsBestDelimiter delimiters s other n k → of other ≡ Some sort → of kind ≡ Some sort
   other_sort of other sort k there h = ap of (one_stands delimiters s kind other n to k stands there).0 ∙ h
 
-  stuck : (mode : Mode) → may_stand mode kind ≡ false → NoStep delimiters s mode n
+  stuck : (mode : Mode) → may_follow mode kind ≡ false → NoStep delimiters s mode n
   stuck outside h t hyphen k (inl raw) = raw_is_no_delimiter delimiters s kind n k to raw.2 stands
-  stuck outside h t hyphen k (inr begin) = let b : may_stand outside kind ≡ true = begins_some begin.0 _ (other_sort begin_sort begin.2.kind begin.0 k begin.2.occurs begin.2.of_sort) in cc (h, b)
+  stuck outside h t hyphen k (inr begin) = let b : may_follow outside kind ≡ true = begins_some begin.0 _ (other_sort begin_sort begin.2.kind begin.0 k begin.2.occurs begin.2.of_sort) in cc (h, b)
   stuck (in_tag sort in_path) h t hyphen k (inl end) = let b : is_sort sort (end_sort kind) ≡ true = is_that_sort sort _ (other_sort end_sort end.1.kind sort k end.1.occurs end.1.of_sort) in cc (h, b)
   stuck (in_tag sort in_path) h t hyphen k (inr inner) = not_bare delimiters s kind n to stands inner.1.bare
   stuck in_comment h t hyphen k (inl raw) = raw_is_no_delimiter delimiters s kind n k to raw.2 stands
   stuck in_comment h t hyphen k (inr end) = let b : is_sort comment (end_sort kind) ≡ true = is_that_sort comment _ (other_sort end_sort end.1.kind comment k end.1.occurs end.1.of_sort) in cc (h, b)
 
 -- the tokens go to n, and the delimiter from n to k may not be there
-pub no_tree_past : (delimiters : List DelimiterText) (s : List ℕ) (lexemes : List Lexeme) (n k : ℕ) → HasTexts delimiters → steps_test delimiters s outside 0 n lexemes ≡ true → stands_test (λ kind. not (may_stand (last_mode outside lexemes) kind)) delimiters s n k ≡ true → nat_lt n (length s) ≡ true → (tree : Statements) → HasTree delimiters s tree → ⊥
+pub no_tree_past : (delimiters : List DelimiterText) (s : List ℕ) (lexemes : List Lexeme) (n k : ℕ) → HasTexts delimiters → steps_test delimiters s outside 0 n lexemes ≡ true → stands_test (λ kind. not (may_follow (last_mode outside lexemes) kind)) delimiters s n k ≡ true → nat_lt n (length s) ≡ true → (tree : Statements) → HasTree delimiters s tree → ⊥
 no_tree_past delimiters s lexemes n k texts h there short tree has =
-    let d = stands_tested (λ kind. not (may_stand (last_mode outside lexemes) kind)) delimiters s n k there in
+    let d = stands_tested (λ kind. not (may_follow (last_mode outside lexemes) kind)) delimiters s n k there in
     no_cut delimiters s (last_mode outside lexemes) outside n (length s) lexemes has.lexemes texts (steps_tested delimiters s outside 0 n lexemes h) (stuck delimiters s d.0 n k d.1 (last_mode outside lexemes) (not_false _ d.2)) (ltb-true _ _ short) has.cut

@@ -84,7 +84,7 @@ colon_first = record {
   occurs = step_tested default_delimiters (codes "{{ :") (in_tag expression false) Colon false 3 4 refl;
   counts = refl;
   wanted = an_expression;
-  wants = record { may_stand = bracket_may_stand; least = λ v l m. omega (arith, l) };
+  wants = record { may_follow = bracket_may_stand; least = λ v l m. omega (arith, l) };
   stuck = colon_may_not_stand;
   at = refl;
   words = refl;
@@ -100,7 +100,7 @@ end_in_tag = record {
   reads = reads_to (codes "{{") (lex BeginExpr 0 2 ∷ []) 2 refl;
   eof = refl;
   wanted = an_expression;
-  wants = record { may_stand = bracket_may_stand; least = λ v l m. omega (arith, l) };
+  wants = record { may_follow = bracket_may_stand; least = λ v l m. omega (arith, l) };
   at = refl;
   words = refl;
 }

@@ -34,7 +34,7 @@ module _ (delimiters : List DelimiterText) (s : List ℕ) (texts : HasTexts deli
   trims_none p false t none = refl
 
   -- whether the token after is a begin with the hyphen, in the whole text
-  next_trims : (p : ℕ) (b : Bool) (ls : List Lexeme) → TrimsAt delimiters s p b → Cut delimiters s outside p ls outside (length s) → b ≡ begin_trims ls
+  pub next_trims : (p : ℕ) (b : Bool) (ls : List Lexeme) → TrimsAt delimiters s p b → Cut delimiters s outside p ls outside (length s) → b ≡ begin_trims ls
   next_trims p b [] t h = trims_none p b t (λ sort to x. let within = stands_ends delimiters s x.kind p to texts x.occurs in omega (arith, h.1, within.0, within.1))
   next_trims p b (k ∷ ks) t h = by_step h.1
     where

@@ -56,7 +56,7 @@ same_rank v w e = sym (by_rank-rank v) ∙ ap by_rank e ∙ by_rank-rank w
 pub one_wanted : (row : List Symbol) (v w : Wanted) → IsWanted row v → IsWanted row w → v ≡ w
 one_wanted row v w a b = elim (cases_order (rank v) (rank w)) [
   | inl e ↦ same_rank v w e
-  | inr d ↦ elim d [ inl l ↦ absurd (b.least v l a.may_stand) | inr l ↦ absurd (a.least w l b.may_stand) ]
+  | inr d ↦ elim d [ inl l ↦ absurd (b.least v l a.may_follow) | inr l ↦ absurd (a.least w l b.may_follow) ]
 ]
 
 module _ (delimiters : List DelimiterText) (s : List ℕ) (texts : HasTexts delimiters) (p : ℕ) (place other : Span) (reason words : List ℕ) where

@@ -23,7 +23,7 @@ use Rattle.upon_language.proofs.OneCut.Cut.{one_cut_to}
 use Rattle.upon_language.proofs.OneCut.Token.{one_step, step_ends}
 use Rattle.upon_language.specs.Parts.{Part, tag_start, after_symbol, Path, wanted_at}
 use Rattle.upon_language.proofs.Wanted.LeadingBegins.{IsPlain, ArePlain}
-use Rattle.upon_language.proofs.Wanted.WantedAt.{may_stand, may_not_stand, wants}
+use Rattle.upon_language.proofs.Wanted.WantedAt.{may_follow, may_not_follow, wants}
 use Rattle.upon_language.proofs.Offsets.Clear.{no_read_inside}
 use Rattle.upon_language.proofs.NoTreeWithFault.Literal.{nothing_is_told}
 
@@ -55,7 +55,7 @@ module _ (delimiters : List DelimiterText) (s : List ℕ) (p : ℕ) (ls : List L
     counts = counts;
     wanted = w;
     wants = wants (tag_row s ls) ps w (symbols_plain s (tag_tokens ls)) stands wanted;
-    stuck = may_not_stand (tag_row s ls) ps (symbol_of s (lexeme_at t hyphen p to)) stands refused;
+    stuck = may_not_follow (tag_row s ls) ps (symbol_of s (lexeme_at t hyphen p to)) stands refused;
     at = refl;
     words = refl;
   }
@@ -81,7 +81,7 @@ module _ (delimiters : List DelimiterText) (s : List ℕ) (p : ℕ) (ls : List L
     reads = reads;
     to = to;
     occurs = inner;
-    fits = may_stand (tag_row s ls) ps next (record { token = Index; word = [] }) (symbols_plain s (tag_tokens ls)) refl stands fits;
+    fits = may_follow (tag_row s ls) ps next (record { token = Index; word = [] }) (symbols_plain s (tag_tokens ls)) refl stands fits;
     large = large;
     at = refl;
     words = refl;
@@ -180,7 +180,7 @@ module _ (delimiters : List DelimiterText) (s : List ℕ) (texts : HasTexts deli
 
     pub fitting_is_not_stuck : (f : Fits ls in_path p t hyphen to) (row : List Symbol) (x : Symbol) → row ≡ tag_row s ls → x ≡ symbol_of s (lexeme_at t hyphen p to) → is_space t ≡ false → (BeginsTag (row ++ x ∷ []) → ⊥) → ⊥
     fitting_is_not_stuck f row x e same counts stuck =
-        let begins = may_stand (tag_row s ls) f.ps f.next (symbol_of s (lexeme_at t hyphen p to)) (symbols_plain s (tag_tokens ls)) (word_plain s t (span_of p to)) f.occurs (f.fits counts) in
+        let begins = may_follow (tag_row s ls) f.ps f.next (symbol_of s (lexeme_at t hyphen p to)) (symbols_plain s (tag_tokens ls)) (word_plain s t (span_of p to)) f.occurs (f.fits counts) in
         stuck (let F : List Symbol → Type 0 = λ y. BeginsTag y in subst F (sym (ap (λ (y : List Symbol). y ++ x ∷ []) e ∙ ap (λ (y : Symbol). tag_row s ls ++ y ∷ []) same)) begins)
 
     -- no fault of a later kind holds where it is

@@ -20,7 +20,7 @@ use Rattle.upon_language.proofs.OneTree.Literal.{one_pieces}
 use Rattle.upon_language.specs.LexStep.{Fits as BracketsFit}
 use Rattle.upon_language.specs.Lexing.{brackets_in}
 use Rattle.upon_language.specs.Parts.{Part, after_symbol}
-use Rattle.upon_language.proofs.Wanted.WantedAt.{may_stand}
+use Rattle.upon_language.proofs.Wanted.WantedAt.{may_follow}
 use Rattle.upon_language.proofs.Totality.FittingClears.{StandsAt, symbols_plain, word_plain, alike, in_mode, not_comment, not_at_end}
 use Rattle.upon_language.proofs.Totality.First.{first_at}
 use Rattle.upon_language.proofs.Totality.Stage.{Stage, clear_to}
@@ -44,7 +44,7 @@ module _ (delimiters : List DelimiterText) (s : List ℕ) (texts : HasTexts deli
   Same ks mode = (ks ≡ ls) × (mode ≡ in_tag sort path)
 
   pub begins : BeginsTag (tag_row s ls ++ symbol_of s (lexeme_at t hyphen p to) ∷ [])
-  begins = may_stand (tag_row s ls) ps next (symbol_of s (lexeme_at t hyphen p to)) (symbols_plain s (tag_tokens ls)) (word_plain s t (span_of p to)) stands leads
+  begins = may_follow (tag_row s ls) ps next (symbol_of s (lexeme_at t hyphen p to)) (symbols_plain s (tag_tokens ls)) (word_plain s t (span_of p to)) stands leads
 
   no_cut_fault : (row : SyntaxFault) (place : Span) (reason : List ℕ) → Holds delimiters s row p place reason → (fault_rank row < 6) → ⊥
   no_cut_fault unexpected_end place reason h low = let ends = step_ends delimiters s (in_tag sort path) t hyphen p to texts step in clear_to delimiters s texts ls (in_tag sort path) p stage t hyphen to step brackets p ends.0 unexpected_end place reason refl h

@@ -56,7 +56,7 @@ module _ (s : List ℕ) where
       (token_within a l.token ls ys e.0 h.0, subst F (sym (step_within a l.token l.span ls ys e.0 h.0)) (taken_append (stepped s a l.token l.span ls) ls ys e.1 h.1 k))
 
   -- ---- closing tags
-  closer_is : (word : List ℕ) (ts rest : List Lexeme) (g : BeginsBlock s word ts rest) → closer_of s ts ≡ closer_by s word rest
+  pub closer_is : (word : List ℕ) (ts rest : List Lexeme) (g : BeginsBlock s word ts rest) → closer_of s ts ≡ closer_by s word rest
   closer_is word ts rest g =
       let l = g.1.1.lexeme in
       let k = g.2.1.0.lexeme in

@@ -44,22 +44,22 @@ use Rattle.upon_language.proofs.Totality.OpenBlocks.{blocks_append, taken_append
 use Rattle.upon_language.proofs.NoTreeWithFault.Tag.{end_is_no_raw}
 
 -- ---- what is read of a tag's tokens
-abbrev Plain : List Lexeme → Type 0
+abbrev pub Plain : List Lexeme → Type 0
 Plain [] = Unit {0}
 Plain (l ∷ ls) = (is_raw l.token ≡ false) × (begins_comment l.token ≡ false) × Plain ls
 
-plain_inside : (ls : List Lexeme) → EachInside ls → Plain ls
+pub plain_inside : (ls : List Lexeme) → EachInside ls → Plain ls
 plain_inside [] each = tt
 plain_inside (l ∷ ls) each = (inside_is_no_raw l.token each.0, inside_is_no_comment l.token each.0, plain_inside ls each.1)
 
 joined_spaces : (x : Lexeme) (xs ys : List Lexeme) → without_spaces (x ∷ []) ++ (without_spaces xs ++ ys) ≡ without_spaces (x ∷ xs) ++ ys
 joined_spaces x xs ys = sym (append_assoc (without_spaces (x ∷ [])) (without_spaces xs) ys) ∙ ap (λ (z : List Lexeme). z ++ ys) (sym (spaces_append (x ∷ []) xs))
 
-plain_read : (xs ys : List Lexeme) → Plain xs → significant (xs ++ ys) ≡ without_spaces xs ++ significant ys
+pub plain_read : (xs ys : List Lexeme) → Plain xs → significant (xs ++ ys) ≡ without_spaces xs ++ significant ys
 plain_read [] ys h = refl
 plain_read (x ∷ xs) ys h = one_read (is_space x.token) x (xs ++ ys) refl h.1 ∙ ap (λ (z : List Lexeme). without_spaces (x ∷ []) ++ z) (plain_read xs ys h.2) ∙ joined_spaces x xs (significant ys)
 
-shown_read : (s : List ℕ) (later : Bool) (xs ys : List Lexeme) → Plain xs → (later' : Bool) × (significant (shown_lexemes s later (xs ++ ys)) ≡ without_spaces xs ++ significant (shown_lexemes s later' ys))
+pub shown_read : (s : List ℕ) (later : Bool) (xs ys : List Lexeme) → Plain xs → (later' : Bool) × (significant (shown_lexemes s later (xs ++ ys)) ≡ without_spaces xs ++ significant (shown_lexemes s later' ys))
 shown_read s later [] ys h = (later, refl)
 shown_read s later (x ∷ xs) ys h =
     let others = shown_read s (is_end x.token && x.hyphen) xs ys h.2 in
@@ -69,7 +69,7 @@ shown_read s later (x ∷ xs) ys h =
           ∙ ap (λ (z : List Lexeme). without_spaces (x ∷ []) ++ z) others.1 ∙ joined_spaces x xs (significant (shown_lexemes s others.0 ys)),
     )
 
-shown_end : (s : List ℕ) (later : Bool) (end : Lexeme) (sort : Sort) (rest : List Lexeme) → end.token ≡ end_token sort → significant (shown_lexemes s later (end ∷ rest)) ≡ end ∷ significant (shown_lexemes s (is_end end.token && end.hyphen) rest)
+pub shown_end : (s : List ℕ) (later : Bool) (end : Lexeme) (sort : Sort) (rest : List Lexeme) → end.token ≡ end_token sort → significant (shown_lexemes s later (end ∷ rest)) ≡ end ∷ significant (shown_lexemes s (is_end end.token && end.hyphen) rest)
 shown_end s later end sort rest t =
     let left = shown_lexemes s (is_end end.token && end.hyphen) rest in
     ap (λ (z : Lexeme). significant (z ∷ left)) (shown_same s later (begin_trims rest) end.token end (ap is_raw t ∙ end_is_no_raw sort))

@@ -5,16 +5,16 @@ use Rattle.upon_types.specs.Expression.{Expression}
 use Rattle.upon_types.specs.declared.types.Span.{Span}
 use Rattle.upon_types.specs.Tree.{inline_expr, include}
 use Rattle.upon_language.specs.Cut.{Lexeme}
-use Rattle.upon_language.specs.Tokens.{GoesKeyword, GoesName}
+use Rattle.upon_language.specs.Tokens.{GoesKeyword, GoesName, GoesText}
 use Rattle.upon_language.specs.Grammar.{BeginsBlock, IsWordTag, IsCondition, IsIfTag, IsElseIfTag, AreLoopVars, IsForTag, IsWithTag, AreGlobals, IsStatement}
 use Rattle.upon_language.specs.Tags.{IsTag, an_inline, an_include, an_if, an_else_if, an_else, an_endif, a_for, an_endfor, a_with, an_endwith}
 use Rattle.upon_language.proofs.Totality.ExpressionMore.{goes_more, by_more, same_more, expression_more}
 
 module _ (s : List ℕ) (more : List Lexeme) where
-  keyword_more : (word : List ℕ) (ts us : List Lexeme) → GoesKeyword s word ts us → GoesKeyword s word (ts ++ more) (us ++ more)
+  pub keyword_more : (word : List ℕ) (ts us : List Lexeme) → GoesKeyword s word ts us → GoesKeyword s word (ts ++ more) (us ++ more)
   keyword_more word ts us g = (g.0, (goes_more s more g.1.0, g.1.1))
 
-  name_more : (name : Ident) (ts us : List Lexeme) → GoesName s name ts us → GoesName s name (ts ++ more) (us ++ more)
+  pub name_more : (name : Ident) (ts us : List Lexeme) → GoesName s name ts us → GoesName s name (ts ++ more) (us ++ more)
   name_more name ts us g = (goes_more s more g.0, g.1)
 
   begins_more : (word : List ℕ) (ts us : List Lexeme) → BeginsBlock s word ts us → BeginsBlock s word (ts ++ more) (us ++ more)
@@ -23,7 +23,7 @@ module _ (s : List ℕ) (more : List Lexeme) where
   pub word_tag_more : (word : List ℕ) (ts us : List Lexeme) → IsWordTag s word ts us → IsWordTag s word (ts ++ more) (us ++ more)
   word_tag_more word ts us (mid, g, end) = (mid ++ more, begins_more word ts mid g, by_more s more end)
 
-  condition_more : (negated : Bool) (e : Expression) (ts us : List Lexeme) → IsCondition s negated e ts us → IsCondition s negated e (ts ++ more) (us ++ more)
+  pub condition_more : (negated : Bool) (e : Expression) (ts us : List Lexeme) → IsCondition s negated e ts us → IsCondition s negated e (ts ++ more) (us ++ more)
   condition_more true e ts us (mid, k, g) = (mid ++ more, keyword_more (codes "not") ts mid k, expression_more s more e mid us g)
   condition_more false e ts us g = expression_more s more e ts us g
 
@@ -33,7 +33,7 @@ module _ (s : List ℕ) (more : List Lexeme) where
   pub else_if_tag_more : (negated : Bool) (e : Expression) (ts us : List Lexeme) → IsElseIfTag s negated e ts us → IsElseIfTag s negated e (ts ++ more) (us ++ more)
   else_if_tag_more negated e ts us (start, mid, after, b, k, c, end) = (start ++ more, mid ++ more, after ++ more, begins_more (codes "else") ts start b, keyword_more (codes "if") start mid k, condition_more negated e mid after c, by_more s more end)
 
-  names_more : (names : LoopVars) (ts us : List Lexeme) → AreLoopVars s names ts us → AreLoopVars s names (ts ++ more) (us ++ more)
+  pub names_more : (names : LoopVars) (ts us : List Lexeme) → AreLoopVars s names ts us → AreLoopVars s names (ts ++ more) (us ++ more)
   names_more (item name) ts us g = name_more name ts us g
   names_more (key_value key value span) ts us (mid, after, k, comma, v, e) = (mid ++ more, after ++ more, name_more key ts mid k, by_more s more comma, name_more value after us v, e)
 
@@ -43,9 +43,12 @@ module _ (s : List ℕ) (more : List Lexeme) where
   pub with_tag_more : (e : Expression) (name : Ident) (ts us : List Lexeme) → IsWithTag s e name ts us → IsWithTag s e name (ts ++ more) (us ++ more)
   with_tag_more e name ts us (start, mid, after, last, b, g, k, n, end) = (start ++ more, mid ++ more, after ++ more, last ++ more, begins_more (codes "with") ts start b, expression_more s more e start mid g, keyword_more (codes "as") mid after k, name_more name after last n, by_more s more end)
 
-  context_more : (context : Option Expression) (ts us : List Lexeme) → AreGlobals s context ts us → AreGlobals s context (ts ++ more) (us ++ more)
+  pub context_more : (context : Option Expression) (ts us : List Lexeme) → AreGlobals s context ts us → AreGlobals s context (ts ++ more) (us ++ more)
   context_more None ts us e = same_more s more e
   context_more (Some e) ts us (mid, k, g) = (mid ++ more, keyword_more (codes "with") ts mid k, expression_more s more e mid us g)
+
+  pub text_more : (string : Ident) (ts us : List Lexeme) → GoesText s string ts us → GoesText s string (ts ++ more) (us ++ more)
+  text_more string ts us g = (goes_more s more g.0, g.1)
 
   pub inline_more : (e : Expression) (span : Span) (ts us : List Lexeme) → IsStatement s (inline_expr e span) ts us → IsStatement s (inline_expr e span) (ts ++ more) (us ++ more)
   inline_more e span ts us (begin, end, mid, after, g, x, h, f) = (begin, end, mid ++ more, after ++ more, goes_more s more g, expression_more s more e mid after x, goes_more s more h, f)

@@ -110,7 +110,7 @@ module _ (s : List ℕ) where
         )
 
   -- ---- tags
-  condition_leads : (negated : Bool) (e : Expression) (ts us : List Lexeme) → IsCondition s negated e ts us → (end : Ending) × ((ps : List Part) → Leads s (condition ∷ ps) ts (ending_parts end ++ (filters ∷ ps)) us)
+  pub condition_leads : (negated : Bool) (e : Expression) (ts us : List Lexeme) → IsCondition s negated e ts us → (end : Ending) × ((ps : List Part) → Leads s (condition ∷ ps) ts (ending_parts end ++ (filters ∷ ps)) us)
   condition_leads true e ts us (mid, (span, g), read) =
       let (end, leads) = expression_leads e mid us read in
       (end, λ ps. leads_then s (leads_key s (codes "not") g refl) (leads (a_base ∷ filters ∷ ps) ps (base_takes (filters ∷ ps))))
@@ -122,7 +122,7 @@ module _ (s : List ℕ) where
   word_tag_leads : (word : List ℕ) (ts us : List Lexeme) → IsWordTag s word ts us → after (block_word ∷ []) Keyword (key_of word) ≡ Some (end_block ∷ []) → Leads s (tag_start ∷ []) ts [] us
   word_tag_leads word ts us (mid, begin, end) h = leads_then s (block_leads word (end_block ∷ []) ts mid begin h) (leads_token s end (λ k. refl))
 
-  names_lead : (names : LoopVars) (ts mid us : List Lexeme) → AreLoopVars s names ts mid → GoesKeyword s (codes "in") mid us → (ps : List Part) → Leads s (loop_name ∷ ps) ts (a_base ∷ filters ∷ ps) us
+  pub names_lead : (names : LoopVars) (ts mid us : List Lexeme) → AreLoopVars s names ts mid → GoesKeyword s (codes "in") mid us → (ps : List Part) → Leads s (loop_name ∷ ps) ts (a_base ∷ filters ∷ ps) us
   names_lead (item name) ts mid us named (span, g) ps = leads_then s (leads_token s (name.span, named.0) (λ k. refl)) (leads_key s {a = loop_rest ∷ ps} (codes "in") g refl)
   names_lead (key_value key value at) ts mid us (start, last, first, comma, second, e) (span, g) ps =
       leads_then s (leads_token s (key.span, first.0) (λ k. refl)) (leads_then s (leads_token s {a = loop_rest ∷ ps} comma (λ k. refl)) (leads_then s (leads_token s {a = loop_value ∷ ps} (value.span, second.0) (λ k. refl)) (leads_key s {a = in_word ∷ ps} (codes "in") g refl)))

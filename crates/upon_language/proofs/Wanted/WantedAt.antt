@@ -218,11 +218,11 @@ shows_plain a_number = refl
 shows_plain a_colon = refl
 
 -- a token that may be there begins a tag with the row, and no other token does
-pub may_stand : (row : List Symbol) (ps next : List Part) (x : Symbol) → ArePlain row → IsPlain x → Path (tag_start ∷ []) row ps → after_symbol ps x ≡ Some next → BeginsTag (row ++ x ∷ [])
-may_stand row ps next x plain h path e = begins_tag (row ++ x ∷ []) next (plain_one row x plain h) (path_one row (tag_start ∷ []) ps next x path e)
+pub may_follow : (row : List Symbol) (ps next : List Part) (x : Symbol) → ArePlain row → IsPlain x → Path (tag_start ∷ []) row ps → after_symbol ps x ≡ Some next → BeginsTag (row ++ x ∷ [])
+may_follow row ps next x plain h path e = begins_tag (row ++ x ∷ []) next (plain_one row x plain h) (path_one row (tag_start ∷ []) ps next x path e)
 
-pub may_not_stand : (row : List Symbol) (ps : List Part) (x : Symbol) → Path (tag_start ∷ []) row ps → after_symbol ps x ≡ None → BeginsTag (row ++ x ∷ []) → ⊥
-may_not_stand row ps x path e b =
+pub may_not_follow : (row : List Symbol) (ps : List Part) (x : Symbol) → Path (tag_start ∷ []) row ps → after_symbol ps x ≡ None → BeginsTag (row ++ x ∷ []) → ⊥
+may_not_follow row ps x path e b =
     let (to, long) = leads_on (row ++ x ∷ []) b in
     let f = path_next row (tag_start ∷ []) ps to x path long in
     cc
@@ -230,8 +230,8 @@ may_not_stand row ps x path e b =
 -- a row that leads to some parts wants their word
 wants_told : (row : List Symbol) (ps : List Part) (w : Wanted) → ArePlain row → Path (tag_start ∷ []) row ps → Told (Some w) ps → IsWanted row w
 wants_told row ps w plain path t = record {
-  may_stand = may_stand row ps t.0.0 (shows w) plain (shows_plain w) path t.0.1;
-  least = λ v l b. may_not_stand row ps (shows v) path (t.1 v l) b;
+  may_follow = may_follow row ps t.0.0 (shows w) plain (shows_plain w) path t.0.1;
+  least = λ v l b. may_not_follow row ps (shows v) path (t.1 v l) b;
 }
 
 pub wants : (row : List Symbol) (ps : List Part) (w : Wanted) → ArePlain row → Path (tag_start ∷ []) row ps → wanted_at ps ≡ Some w → IsWanted row w

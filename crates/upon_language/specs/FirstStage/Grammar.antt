@@ -39,8 +39,8 @@ pub record IsTag (delimiters : List DelimiterText) (s : List ℕ) (name : List �
 
 -- the statement is at the span
 abbrev pub IsStatement : List DelimiterText → List ℕ → Statement → Span → Type 0
-IsStatement delimiters s (raw place) span = (place ≡ span) × IsRaw delimiters s span.m span.n
-IsStatement delimiters s (inline_expr name at place) span = (place ≡ span) × IsTag delimiters s name at span.m span.n
+IsStatement delimiters s (raw at) span = (at ≡ span) × IsRaw delimiters s span.m span.n
+IsStatement delimiters s (inline_expr name at tag) span = (tag ≡ span) × IsTag delimiters s name at span.m span.n
 
 -- from m to n the text reads as these statements, one after the other
 abbrev pub Reads : List DelimiterText → List ℕ → ℕ → Statements → ℕ → Type 0

@@ -62,6 +62,7 @@ pub struct Lexer<'a> {
 impl<'a> Lexer<'a> {
     ghost use Rattle.upon_language.specs.Lexing.{IsGiven, TrimsAt, opens_bracket};
     ghost use Rattle.upon_language.specs.LexStep.{state_after};
+    ghost use Rattle.upon_lexer.specs.Spelling.{IsSpelled, LiesBetween};
     ghost use Rattle.upon_lexer.specs.Lexers.{lexer_text, lexer_delimiters, lexer_state, next_lexeme, ReadSoFar, Gives, GivesAfterSpace, Finds, GoesWrong};
 
     /// A lexer at the start of a text, over the delimiters of a searcher.
@@ -89,6 +90,15 @@ impl<'a> Lexer<'a> {
     pub fn lex(&mut self) -> Result<Option<(Token, Span)>>
         ensures token { (ls : List Lexeme) → ReadSoFar self.old ls → Gives self.old ls result self.new }
         ensures span { IfOk result (λ found. IfSome found (λ given. LiesIn (lexer_text self.old) given.1)) }
+        ensures spelled { IfOk result (λ found. IfSome found
+            (λ given. IsSpelled (lexer_text self.old) given.0 given.1)) }
+        ensures between { IfOk result (λ found. IfSome found (λ given. LiesBetween
+            (lexer_state self.old).offset
+            (lexer_state self.new).offset
+            given.0
+            given.1)) }
+        ensures further { IfOk result (λ found. IfSome found
+            (λ _. (lexer_state self.old).offset < (lexer_state self.new).offset)) }
         ensures stops { IfErr result (λ _. (lexer_state self.new).over ≡ true) }
         ensures stopped { (lexer_state self.old).over ≡ true
             → (result ≡ Ok None) × ((lexer_state self.new).over ≡ true) }
@@ -115,6 +125,15 @@ impl<'a> Lexer<'a> {
     pub fn next(&mut self) -> Result<Option<(Token, Span)>>
         ensures token { (ls : List Lexeme) → ReadSoFar self.old ls → GivesAfterSpace self.old ls result self.new }
         ensures span { IfOk result (λ found. IfSome found (λ given. LiesIn (lexer_text self.old) given.1)) }
+        ensures spelled { IfOk result (λ found. IfSome found
+            (λ given. IsSpelled (lexer_text self.old) given.0 given.1)) }
+        ensures between { IfOk result (λ found. IfSome found (λ given. LiesBetween
+            (lexer_state self.old).offset
+            (lexer_state self.new).offset
+            given.0
+            given.1)) }
+        ensures further { IfOk result (λ found. IfSome found
+            (λ _. (lexer_state self.old).offset < (lexer_state self.new).offset)) }
         ensures stops { IfErr result (λ _. (lexer_state self.new).over ≡ true) }
         ensures stopped { (lexer_state self.old).over ≡ true
             → (result ≡ Ok None) × ((lexer_state self.new).over ≡ true) }

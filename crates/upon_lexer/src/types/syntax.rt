@@ -4,9 +4,15 @@ ghost use Rattle.upon_language.specs.DefaultDelimiters.{default_delimiters};
 ghost use Rattle.upon_language.specs.LiesIn.{HasUtf8};
 ghost use Rattle.upon_language.specs.Search.{HasTexts, kind_at, text_at};
 ghost use Rattle.upon_lexer.specs.Entries.{delimiter_text_of, entries_list};
+ghost use Rattle.upon_lexer.specs.SetTexts.{nothing_set, usual_texts, built_delimiters};
 
+pub use builder::SyntaxBuilder;
+pub use same::is_same;
 use std::alloc::AllocError;
 use upon_types::types::Delimiter;
+
+mod builder;
+mod same;
 
 /// A delimiter: its kind and its text.
 #[derive(Drop)]
@@ -152,14 +158,24 @@ pub struct Syntax {
 
 impl Syntax {
     ghost use Rattle.upon_lexer.specs.Syntax.{syntax_delimiters};
+    ghost use Rattle.upon_lexer.specs.Builder.{builder_texts};
 
-    /// The default syntax: `{{ }}`, `{% %}` and `{# #}`, each also with a hyphen inside.
+    /// The default syntax: `{{ }}`, `{% %}` and `{# #}`, each also with a hyphen inside. It is the same as the syntax that
+    /// is built of these pairs.
     pub fn default() -> Syntax
-        ensures { syntax_delimiters result ≡ default_delimiters }
+        ensures list { syntax_delimiters result ≡ default_delimiters }
+        ensures built { syntax_delimiters result ≡ built_delimiters usual_texts }
     {
         Syntax {
             entries: Entries::Default,
         }
+    }
+
+    /// A builder of a syntax, in which nothing is set.
+    pub fn builder<'a>() -> SyntaxBuilder<'a>
+        ensures { builder_texts result ≡ nothing_set }
+    {
+        SyntaxBuilder::new()
     }
 
     /// A syntax of the same list. It fails where there is no memory for the copy; the default syntax takes none.

@@ -49,9 +49,9 @@ pub fn literal_in_order<V>()
 
 /// Map literals that hold the same at each key are one value, in whatever order each was written.
 pub fn literals_alike<V>()
-    ensures { (calls : Calls V) (items others : Items) (span place : Span) (env around : Environment) (p q : V) (a b : Operand)
+    ensures { (calls : Calls V) (items others : Items) (span other : Span) (env around : Environment) (p q : V) (a b : Operand)
         → (evaluate_base calls (mapping items span) env p).answer ≡ found a
-        → (evaluate_base calls (mapping others place) around q).answer ≡ found b
+        → (evaluate_base calls (mapping others other) around q).answer ≡ found b
         → ((key : List ℕ) → key_of key a.value ≡ key_of key b.value)
         → a.value ≡ b.value }
 {}

@@ -7,4 +7,4 @@ use Rattle.upon_render.proofs.stack.ask_source.Goals as goal
 pub wrong-requires : goal.wrong-requires
 wrong-requires g c =
     let P : Span → Type 0 = λ at. LiesIn c.args.source.now at in
-    subst P (sym c.span.ensures) (path_span_lies_in c.args.source.now _ _ c.requires.spans)
+    subst P (sym c.span.ensures) (path_span_lies_in c.args.source.now _ _ c.requires)

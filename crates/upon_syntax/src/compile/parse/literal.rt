@@ -1,7 +1,10 @@
 // What the text of a number or an index denotes, or what is wrong with it.
-ghost use Rattle.std.specs.Prelude.{◌≡◌, ℕ, ◌^◌, ◌≤◌, ◌<◌, List, length, drop, nat_lt, false, Some, IfOk, IfErr, MatchOption, codes, ◌++◌, ◌+◌, ◌-◌, string_bytes, encode_utf8, None, [], ◌∷◌};
-ghost use Rattle.upon_language.specs.Literal.{IsText, escape_value, with_sign, sum_of_digits, digits_in, base_and_digits, IsInteger, IsIndex};
-ghost use Rattle.upon_language.specs.LiteralFaults.{magnitude_limit, digit_fault, number_fault, index_value, is_float, escape_fault};
+ghost use Rattle.std.specs.Prelude.{◌≡◌, ℕ, ◌^◌, ◌≤◌, ◌<◌, List, length, drop, nat_lt, false, Some, IfOk, IfErr};
+ghost use Rattle.std.specs.Prelude.{MatchOption, codes, ◌++◌, ◌+◌, ◌-◌, string_bytes, encode_utf8, None, [], ◌∷◌};
+ghost use Rattle.upon_language.specs.Literal.{IsText, escape_value, with_sign, sum_of_digits, digits_in};
+ghost use Rattle.upon_language.specs.Literal.{base_and_digits, IsInteger, IsIndex};
+ghost use Rattle.upon_language.specs.LiteralFaults.{magnitude_limit, digit_fault, number_fault, index_value, is_float};
+ghost use Rattle.upon_language.specs.LiteralFaults.{escape_fault};
 ghost use Rattle.upon_language.specs.Inside.{IsQuoted};
 ghost use Rattle.upon_language.specs.LaterFaults.{minus_before, start_from, number_report};
 ghost use Rattle.upon_types.specs.Span.{LiesIn, slice};
@@ -108,8 +111,8 @@ pub fn strange_escape(source: &str, span: Span) -> Option<Span>
     ensures { (string : IsQuoted source.now span.m span.n) → MatchOption
         result
         (escape_fault (span.m + 1) string.pieces ≡ None)
-        (λ place. (place.m ≤ place.n)
-        × (escape_fault (span.m + 1) string.pieces ≡ Some (place.m, place.n - place.m))) }
+        (λ found. (found.m ≤ found.n)
+        × (escape_fault (span.m + 1) string.pieces ≡ Some (found.m, found.n - found.m))) }
 {
     let mut at = span.m + 1;
     while let Some(c) = char_at(source, at) {

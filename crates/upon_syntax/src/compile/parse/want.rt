@@ -2,7 +2,8 @@
 ghost use Rattle.std.specs.Prelude.{◌≡◌, string_bytes, codes, IfOk};
 ghost use Rattle.upon_types.specs.Span.{LiesIn};
 ghost use Rattle.upon_language.specs.Tags.{word_of};
-ghost use Rattle.upon_language.specs.Wanted.{wanted_word, wanted_at_end, expected_found, reason_for, reason_for_keyword};
+ghost use Rattle.upon_language.specs.Wanted.{wanted_word, wanted_at_end, expected_found, reason_for};
+ghost use Rattle.upon_language.specs.Wanted.{reason_for_keyword};
 ghost use Rattle.upon_language.specs.LiteralWords.{fits_word};
 ghost use Rattle.upon_syntax.specs.Wants.{wanted_of};
 

@@ -3,7 +3,7 @@ use Rattle.upon_language.specs.Search.{DelimiterText}
 use Rattle.upon_language.specs.Tokens.{is_space}
 use Rattle.upon_language.specs.Lexing.{HasRead, Lexes}
 use Rattle.upon_lexer.specs.Lexers.{lexer_text, lexer_delimiters, lexer_state}
-use Rattle.upon_lexer.proofs.Spaces.{at_once, behind_space}
+use Rattle.upon_lexer.proofs.Spaces.{at_once, behind_space, further_still, between_still}
 use Rattle.upon_lexer.proofs.compile.lex.Lexer.next.Goals as goal
 
 pub returns-in-Ok-None-clause-token : goal.returns-in-Ok-None-clause-token
@@ -31,3 +31,11 @@ returns-then-is_space-clause-token c = λ ls r.
     let TextBack : List ℕ → Type 0 = λ x. Lexes delimiters x between (ls ++ first.0 ∷ []) c.lex-then-is_space.result (lexer_state c.lex-then-is_space.new.self) in
     let second = c.lex-then-is_space.ensures.token (ls ++ first.0 ∷ []) (subst Text (sym c.lex.ensures.text) (subst Pairs (sym c.lex.ensures.delimiters) first.3)) in
     behind_space delimiters s between ls first.0 c.lex-then-is_space.result (lexer_state c.lex-then-is_space.new.self) spaced first.3 (subst TextBack c.lex.ensures.text (subst PairsBack c.lex.ensures.delimiters second))
+
+pub returns-then-is_space-clause-further : goal.returns-then-is_space-clause-further
+returns-then-is_space-clause-further c =
+    further_still (lexer_state c.args.self.now).offset (lexer_state c.lex.new.self).offset (lexer_state c.lex-then-is_space.new.self).offset c.lex-then-is_space.result (rw c.in-Ok-Some.field-0-is at c.in-Ok-Some.ensures.further) c.lex-then-is_space.ensures.further
+
+pub returns-then-is_space-clause-between : goal.returns-then-is_space-clause-between
+returns-then-is_space-clause-between c =
+    between_still (lexer_state c.args.self.now).offset (lexer_state c.lex.new.self).offset (lexer_state c.lex-then-is_space.new.self).offset c.lex-then-is_space.result (rw c.in-Ok-Some.field-0-is at c.in-Ok-Some.ensures.further) c.lex-then-is_space.ensures.between

@@ -1,0 +1,4 @@
+pub mod Operands
+pub mod Items
+pub mod Halt
+pub mod Calls

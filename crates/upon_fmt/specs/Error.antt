@@ -1,0 +1,16 @@
+-- Why a formatter refuses.
+use Rattle.std.specs.Prelude.{ℕ, List, Option, Some, None, option_map, string_bytes, codes}
+use Rattle.upon_fmt.specs.declared.fmt.Error.{Error}
+
+-- the message of a refusal, where there is one
+abbrev pub message_of : Error → Option (List ℕ)
+message_of error = option_map string_bytes error.message
+
+-- a message, or the words for none
+abbrev pub message_or_words : Option (List ℕ) → List ℕ
+message_or_words (Some message) = message
+message_or_words None = codes "format error"
+
+-- what a refusal is shown as
+abbrev pub error_text : Error → List ℕ
+error_text error = message_or_words (message_of error)

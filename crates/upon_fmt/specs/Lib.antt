@@ -1,0 +1,4 @@
+pub mod Error
+pub mod Formatter
+pub mod Given
+pub mod Writer

@@ -1,0 +1,223 @@
+// Formatters: what writes a value as text.
+ghost use Rattle.std.specs.Prelude.{◌≡◌, ◌++◌, List, ℕ, [], Some, None, true, false, IfOk, MatchOption, option_map, string_bytes, codes};
+ghost use Rattle.std.specs.Fmt.{signed_decimal};
+ghost use Rattle.std.specs.Char.{encode_utf8};
+ghost use Rattle.upon_types.specs.Answers.{Formatted};
+ghost use Rattle.upon_types.specs.Val.{Val, kind_word};
+ghost use Rattle.upon_types.specs.View.{view};
+ghost use Rattle.upon_meaning.specs.DefaultFormat.{default_format};
+ghost use Rattle.upon_fmt.specs.Error.{message_of, error_text};
+ghost use Rattle.upon_fmt.specs.Formatter.{text_of, is_marked, Writes, Formats};
+
+use std::alloc::{AllocError, Global};
+use std::fmt;
+use upon_types::value::Value;
+
+/// What formatting ends with: well, or refused.
+pub type Result = std::result::Result<(), Error>;
+
+/// A formatter refuses, with a message or with none.
+#[derive(Debug, Drop)]
+pub struct Error {
+    message: Option<String>,
+}
+
+impl Error {
+    /// A refusal with a copy of a message. It fails where there is no memory for the copy.
+    pub fn from_text(alloc: Global, message: &str) -> std::result::Result<Error, AllocError>
+        ensures { IfOk result (λ error. message_of error ≡ Some message.now) }
+    {
+        let message = String::from_str(alloc, message)?;
+        Ok(Error {
+            message: Some(message),
+        })
+    }
+
+    /// The message, where there is one.
+    pub fn message(self) -> Option<String>
+        ensures { option_map string_bytes result ≡ message_of self }
+    {
+        self.message
+    }
+}
+
+impl From<String> for Error {
+    ghost from_gives = { λ message error. message_of error ≡ Some (string_bytes message) };
+
+    fn from(message: String) -> Error {
+        Error {
+            message: Some(message),
+        }
+    }
+}
+
+impl From<fmt::Error> for Error {
+    ghost from_gives = { λ _ error. message_of error ≡ None };
+
+    fn from(_: fmt::Error) -> Error {
+        Error { message: None }
+    }
+}
+
+impl fmt::Display for Error {
+    ghost output = { λ error. Some (error_text error) };
+
+    fn fmt<W: fmt::Write>(&self, f: &mut fmt::Formatter<W>) -> fmt::Result {
+        match &self.message {
+            Some(message) => write!(f, "{message}"),
+            None => write!(f, "format error"),
+        }
+    }
+}
+
+impl std::error::Error for Error {}
+
+/// A text that a formatter writes, and a mark that memory was refused. Once the mark is set, nothing is appended.
+#[derive(Drop)]
+pub struct Formatter {
+    alloc: Global,
+    buffer: String,
+    is_marked: bool,
+}
+
+impl Formatter {
+    /// No text so far, and no mark.
+    pub fn new(alloc: Global) -> Formatter
+        ensures text { text_of result ≡ [] }
+        ensures mark { is_marked result ≡ false }
+    {
+        Formatter {
+            alloc,
+            buffer: String::new(alloc),
+            is_marked: false,
+        }
+    }
+
+    /// What takes memory for the text.
+    pub fn allocator(&self) -> Global {
+        self.alloc
+    }
+
+    /// Appends a text, or sets the mark where there is no memory for it.
+    pub fn write_str(&mut self, text: &str) -> Result
+        ensures { Writes self.old self.new result text.now }
+    {
+        if self.is_marked {
+            return Err(Error { message: None });
+        }
+        match self.buffer.push_str(text) {
+            Ok(()) => Ok(()),
+            Err(_) => {
+                self.out_of_memory();
+                Err(Error { message: None })
+            }
+        }
+    }
+
+    /// Appends a character, or sets the mark where there is no memory for it.
+    pub fn write_char(&mut self, character: char) -> Result
+        ensures { Writes self.old self.new result (encode_utf8 character) }
+    {
+        if self.is_marked {
+            return Err(Error { message: None });
+        }
+        match self.buffer.push(character) {
+            Ok(()) => Ok(()),
+            Err(_) => {
+                self.out_of_memory();
+                Err(Error { message: None })
+            }
+        }
+    }
+
+    /// Sets the mark: a formatter's own growth was refused.
+    pub fn out_of_memory(&mut self)
+        ensures mark { is_marked self.new ≡ true }
+        ensures text { text_of self.new ≡ text_of self.old }
+    {
+        self.is_marked = true;
+    }
+
+    /// The text, or `None` where the mark is set.
+    pub fn into_text(self) -> Option<String>
+        ensures { MatchOption
+            result
+            (is_marked self ≡ true)
+            (λ text. (is_marked self ≡ false) × (string_bytes text ≡ text_of self)) }
+    {
+        if self.is_marked {
+            return None;
+        }
+        Some(self.buffer)
+    }
+}
+
+/// What writes a value as text.
+pub trait Format: Drop {
+    // What it writes for a value, and how that ends.
+    ghost formats: { Self → Val → Formatted };
+
+    /// Appends the text of a value. Where the formatter's mark is set afterwards, memory was out, and nothing else is
+    /// said.
+    fn format(&self, f: &mut Formatter, value: &Value) -> Result
+        ensures { Formats f.old f.new result (formats self.now (view value.now)) };
+}
+
+/// Writes nothing for no value, `true` or `false`, an integer in decimal, and a text as it is.
+///
+/// It refuses a list and a map, with a message.
+pub fn default(f: &mut Formatter, value: &Value) -> Result
+    ensures { Formats f.old f.new result (default_format (view value.now)) }
+{
+    match value {
+        Value::None => Ok(()),
+        Value::Bool(true) => f.write_str("true"),
+        Value::Bool(false) => f.write_str("false"),
+        Value::Integer(number) => write_number(f, *number),
+        Value::String(text) => f.write_str(text.as_str()),
+        Value::List(_) | Value::Map(_) => Err(unformattable(f, value)),
+    }
+}
+
+/// The formatter that writes as [`default`] does.
+#[derive(Clone, Copy, Debug)]
+pub struct DefaultFormat;
+
+impl Format for DefaultFormat {
+    ghost formats = { λ _. default_format };
+
+    fn format(&self, f: &mut Formatter, value: &Value) -> Result {
+        default(f, value)
+    }
+}
+
+// An integer in decimal.
+fn write_number(f: &mut Formatter, number: i64) -> Result
+    ensures { Writes f.old f.new result (signed_decimal number) }
+{
+    match format!(in f.alloc; "{number}") {
+        Ok(digits) => f.write_str(digits.as_str()),
+        Err(_) => {
+            f.out_of_memory();
+            Err(Error { message: None })
+        }
+    }
+}
+
+// The refusal of a value that has no text.
+fn unformattable(f: &mut Formatter, value: &Value) -> Error
+    ensures kept { text_of f.new ≡ text_of f.old }
+    ensures message { is_marked f.new ≡ false
+        → (is_marked f.old ≡ false) × (message_of result ≡ Some (codes "expression evaluated to unformattable type " ++ kind_word (view value.now))) }
+{
+    let kind = value.human();
+    match format!(in f.alloc; "expression evaluated to unformattable type {kind}") {
+        Ok(message) => Error {
+            message: Some(message),
+        },
+        Err(_) => {
+            f.out_of_memory();
+            Error { message: None }
+        }
+    }
+}

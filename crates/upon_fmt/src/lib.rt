@@ -1,0 +1,5 @@
+// What values are written as, and where text goes.
+#![tactic(auto)]
+
+pub mod fmt;
+pub mod output;

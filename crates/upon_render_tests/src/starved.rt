@@ -1,0 +1,66 @@
+// A process that is out of memory, for tests of calls that take none.
+use std::alloc::{AllocError, Global};
+
+// How many pieces are taken at most, which is enough for the address space.
+const PIECES: usize = 60_000;
+
+// The memory that the process could get. While it is held, each growth is refused.
+#[derive(Drop)]
+pub struct Hoard {
+    pieces: Vec<Vec<u8>>,
+}
+
+impl Hoard {
+    // `None` where memory is not used up, as under the checkers of `rt try`: 512 GiB are granted at once, or the pieces
+    // do not end.
+    pub fn new(alloc: Global) -> Result<Option<Hoard>, AllocError> {
+        let pieces = Vec::with_capacity(alloc, PIECES)?;
+        let mut hoard = Hoard { pieces };
+        let mut size = 1usize << 39;
+        hoard.take_all(alloc, size);
+        if !hoard.pieces.is_empty() {
+            return Ok(None);
+        }
+        for _ in 0..36u32 {
+            size /= 2;
+            hoard.take_all(alloc, size);
+        }
+        if hoard.pieces.len() == PIECES {
+            return Ok(None);
+        }
+        Ok(Some(hoard))
+    }
+
+    // Takes pieces of this size until one is refused.
+    fn take_all(&mut self, alloc: Global, size: usize) {
+        for _ in self.pieces.len()..PIECES {
+            match Vec::with_capacity(alloc, size) {
+                Ok(piece) => {
+                    if self.pieces.push(piece).is_err() {
+                        return;
+                    }
+                }
+                Err(AllocError) => return,
+            }
+        }
+    }
+
+    // Whether a growth by a byte is refused. A piece that is got is kept, so that the compiler leaves the growth in.
+    fn is_whole(&mut self, alloc: Global) -> bool {
+        match Vec::with_capacity(alloc, 1) {
+            Ok(piece) => {
+                drop(self.pieces.push(piece));
+                false
+            }
+            Err(AllocError) => true,
+        }
+    }
+}
+
+// Whether each growth is refused, where memory could be used up.
+pub fn is_starved(alloc: Global, hoard: &mut Option<Hoard>) -> bool {
+    match hoard {
+        Some(hoard) => hoard.is_whole(alloc),
+        None => true,
+    }
+}

@@ -1,0 +1,14 @@
+use Rattle.std.proofs.Common.{◌∷◌, ap, string_bytes, rules}
+use Rattle.upon_serde.specs.Data.{field, variant}
+use Rattle.upon_serde.specs.Notes.{event_of, events_of}
+use Rattle.upon_serde.proofs.build.key.Goals as goal
+
+pub returns-in-FieldKey-clause-reads : goal.returns-in-FieldKey-clause-reads
+returns-in-FieldKey-clause-reads c =
+    let name = c.in-FieldKey.name in
+    (field (string_bytes name) c.in-FieldKey.case, ap (λ n. event_of n ∷ events_of c.args.notes.now) c.in-FieldKey.is, search rules)
+
+pub returns-in-VariantKey-clause-reads : goal.returns-in-VariantKey-clause-reads
+returns-in-VariantKey-clause-reads c =
+    let name = c.in-VariantKey.name in
+    (variant (string_bytes name) c.in-VariantKey.case, ap (λ n. event_of n ∷ events_of c.args.notes.now) c.in-VariantKey.is, search rules)

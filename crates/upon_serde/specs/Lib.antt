@@ -1,0 +1,4 @@
+pub mod Data
+pub mod Notes
+pub mod Reads
+pub mod Again

@@ -1,0 +1,32 @@
+-- What a note says that was sent.
+use Rattle.std.specs.Prelude.{List, map, string_bytes}
+use Rattle.std.specs.declared.alloc.Global.{Global}
+use Rattle.std.specs.declared.collections.VecDeque.{VecDeque}
+use Rattle.serde.specs.Event as event
+use Rattle.serde.specs.Event.{Event}
+use Rattle.upon_serde.specs.declared.note.Note.{Note}
+use Rattle.upon_serde.specs.declared.note.Note.TheVariants as note
+
+-- the event that a note is of
+abbrev pub event_of : Note → Event
+event_of note.Unit = event.nothing
+event_of (note.Bool b) = event.boolean b
+event_of (note.Signed z) = event.signed z
+event_of (note.Unsigned n) = event.unsigned n
+event_of (note.Char c) = event.character c
+event_of (note.Text s) = event.text (string_bytes s)
+event_of (note.Bytes bytes) = event.octets bytes.items
+event_of (note.UnitVariant name case) = event.unit_variant (string_bytes name) case
+event_of (note.BeginSeq length) = event.seq_begins length
+event_of note.EndSeq = event.seq_ends
+event_of (note.BeginMap length) = event.map_begins length
+event_of note.EndMap = event.map_ends
+event_of (note.FieldKey name case) = event.field_key (string_bytes name) case
+event_of (note.VariantKey name case) = event.variant_key (string_bytes name) case
+event_of note.BeginKey = event.key_begins
+event_of note.EndKey = event.key_ends
+event_of note.Flatten = event.flattens
+
+-- the events that notes are of
+abbrev pub events_of : VecDeque Note Global → List Event
+events_of notes = map event_of notes.items

@@ -1,0 +1,228 @@
+// From what serde's data sent to the value.
+ghost use Rattle.std.specs.Prelude.{◌≡◌, ◌<◌, ◌≤◌, ◌+◌, [], ◌∷◌, Some, pos, map, option_map, OnOk, IfOk, if◌then◌else◌, string_bytes, encode_utf8};
+ghost use Rattle.std.specs.VecDeque.{deque_len};
+ghost use Rattle.serde.specs.Event.{seq_ends, key_begins};
+ghost use Rattle.serde.specs.Spelling.{spelled};
+ghost use Rattle.upon_types.specs.Val.{int_val};
+ghost use Rattle.upon_types.specs.View.{view};
+ghost use Rattle.upon_serde.specs.Data.{key_text, value_of};
+ghost use Rattle.upon_serde.specs.Notes.{event_of, events_of};
+ghost use Rattle.upon_serde.specs.Reads.{ReadsDatum, ReadsItems, ReadsMembers, ReadsFlattened, ReadsKey, datum_of, key_of, pairs_of};
+
+use crate::fault::{fault, integer};
+use crate::note::{Note, Notes};
+use serde::{Case, NameKind};
+use std::alloc::{AllocError, Global};
+use std::collections::BTreeMap;
+use upon_types::error::{Error, Result};
+use upon_types::value::Value;
+
+/// The value of the data that the notes are.
+pub fn whole_value(alloc: Global, mut notes: Notes) -> Result<Value>
+    ensures reads { IfOk result (λ v. ReadsDatum (events_of notes) [] (view v)) }
+{
+    let value = value(alloc, &mut notes)?;
+    if notes.is_empty() {
+        Ok(value)
+    } else {
+        Err(misplaced(alloc))
+    }
+}
+
+// The value of the data that the notes begin with. The notes after that stay.
+#[cycle(build)]
+fn value(alloc: Global, notes: &mut Notes) -> Result<Value>
+    ensures reads { IfOk result (λ v. ReadsDatum (events_of notes.old) (events_of notes.new) (view v)) }
+    ensures shorter { OnOk result (deque_len notes.new < deque_len notes.old) }
+{
+    let Some(note) = notes.pop_front() else {
+        return Err(misplaced(alloc));
+    };
+    match note {
+        Note::BeginSeq(_) => Ok(Value::List(items(alloc, notes)?)),
+        Note::BeginMap(_) => Ok(Value::Map(map(alloc, notes)?)),
+        note => simple_value(alloc, note),
+    }
+}
+
+// The value of data that are one note.
+fn simple_value(alloc: Global, note: Note) -> Result<Value>
+    ensures { IfOk result (λ v. option_map value_of (datum_of (event_of note)) ≡ Some (view v)) }
+{
+    match note {
+        Note::Unit => Ok(Value::None),
+        Note::Bool(truth) => Ok(Value::Bool(truth)),
+        Note::Signed(number) => Ok(Value::Integer(number)),
+        Note::Unsigned(number) => Ok(Value::Integer(integer(alloc, number)?)),
+        Note::Char(character) => Ok(Value::String(one_character(alloc, character)?)),
+        Note::Text(text) => Ok(Value::String(text)),
+        Note::Bytes(bytes) => Ok(Value::List(integers(alloc, &bytes)?)),
+        Note::UnitVariant(name, case) => {
+            Ok(Value::String(spelled(alloc, NameKind::Variant, &name, case)?))
+        }
+        _ => Err(misplaced(alloc)),
+    }
+}
+
+// The values up to the end of a sequence.
+#[cycle(build)]
+fn items(alloc: Global, notes: &mut Notes) -> Result<Vec<Value>>
+    ensures reads { IfOk result (λ vs. ReadsItems (events_of notes.old) (events_of notes.new) (map view vs.items)) }
+    ensures shorter { OnOk result (deque_len notes.new < deque_len notes.old) }
+{
+    let mut items = Vec::new(alloc);
+    while !takes_end_of_seq(notes) {
+        items.push(value(alloc, notes)?)?;
+    }
+    Ok(items)
+}
+
+// The map of the members up to its end.
+#[cycle(build)]
+fn map(alloc: Global, notes: &mut Notes) -> Result<BTreeMap<String, Value>>
+    ensures reads { IfOk result
+        (λ m. ReadsMembers (events_of notes.old) (events_of notes.new) [] (pairs_of m.entries)) }
+    ensures shorter { OnOk result (deque_len notes.new < deque_len notes.old) }
+{
+    let mut entries = BTreeMap::new(alloc);
+    members(alloc, notes, &mut entries)?;
+    Ok(entries)
+}
+
+// Puts the members up to the end of a map into the entries; of equal keys the last counts.
+#[cycle(build)]
+fn members(alloc: Global, notes: &mut Notes, entries: &mut BTreeMap<String, Value>) -> Result<()>
+    ensures reads { OnOk result
+        (ReadsMembers
+        (events_of notes.old)
+        (events_of notes.new)
+        (pairs_of entries.old.entries)
+        (pairs_of entries.new.entries)) }
+    ensures shorter { OnOk result (deque_len notes.new < deque_len notes.old) }
+{
+    while let Some(note) = notes.pop_front() {
+        match note {
+            Note::EndMap => return Ok(()),
+            Note::Flatten => flattened(alloc, notes, entries)?,
+            note => {
+                let key = key(alloc, note, notes)?;
+                let value = value(alloc, notes)?;
+                drop(entries.insert(key, value)?);
+            }
+        }
+    }
+    Err(misplaced(alloc))
+}
+
+// Puts the members of a flattened map into the entries; a unit in its place has none.
+#[cycle(build)]
+fn flattened(alloc: Global, notes: &mut Notes, entries: &mut BTreeMap<String, Value>) -> Result<()>
+    ensures reads { OnOk result
+        (ReadsFlattened
+        (events_of notes.old)
+        (events_of notes.new)
+        (pairs_of entries.old.entries)
+        (pairs_of entries.new.entries)) }
+    ensures shorter { OnOk result (deque_len notes.new < deque_len notes.old) }
+{
+    match notes.pop_front() {
+        Some(Note::BeginMap(_)) => members(alloc, notes, entries),
+        Some(Note::Unit) => Ok(()),
+        _ => Err(fault(alloc, "can only flatten structs and maps")),
+    }
+}
+
+// The text of a key that begins with a note, up to its end.
+fn key(alloc: Global, first: Note, notes: &mut Notes) -> Result<String>
+    ensures reads { IfOk result
+        (λ s. ReadsKey (event_of first ∷ events_of notes.old) (events_of notes.new) (string_bytes s)) }
+    ensures shorter { OnOk result (deque_len notes.new ≤ deque_len notes.old) }
+{
+    match first {
+        Note::FieldKey(name, case) => Ok(spelled(alloc, NameKind::Field, &name, case)?),
+        Note::VariantKey(name, case) => Ok(spelled(alloc, NameKind::Variant, &name, case)?),
+        Note::BeginKey => inner_key(alloc, notes),
+        _ => Err(misplaced(alloc)),
+    }
+}
+
+// The text of a key that has begun, up to its end.
+fn inner_key(alloc: Global, notes: &mut Notes) -> Result<String>
+    ensures reads { IfOk result
+        (λ s. ReadsKey (key_begins ∷ events_of notes.old) (events_of notes.new) (string_bytes s)) }
+    ensures shorter { OnOk result (deque_len notes.new ≤ deque_len notes.old) }
+{
+    let Some(note) = notes.pop_front() else {
+        return Err(misplaced(alloc));
+    };
+    let text = simple_key(alloc, note)?;
+    match notes.pop_front() {
+        Some(Note::EndKey) => Ok(text),
+        _ => Err(misplaced(alloc)),
+    }
+}
+
+// The text of a key that is one note.
+fn simple_key(alloc: Global, note: Note) -> Result<String>
+    ensures { IfOk result (λ s. option_map key_text (key_of (event_of note)) ≡ Some (string_bytes s)) }
+{
+    match note {
+        Note::Signed(number) => Ok(format!(in alloc; "{number}")?),
+        Note::Unsigned(number) => Ok(format!(in alloc; "{number}")?),
+        Note::Char(character) => Ok(one_character(alloc, character)?),
+        Note::Text(text) => Ok(text),
+        Note::UnitVariant(name, case) => Ok(spelled(alloc, NameKind::Variant, &name, case)?),
+        _ => Err(misplaced(alloc)),
+    }
+}
+
+// Takes the end of a sequence, where it is next.
+fn takes_end_of_seq(notes: &mut Notes) -> bool
+    ensures end { events_of notes.old ≡ (if result then seq_ends ∷ events_of notes.new else events_of notes.new) }
+    ensures shorter { (if result then deque_len notes.new + 1 else deque_len notes.new) ≡ deque_len notes.old }
+{
+    let ends = matches!(notes.front(), Some(Note::EndSeq));
+    if ends {
+        notes.pop_front();
+    }
+    ends
+}
+
+// The text of one character.
+fn one_character(alloc: Global, character: char) -> std::result::Result<String, AllocError>
+    ensures { IfOk result (λ s. string_bytes s ≡ encode_utf8 character) }
+{
+    let mut text = String::new(alloc);
+    text.push(character)?;
+    Ok(text)
+}
+
+// The bytes as integers.
+fn integers(alloc: Global, bytes: &[u8]) -> std::result::Result<Vec<Value>, AllocError>
+    ensures { IfOk result (λ vs. map view vs.items ≡ map (λ b. int_val (pos b)) bytes.now) }
+{
+    let mut items = Vec::with_capacity(alloc, bytes.len())?;
+    for byte in bytes {
+        items.push(Value::Integer(i64::from(*byte)))?;
+    }
+    Ok(items)
+}
+
+// A name as `rename_all` spells it.
+fn spelled(
+    alloc: Global,
+    kind: NameKind,
+    name: &str,
+    case: Case,
+) -> std::result::Result<String, AllocError>
+    ensures { IfOk result (λ s. string_bytes s ≡ spelled case kind name.now) }
+{
+    let mut text = String::new(alloc);
+    case.append(kind, name, &mut text)?;
+    Ok(text)
+}
+
+// What an implementation sent that is no data: an end without its begin, a value without its key, or nothing.
+fn misplaced(alloc: Global) -> Error {
+    fault(alloc, "serde's data are incomplete")
+}

@@ -1,0 +1,4 @@
+pub mod Start
+pub mod NoTag
+pub mod NoStatement
+pub mod StatementsRead

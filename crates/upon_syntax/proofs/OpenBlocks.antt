@@ -1,0 +1,140 @@
+-- The open blocks in the code's list: the last is the innermost, and tags open and close at that end.
+use Rattle.std.proofs.Common.{◌≡◌, ℕ, ◌-◌, List, [], ◌∷◌, ◌++◌, length, Bool, true, false, Option, Some, None, option_map, ◌<◌, get_or, refl, sym, ap, ◌∙◌, subst, arith}
+use Rattle.std.specs.List.{slice_get}
+use Rattle.std.specs.Option.{option_to_list}
+use Rattle.std.proofs.lemmas.List.{append-nil}
+use Rattle.std.proofs.Math.ListN.{set}
+use Rattle.std.proofs.Math.Seq.{set-append_seam, get_or-append_seam}
+use Rattle.upon_types.specs.declared.types.Span.{Span}
+use Rattle.upon_language.specs.Blocks.{Block, if_block, for_block, with_block, OpenBlock, Closer, else_if, plain_else, end_if, end_for, end_with, block_takes, takes, after_closer, outermost}
+use Rattle.upon_syntax.specs.declared.compile.parse.open_blocks.OpenBlock.{OpenBlock as CodeBlock}
+use Rattle.upon_syntax.specs.Pieces.{BlockTag, if_tag, else_if_tag, else_tag, endif_tag, for_tag, endfor_tag, with_tag, endwith_tag, include_tag, BlockKind, else_after, else_if_after, closed_after, blocks_after_tag}
+use Rattle.upon_syntax.specs.OpenBlocks.{block_of, stack_from, innermost, kinds_of, after_tag, IsTaken}
+
+pub stack_more : (stack : List OpenBlock) (bs cs : List CodeBlock) → stack_from stack (bs ++ cs) ≡ stack_from (stack_from stack bs) cs
+stack_more stack [] cs = refl
+stack_more stack (b ∷ bs) cs = stack_more (block_of b ∷ stack) bs cs
+
+last_from : (stack : List OpenBlock) (b : CodeBlock) (bs : List CodeBlock) → option_map block_of (slice_get (b ∷ bs) (length bs)) ≡ innermost (stack_from stack (b ∷ bs))
+last_from stack b [] = refl
+last_from stack b (c ∷ cs) = last_from (block_of b ∷ stack) c cs
+
+-- the innermost block is the last of the list
+pub innermost_last : (bs : List CodeBlock) → option_map block_of (slice_get bs (length bs - 1)) ≡ innermost (stack_from [] bs)
+innermost_last [] = refl
+innermost_last (b ∷ bs) = let same : length (b ∷ bs) - 1 ≡ length bs = omega arith in ap (λ (k : ℕ). option_map block_of (slice_get (b ∷ bs) k)) same ∙ last_from [] b bs
+
+-- the outermost one stays while others open
+outermost_stays : (o p : OpenBlock) (stack : List OpenBlock) (bs : List CodeBlock) → outermost (stack_from (o ∷ (p ∷ stack)) bs) ≡ outermost (stack_from (p ∷ stack) bs)
+outermost_stays o p stack [] = refl
+outermost_stays o p stack (b ∷ bs) = outermost_stays (block_of b) o (p ∷ stack) bs ∙ outermost_stays o p stack bs ∙ sym (outermost_stays (block_of b) p stack bs)
+
+outermost_from : (o : OpenBlock) (bs : List CodeBlock) → outermost (stack_from (o ∷ []) bs) ≡ Some o
+outermost_from o [] = refl
+outermost_from o (b ∷ bs) = outermost_stays (block_of b) o [] bs ∙ outermost_from o bs
+
+-- the outermost block is the first of the list
+pub outermost_first : (bs : List CodeBlock) → option_map block_of (slice_get bs 0) ≡ outermost (stack_from [] bs)
+outermost_first [] = refl
+outermost_first (b ∷ bs) = sym (outermost_from (block_of b) bs)
+
+-- the blocks without the innermost, where there is one
+pub popped : (bs rest : List CodeBlock) (last : Option CodeBlock) → bs ≡ rest ++ option_to_list last → (last ≡ None → rest ≡ []) → stack_from [] rest ≡ after_closer end_if (stack_from [] bs)
+popped bs rest None e none =
+    let empty : rest ≡ [] = none refl in
+    let all : bs ≡ [] = e ∙ append-nil rest ∙ empty in
+    ap (stack_from []) empty ∙ ap (λ (x : List CodeBlock). after_closer end_if (stack_from [] x)) (sym all)
+popped bs rest (Some b) e none = sym (ap (λ (x : List CodeBlock). after_closer end_if (stack_from [] x)) e ∙ ap (after_closer end_if) (stack_more [] rest (b ∷ [])))
+
+-- a list that is not empty, by its last
+pub by_last : (b : CodeBlock) (bs : List CodeBlock) → (front : List CodeBlock) × (last : CodeBlock) × (b ∷ bs ≡ front ++ last ∷ []) × (length front ≡ length bs)
+by_last b [] = ([], b, refl, refl)
+by_last b (c ∷ cs) =
+    let rest = by_last c cs in
+    let longer : length (b ∷ rest.0) ≡ length (c ∷ cs) = omega (arith, rest.3) in
+    (b ∷ rest.0, rest.1, ap (λ (x : List CodeBlock). b ∷ x) rest.2, longer)
+
+abbrev marked : CodeBlock → CodeBlock
+marked r = record { kind = r.kind; has_else = true; span = r.span }
+
+-- the innermost's `else` was read
+pub else_begun : (bs : List CodeBlock) (k : ℕ) (r : CodeBlock) → 0 < length bs → k ≡ length bs - 1 → r ≡ get_or bs k r → stack_from [] (set bs k (marked r)) ≡ after_closer plain_else (stack_from [] bs)
+else_begun [] k r some e at = absurd (omega (arith, some))
+else_begun (b ∷ bs) k r some e at =
+    let x = by_last b bs in
+    let all = x.2 in
+    let place : k ≡ length x.0 = omega (arith, e, x.3) in
+    let found : get_or (b ∷ bs) k r ≡ get_or (x.0 ++ x.1 ∷ []) (length x.0) r = λ i. get_or (all i) (place i) r in
+    let same : r ≡ x.1 = at ∙ found ∙ get_or-append_seam x.0 x.1 [] r in
+    let stored : set (b ∷ bs) k (marked r) ≡ set (x.0 ++ x.1 ∷ []) (length x.0) (marked r) = λ i. set (all i) (place i) (marked r) in
+    ap (stack_from []) (stored ∙ set-append_seam x.0 x.1 [] (marked r)) ∙ stack_more [] x.0 (marked r ∷ [])
+    ∙ ap (λ (y : CodeBlock). block_of (marked y) ∷ stack_from [] x.0) same
+    ∙ sym (ap (after_closer plain_else) (ap (stack_from []) all ∙ stack_more [] x.0 (x.1 ∷ [])))
+
+takes_first : (stack : List OpenBlock) (o : OpenBlock) (closer : Closer) → innermost stack ≡ Some o → block_takes o.kind o.has_else closer ≡ takes stack closer
+takes_first [] o closer e = absurd cc
+takes_first (p ∷ stack) o closer e = let same : p ≡ o = cc in ap (λ (x : OpenBlock). block_takes x.kind x.has_else closer) (sym same)
+
+-- whether the innermost takes a closing tag
+pub takes_innermost : (bs xs : List CodeBlock) (b : CodeBlock) (closer : Closer) → xs ≡ bs → Some b ≡ slice_get xs (length xs - 1) → block_takes (block_of b).kind b.has_else closer ≡ takes (stack_from [] bs) closer
+takes_innermost bs xs b closer e last =
+    let F : List CodeBlock → Type 0 = λ x. Some b ≡ slice_get x (length x - 1) in
+    takes_first (stack_from [] bs) (block_of b) closer (sym (innermost_last bs) ∙ ap (option_map block_of) (sym (subst F e last)))
+
+-- each closing tag that ends a block takes the innermost away
+pub ends_alike : (stack : List OpenBlock) → (after_closer end_for stack ≡ after_closer end_if stack) × (after_closer end_with stack ≡ after_closer end_if stack)
+ends_alike [] = (refl, refl)
+ends_alike (o ∷ stack) = (refl, refl)
+
+pub else_if_stays : (stack : List OpenBlock) → stack ≡ after_closer else_if stack
+else_if_stays [] = refl
+else_if_stays (o ∷ stack) = refl
+
+-- ---- the kinds of the open blocks
+abbrev pub kinds_after : Closer → List BlockKind → Option (List BlockKind)
+kinds_after else_if kinds = else_if_after kinds
+kinds_after plain_else kinds = else_after kinds
+kinds_after end_if kinds = closed_after if_block kinds
+kinds_after end_for kinds = closed_after for_block kinds
+kinds_after end_with kinds = closed_after with_block kinds
+
+abbrev opened : Block → Bool → Span → OpenBlock
+opened kind has_else span = record { kind = kind; has_else = has_else; span = span }
+
+one_closed : (closer : Closer) (kind : Block) (has_else : Bool) (span : Span) (stack : List OpenBlock) → block_takes kind has_else closer ≡ true
+    → kinds_after closer (kinds_of (opened kind has_else span ∷ stack)) ≡ Some (kinds_of (after_closer closer (opened kind has_else span ∷ stack)))
+one_closed else_if if_block true span stack h = absurd cc
+one_closed else_if if_block false span stack h = refl
+one_closed else_if for_block has_else span stack h = absurd cc
+one_closed else_if with_block has_else span stack h = absurd cc
+one_closed plain_else if_block true span stack h = absurd cc
+one_closed plain_else if_block false span stack h = refl
+one_closed plain_else for_block has_else span stack h = absurd cc
+one_closed plain_else with_block has_else span stack h = absurd cc
+one_closed end_if if_block has_else span stack h = refl
+one_closed end_if for_block has_else span stack h = absurd cc
+one_closed end_if with_block has_else span stack h = absurd cc
+one_closed end_for if_block true span stack h = absurd cc
+one_closed end_for if_block false span stack h = absurd cc
+one_closed end_for for_block has_else span stack h = refl
+one_closed end_for with_block has_else span stack h = absurd cc
+one_closed end_with if_block true span stack h = absurd cc
+one_closed end_with if_block false span stack h = absurd cc
+one_closed end_with for_block has_else span stack h = absurd cc
+one_closed end_with with_block has_else span stack h = refl
+
+closed : (closer : Closer) (stack : List OpenBlock) → takes stack closer ≡ true → kinds_after closer (kinds_of stack) ≡ Some (kinds_of (after_closer closer stack))
+closed closer [] h = absurd cc
+closed closer (o ∷ stack) h = one_closed closer o.kind o.has_else o.span stack h
+
+-- a tag that is taken leads the kinds of the open blocks on as the blocks
+pub kinds_on : (tag : BlockTag) (span : Span) (stack : List OpenBlock) → IsTaken tag stack → blocks_after_tag tag (kinds_of stack) ≡ Some (kinds_of (after_tag tag span stack))
+kinds_on (if_tag negated e) span stack taken = refl
+kinds_on (else_if_tag negated e) span stack taken = closed else_if stack (taken else_if refl)
+kinds_on else_tag span stack taken = closed plain_else stack (taken plain_else refl)
+kinds_on endif_tag span stack taken = closed end_if stack (taken end_if refl)
+kinds_on (for_tag names e) span stack taken = refl
+kinds_on endfor_tag span stack taken = closed end_for stack (taken end_for refl)
+kinds_on (with_tag e name) span stack taken = refl
+kinds_on endwith_tag span stack taken = closed end_with stack (taken end_with refl)
+kinds_on (include_tag name globals) span stack taken = refl

@@ -1,0 +1,21 @@
+use Rattle.std.proofs.Common.{◌∙◌}
+use Rattle.std.proofs.lemmas.Result.{IfOk-weaker}
+use Rattle.upon_types.specs.AstExpression.{expression_of}
+use Rattle.upon_types.specs.AstPath.{loop_vars_of}
+use Rattle.upon_types.specs.declared.types.ast.ForLoop.{ForLoop, roll-ForLoop}
+use Rattle.upon_types.specs.declared.types.ast.Stmt as stmt
+use Rattle.upon_types.proofs.Trees.{view-ForLoop, for_of-out}
+use Rattle.upon_syntax.specs.Pieces.{block_piece, for_tag}
+use Rattle.upon_syntax.specs.PieceTrees.{Pushes, ReadsPiece}
+use Rattle.upon_syntax.proofs.PieceTrees.{reads_for}
+use Rattle.upon_syntax.proofs.compile.parse.tree.TreeBuilder.read_for.Goals as goal
+
+pub returns : goal.returns
+returns c =
+    let left = c.leave-body.result in
+    let names = loop_vars_of c.args.vars in
+    let e = expression_of c.args.iterable in
+    let whole : ForLoop = roll-ForLoop (record { vars = c.args.vars; iterable = c.args.iterable; body = left.0 }) in
+    IfOk-weaker c.push.result (Pushes (stmt.ForLoop whole) left.2) (ReadsPiece (block_piece (for_tag names e)) c.args.self)
+    (λ new p. reads_for c.args.self left.2 new names e left.0 left.1 (stmt.ForLoop whole) c.leave-body.ensures c.requires p (view-ForLoop whole ∙ for_of-out whole))
+    c.push.ensures

@@ -1,0 +1,94 @@
+-- The blocks that the code keeps open, and what a tag does to them.
+use Rattle.std.specs.Prelude.{◌≡◌, List, [], ◌∷◌, map, true, false, Option, Some, None}
+use Rattle.upon_types.specs.declared.types.Span.{Span}
+use Rattle.upon_language.specs.Blocks.{Block, if_block, for_block, with_block, OpenBlock, Closer, else_if, plain_else}
+use Rattle.upon_language.specs.Blocks.{end_if, end_for, end_with, takes, by_closer}
+use Rattle.upon_syntax.specs.Pieces.{BlockTag, if_tag, else_if_tag, else_tag, endif_tag, for_tag, endfor_tag, with_tag}
+use Rattle.upon_syntax.specs.Pieces.{endwith_tag, BlockKind}
+use Rattle.upon_syntax.specs.declared.compile.parse.open_blocks.Kind.{Kind}
+use Rattle.upon_syntax.specs.declared.compile.parse.open_blocks.Kind.TheVariants as kind
+use Rattle.upon_syntax.specs.declared.compile.parse.open_blocks.Closing.{Closing}
+use Rattle.upon_syntax.specs.declared.compile.parse.open_blocks.Closing.TheVariants as closing
+use Rattle.upon_syntax.specs.declared.compile.parse.open_blocks.Effect.{Effect}
+use Rattle.upon_syntax.specs.declared.compile.parse.open_blocks.Effect.TheVariants.{Opens, Closes, Nothing}
+use Rattle.upon_syntax.specs.declared.compile.parse.open_blocks.OpenBlock.{OpenBlock as CodeBlock}
+use Rattle.upon_syntax.specs.declared.compile.parse.open_blocks.OpenBlocks.{OpenBlocks}
+
+-- the kind of block that the code's kind denotes
+abbrev pub kind_of : Kind → Block
+kind_of kind.If = if_block
+kind_of kind.For = for_block
+kind_of kind.With = with_block
+
+-- the closing tag that the code's denotes
+abbrev pub closer_of : Closing → Closer
+closer_of closing.ElseIf = else_if
+closer_of closing.Else = plain_else
+closer_of closing.EndIf = end_if
+closer_of closing.EndFor = end_for
+closer_of closing.EndWith = end_with
+
+-- the open block that the code's denotes
+abbrev pub block_of : CodeBlock → OpenBlock
+block_of b = record { kind = kind_of b.kind; has_else = b.has_else; span = b.span }
+
+-- the innermost block is last in the code's list, and first here
+abbrev pub stack_from : List OpenBlock → List CodeBlock → List OpenBlock
+stack_from stack [] = stack
+stack_from stack (b ∷ bs) = stack_from (block_of b ∷ stack) bs
+
+-- the code's open blocks, innermost first
+abbrev pub stack_of : OpenBlocks → List OpenBlock
+stack_of blocks = stack_from [] blocks.blocks.items
+
+-- the innermost of them
+abbrev pub innermost : List OpenBlock → Option OpenBlock
+innermost [] = None
+innermost (o ∷ stack) = Some o
+
+-- the kinds of open blocks, and whether the `else` of each was read
+abbrev pub kinds_of : List OpenBlock → List BlockKind
+kinds_of stack = map (λ (o : OpenBlock). (o.kind, o.has_else)) stack
+
+-- a block whose tag was read
+abbrev pub new_block : Block → Span → OpenBlock
+new_block kind span = record { kind = kind; has_else = false; span = span }
+
+-- the kind of block that a tag opens
+abbrev pub opened_by : BlockTag → Option Block
+opened_by (if_tag negated e) = Some if_block
+opened_by (for_tag names e) = Some for_block
+opened_by (with_tag e name) = Some with_block
+opened_by tag = None
+
+-- the closing tag that a tag is
+abbrev pub closed_by : BlockTag → Option Closer
+closed_by (else_if_tag negated e) = Some else_if
+closed_by else_tag = Some plain_else
+closed_by endif_tag = Some end_if
+closed_by endfor_tag = Some end_for
+closed_by endwith_tag = Some end_with
+closed_by tag = None
+
+-- the open blocks with one more, where there is one
+abbrev pub with_block_opened : Option Block → Span → List OpenBlock → List OpenBlock
+with_block_opened None span stack = stack
+with_block_opened (Some kind) span stack = new_block kind span ∷ stack
+
+-- the open blocks after a tag with this span
+abbrev pub after_tag : BlockTag → Span → List OpenBlock → List OpenBlock
+after_tag tag span stack = with_block_opened (opened_by tag) span (by_closer (closed_by tag) stack)
+
+-- what the code says that a tag does to the open blocks
+abbrev pub HasEffect : BlockTag → Effect → Type 0
+HasEffect tag (Opens kind) = (opened_by tag ≡ Some (kind_of kind)) × (closed_by tag ≡ None)
+HasEffect tag (Closes closer) = (opened_by tag ≡ None) × (closed_by tag ≡ Some (closer_of closer))
+HasEffect tag Nothing = (opened_by tag ≡ None) × (closed_by tag ≡ None)
+
+-- the closing tag that a tag is, where it is one, is taken
+abbrev pub IsTaken : BlockTag → List OpenBlock → Type 0
+IsTaken tag stack = (closer : Closer) → closed_by tag ≡ Some closer → takes stack closer ≡ true
+
+-- the tag is this closing tag, and is not taken
+abbrev pub IsUntaken : BlockTag → List OpenBlock → Closing → Type 0
+IsUntaken tag stack closer = (closed_by tag ≡ Some (closer_of closer)) × (takes stack (closer_of closer) ≡ false)

@@ -1,0 +1,127 @@
+-- A template as a row of pieces: raw parts and whole tags, one after the other.
+use Rattle.std.specs.Prelude.{◌≡◌, ℕ, List, [], ◌∷◌, Bool, true, false, Option, Some, None, codes}
+use Rattle.std.specs.Prelude.{option_map, map}
+use Rattle.upon_types.specs.declared.types.Span.{Span}
+use Rattle.upon_types.specs.Path.{Ident, LoopVars}
+use Rattle.upon_types.specs.Expression.{Expression}
+use Rattle.upon_types.specs.Tree.{raw, inline_expr, include}
+use Rattle.upon_types.specs.AstPath.{ident_of, string_of, loop_vars_of}
+use Rattle.upon_types.specs.AstExpression.{expression_of}
+use Rattle.upon_language.specs.Cut.{Lexeme}
+use Rattle.upon_language.specs.Blocks.{Block, if_block, for_block, with_block}
+use Rattle.upon_language.specs.Grammar.{IsStatement, IsIfTag, IsElseIfTag, IsForTag, IsWithTag, IsWordTag}
+use Rattle.upon_syntax.specs.declared.compile.parse.tag.Tag.{Tag}
+use Rattle.upon_syntax.specs.declared.compile.parse.tag.Tag.TheVariants as code
+use Rattle.upon_syntax.specs.declared.compile.parse.piece.Piece.{Piece as CodePiece}
+use Rattle.upon_syntax.specs.declared.compile.parse.piece.Piece.TheVariants as code_piece
+
+-- a tag of a block
+pub data BlockTag : Type 0 where
+  if_tag : Bool → Expression → BlockTag
+  else_if_tag : Bool → Expression → BlockTag
+  else_tag : BlockTag
+  endif_tag : BlockTag
+  for_tag : LoopVars → Expression → BlockTag
+  endfor_tag : BlockTag
+  with_tag : Expression → Ident → BlockTag
+  endwith_tag : BlockTag
+  include_tag : Ident → Option Expression → BlockTag
+
+-- from the first of these tokens up to the rest is this tag
+abbrev pub IsBlockTag : List ℕ → BlockTag → List Lexeme → List Lexeme → Type 0
+IsBlockTag s (if_tag negated e) before rest = IsIfTag s negated e before rest
+IsBlockTag s (else_if_tag negated e) before rest = IsElseIfTag s negated e before rest
+IsBlockTag s else_tag before rest = IsWordTag s (codes "else") before rest
+IsBlockTag s endif_tag before rest = IsWordTag s (codes "endif") before rest
+IsBlockTag s (for_tag names e) before rest = IsForTag s names e before rest
+IsBlockTag s endfor_tag before rest = IsWordTag s (codes "endfor") before rest
+IsBlockTag s (with_tag e name) before rest = IsWithTag s e name before rest
+IsBlockTag s endwith_tag before rest = IsWordTag s (codes "endwith") before rest
+IsBlockTag s (include_tag name globals) before rest = IsStatement s (include name globals) before rest
+
+-- a raw part, an inline tag, or a tag of a block
+pub data Piece : Type 0 where
+  raw_piece : Span → Piece
+  inline_piece : Expression → Span → Piece
+  block_piece : BlockTag → Piece
+
+-- from the first of these tokens up to the rest is this piece
+abbrev pub IsPiece : List ℕ → Piece → List Lexeme → List Lexeme → Type 0
+IsPiece s (raw_piece span) before rest = IsStatement s (raw span) before rest
+IsPiece s (inline_piece e span) before rest = IsStatement s (inline_expr e span) before rest
+IsPiece s (block_piece tag) before rest = IsBlockTag s tag before rest
+
+-- pieces, one after the other
+abbrev pub ArePieces : List ℕ → List Piece → List Lexeme → List Lexeme → Type 0
+ArePieces s [] before rest = before ≡ rest
+ArePieces s (piece ∷ pieces) before rest = (mid : List Lexeme) × IsPiece s piece before mid
+    × ArePieces s pieces mid rest
+
+-- the tag that the code's tag denotes
+abbrev pub tag_of : Tag → BlockTag
+tag_of (code.If cond) = if_tag cond.not (expression_of cond.expr)
+tag_of (code.ElseIf cond) = else_if_tag cond.not (expression_of cond.expr)
+tag_of code.Else = else_tag
+tag_of code.EndIf = endif_tag
+tag_of (code.For vars iterable) = for_tag (loop_vars_of vars) (expression_of iterable)
+tag_of code.EndFor = endfor_tag
+tag_of (code.With expr name) = with_tag (expression_of expr) (ident_of name)
+tag_of code.EndWith = endwith_tag
+tag_of (code.Include i) = include_tag (string_of i.name) (option_map expression_of i.globals)
+
+-- the piece that the code's piece denotes
+abbrev pub piece_of : CodePiece → Piece
+piece_of (code_piece.Raw span) = raw_piece span
+piece_of (code_piece.InlineExpr tag) = inline_piece (expression_of tag.expr) tag.span
+piece_of (code_piece.Block tag) = block_piece (tag_of tag)
+
+-- the pieces that the code's pieces denote
+abbrev pub pieces_of : List CodePiece → List Piece
+pieces_of pieces = map piece_of pieces
+
+-- an open block: its kind, and whether its `else` was read
+abbrev pub BlockKind : Type 0
+BlockKind = Block × Bool
+
+-- an `if` that may go on with an `else`
+abbrev pub else_after : List BlockKind → Option (List BlockKind)
+else_after [] = None
+else_after ((if_block, false) ∷ blocks) = Some ((if_block, true) ∷ blocks)
+else_after (other ∷ blocks) = None
+
+-- an `if` that may go on with an `else if`
+abbrev pub else_if_after : List BlockKind → Option (List BlockKind)
+else_if_after [] = None
+else_if_after ((if_block, false) ∷ blocks) = Some ((if_block, false) ∷ blocks)
+else_if_after (other ∷ blocks) = None
+
+-- the innermost block, of this kind, is closed
+abbrev pub closed_after : Block → List BlockKind → Option (List BlockKind)
+closed_after kind [] = None
+closed_after if_block ((if_block, has_else) ∷ blocks) = Some blocks
+closed_after for_block ((for_block, has_else) ∷ blocks) = Some blocks
+closed_after with_block ((with_block, has_else) ∷ blocks) = Some blocks
+closed_after kind (other ∷ blocks) = None
+
+-- the open blocks after a tag, innermost first; none where the tag closes what is not open
+abbrev pub blocks_after_tag : BlockTag → List BlockKind → Option (List BlockKind)
+blocks_after_tag (if_tag negated e) blocks = Some ((if_block, false) ∷ blocks)
+blocks_after_tag (else_if_tag negated e) blocks = else_if_after blocks
+blocks_after_tag else_tag blocks = else_after blocks
+blocks_after_tag endif_tag blocks = closed_after if_block blocks
+blocks_after_tag (for_tag names e) blocks = Some ((for_block, false) ∷ blocks)
+blocks_after_tag endfor_tag blocks = closed_after for_block blocks
+blocks_after_tag (with_tag e name) blocks = Some ((with_block, false) ∷ blocks)
+blocks_after_tag endwith_tag blocks = closed_after with_block blocks
+blocks_after_tag (include_tag name globals) blocks = Some blocks
+
+-- the open blocks after a piece
+abbrev pub blocks_after : Piece → List BlockKind → Option (List BlockKind)
+blocks_after (block_piece tag) blocks = blocks_after_tag tag blocks
+blocks_after piece blocks = Some blocks
+
+-- each closing tag of the pieces is taken, and after them these blocks are open
+abbrev pub LeaveOpen : List BlockKind → List Piece → List BlockKind → Type 0
+LeaveOpen blocks [] left = blocks ≡ left
+LeaveOpen blocks (piece ∷ pieces) left = (next : List BlockKind) × (blocks_after piece blocks ≡ Some next)
+    × LeaveOpen next pieces left

@@ -1,0 +1,118 @@
+-- The tokens inside a tag as a lexer gives them, and where they end.
+use Rattle.std.specs.Prelude.{◌≡◌, ◌⊎◌, ℕ, ◌+◌, ◌≤◌, ◌^◌, nat_lt, List, [], ◌∷◌, ◌++◌, length, Bool, true, false}
+use Rattle.std.specs.Prelude.{Option, Some, None, codes}
+use Rattle.upon_types.specs.declared.types.Span.{Span}
+use Rattle.upon_types.specs.declared.types.token.Token.{Token}
+use Rattle.upon_types.specs.declared.types.token.Token.TheVariants.{Index, Number, String}
+use Rattle.upon_types.specs.declared.error.Error.{Error}
+use Rattle.upon_types.specs.Error.{fault_of}
+use Rattle.upon_types.specs.Fault.{Fault, syntax, out_of_memory, bare_fault, fault_with_picture}
+use Rattle.upon_types.specs.Span.{LiesIn, slice}
+use Rattle.upon_language.specs.Search.{DelimiterText}
+use Rattle.upon_language.specs.Delimiters.{Sort, end_token}
+use Rattle.upon_language.specs.Cut.{Lexeme, in_tag, Ends}
+use Rattle.upon_language.specs.Inside.{IsInside, IsQuoted}
+use Rattle.upon_language.specs.Tokens.{is_raw, without_spaces}
+use Rattle.upon_language.specs.Literal.{digits_in}
+use Rattle.upon_language.specs.LiteralFaults.{index_value, escape_fault}
+use Rattle.upon_language.specs.Faults.{span_of, lexeme_at}
+use Rattle.upon_language.specs.LaterFaults.{Report, number_report}
+use Rattle.upon_language.specs.CutFaults.{ClearTo, IsFirstCutFault}
+use Rattle.upon_language.specs.Lexing.{LexerState, HasRead}
+use Rattle.upon_language.proofs.NoTreeWithFault.InsideTag.{is_inside, EachInside}
+use Rattle.upon_syntax.specs.declared.compile.parse.literal.Lexed.{Lexed}
+use Rattle.upon_syntax.specs.declared.compile.parse.literal.Refusal.{Refusal}
+use Rattle.upon_syntax.specs.declared.compile.parse.tag_tokens.Ended.{Ended}
+use Rattle.upon_syntax.specs.declared.compile.parse.tag_tokens.Ended.TheVariants.{End, Fault as CutFault, Literal, Eof}
+use Rattle.upon_syntax.specs.Literals.{report_of}
+
+-- the fault of a text that has no tree, with its span and its reason
+abbrev pub syntax_fault : List ℕ → Span → List ℕ → Fault
+syntax_fault s span reason = fault_with_picture s (bare_fault syntax (Some reason) (Some span))
+
+-- a literal after some token denotes nothing, and this is reported
+abbrev pub DenotesNothing : List ℕ → Option Lexeme → Token → Span → Report → Type 0
+DenotesNothing s before Number span report = number_report (slice s span) before span.m span.n ≡ Some report
+DenotesNothing s before Index span report = (nat_lt (index_value (digits_in 10 (slice s span))) (2 ^ 64) ≡ false)
+    × (report ≡ record { span = span; reason = codes "base 10 literal out of range for unsigned 64-bit integer" })
+DenotesNothing s before String span report = (string : IsQuoted s span.m span.n) → (from : ℕ) × (long : ℕ)
+    × (escape_fault (span.m + 1) string.pieces ≡ Some (from, long))
+    × (report ≡ record { span = span_of from (from + long); reason = codes "unknown escape character" })
+DenotesNothing s before t span report = ⊥
+
+-- a sign before an offset lies in the text
+abbrev pub SignLies : List ℕ → Option Lexeme → ℕ → Type 0
+SignLies s None p = Unit {0}
+SignLies s (Some l) p = is_raw l.token ≡ false → LiesIn s l.span × (l.span.n ≤ p)
+
+-- a token may not be inside a tag, or is a literal that denotes nothing after the token before it
+abbrev pub StopsAt : List ℕ → Option Lexeme → Lexed → Ended → Type 0
+StopsAt s before found (End l) = (l ≡ found) × (is_inside l.token ≡ false)
+StopsAt s before found (CutFault e) = ⊥
+StopsAt s before found (Literal l refusal) = (l ≡ found) × (is_inside l.token ≡ true)
+    × DenotesNothing s before l.token l.span (report_of refusal)
+StopsAt s before found Eof = ⊥
+
+-- The lexer, which had read some tokens of an open tag, has read on inside it, and is in this state. Whitespace left
+-- out, these tokens were read.
+pub record ReadsOn (delimiters : List DelimiterText) (s : List ℕ) (sort : Sort) (ls : List Lexeme) (left : LexerState)
+    (tokens : List Lexeme) : Type 0 where
+  pub inner : List Lexeme
+  pub each : EachInside inner
+  pub path : Bool
+  pub mode : left.mode ≡ in_tag sort path
+  pub read : HasRead delimiters s left (ls ++ inner)
+  pub same : without_spaces inner ≡ tokens
+
+-- the tag's end is where the lexer was, and it has read it
+pub record ReadsEnd (delimiters : List DelimiterText) (s : List ℕ) (sort : Sort) (ls : List Lexeme)
+    (left after : LexerState) (l : Lexed) : Type 0 where
+  pub hyphen : Bool
+  pub ends : Ends delimiters s sort hyphen left.offset l.span.n
+  pub of_token : l.token ≡ end_token sort
+  pub from : l.span.m ≡ left.offset
+  pub read : HasRead delimiters s after (ls ++ lexeme_at (end_token sort) hyphen left.offset l.span.n ∷ [])
+
+-- a literal is where the lexer was, and denotes nothing
+pub record ReadsWrong (delimiters : List DelimiterText) (s : List ℕ) (path : Bool) (left : LexerState)
+    (before : Option Lexeme) (l : Lexed) (refusal : Refusal) : Type 0 where
+  pub inside : IsInside delimiters s path l.token left.offset l.span.n
+  pub from : l.span.m ≡ left.offset
+  pub clear : ClearTo delimiters s l.span.n
+  pub wrong : DenotesNothing s before l.token l.span (report_of refusal)
+
+-- the error reports the fault that ends the text's cutting at this offset, which is the first of them, or that there
+-- was no memory
+abbrev pub ReportsCut : List DelimiterText → List ℕ → ℕ → Error → Type 0
+ReportsCut delimiters s p e = (fault_of e ≡ out_of_memory) ⊎ ((span : Span) × (reason : List ℕ)
+    × IsFirstCutFault delimiters s p span reason × (fault_of e ≡ syntax_fault s span reason))
+
+-- why the lexer reads no more inside a tag
+abbrev pub EndsBy : List DelimiterText → List ℕ → Sort → List Lexeme → Bool → Option Lexeme → LexerState → LexerState
+    → Ended → Type 0
+EndsBy delimiters s sort ls path before left after (End l) = ReadsEnd delimiters s sort ls left after l
+EndsBy delimiters s sort ls path before left after (CutFault e) = ReportsCut delimiters s left.offset e
+EndsBy delimiters s sort ls path before left after (Literal l refusal) = ReadsWrong delimiters s path left before l
+    refusal
+EndsBy delimiters s sort ls path before left after Eof = left.offset ≡ length s
+
+-- after these tokens the lexer reads no more inside the tag
+pub record ReadsUpTo (delimiters : List DelimiterText) (s : List ℕ) (sort : Sort) (ls tokens : List Lexeme)
+    (before : Option Lexeme) (after : LexerState) (ended : Ended) : Type 0 where
+  pub left : LexerState
+  pub reads : ReadsOn delimiters s sort ls left tokens
+  pub ends : EndsBy delimiters s sort (ls ++ reads.inner) reads.path before left after ended
+
+-- the spans that are kept of where the tokens end lie in the text
+abbrev pub EndLies : List ℕ → Ended → Type 0
+EndLies s (End l) = LiesIn s l.span
+EndLies s (CutFault e) = Unit {0}
+EndLies s (Literal l refusal) = LiesIn s l.span × LiesIn s refusal.span
+EndLies s Eof = Unit {0}
+
+-- the tag's end, where it was read
+abbrev pub tag_end : Ended → Option Lexed
+tag_end (End l) = Some l
+tag_end (CutFault e) = None
+tag_end (Literal l refusal) = None
+tag_end Eof = None

@@ -1,0 +1,53 @@
+-- What is known before and after the tokens of a tag are read, on top of what the lexer says.
+use Rattle.std.specs.Prelude.{◌≡◌, ◌⊎◌, ℕ, List, [], ◌∷◌, ◌++◌, Bool, false, length, Some}
+use Rattle.upon_types.specs.declared.types.Span.{Span}
+use Rattle.upon_types.specs.declared.error.Error.{Error}
+use Rattle.upon_types.specs.Error.{fault_of}
+use Rattle.upon_types.specs.Fault.{syntax, out_of_memory, bare_fault, fault_with_picture}
+use Rattle.upon_language.specs.Search.{DelimiterText}
+use Rattle.upon_language.specs.Delimiters.{Sort, begin_token, end_token}
+use Rattle.upon_language.specs.Cut.{Lexeme, in_tag, Cut, outside}
+use Rattle.upon_language.specs.Faults.{lexeme_at}
+use Rattle.upon_language.specs.Reading.{open_tag}
+use Rattle.upon_language.specs.Shown.{shown_lexemes}
+use Rattle.upon_language.specs.Tokens.{without_spaces, significant}
+use Rattle.upon_language.specs.FirstFault.{IsFirstFault}
+use Rattle.upon_language.proofs.NoTreeWithFault.InsideTag.{EachInside}
+use Rattle.upon_language.proofs.Totality.Stage.{Stage}
+use Rattle.upon_language.proofs.Totality.WholeTag.{EndsAt}
+use Rattle.upon_lexer.specs.declared.compile.lex.Lexer.{Lexer}
+use Rattle.upon_lexer.specs.Lexers.{lexer_text, lexer_delimiters, lexer_state, ReadSoFar}
+use Rattle.upon_syntax.specs.Pieces.{Piece, ArePieces}
+
+-- The lexer has read these tokens, and no fault holds before its offset; the last of them is the begin of a tag of this
+-- sort, with this span.
+pub record AfterBegin (lexer : Lexer) (sort : Sort) (begin : Span) (ls : List Lexeme) : Type 0 where
+  pub read : ReadSoFar lexer ls
+  pub stage : Stage (lexer_delimiters lexer) (lexer_text lexer) ls (in_tag sort false) (lexer_state lexer).offset
+  pub hyphen : Bool
+  pub opened : open_tag ls ≡ record { token = begin_token sort; hyphen = hyphen; span = begin } ∷ []
+
+-- The lexer has read on to the tag's end, which may be there; of the tokens between, whitespace left out, something
+-- holds. Whether all is clear after the end is left open: a closing tag may close what is not open.
+pub record AfterEnd (before after : Lexer) (sort : Sort) (ls : List Lexeme) (end : ℕ)
+    (P : List Lexeme → Type 0) : Type 0 where
+  pub inner : List Lexeme
+  pub each : EachInside inner
+  pub path : Bool
+  pub offset : ℕ
+  pub ends : EndsAt (lexer_delimiters before) (lexer_text before) sort (ls ++ inner) path offset
+  pub at : end ≡ ends.to
+  pub read : ReadSoFar after (ls ++ (inner ++ lexeme_at (end_token sort) ends.hyphen offset ends.to ∷ []))
+  pub tokens : P (without_spaces inner)
+
+-- an error reports the text's first fault, with its picture, or that there was no memory
+abbrev pub IsSyntaxError : List DelimiterText → List ℕ → Error → Type 0
+IsSyntaxError delimiters s e = (fault_of e ≡ out_of_memory) ⊎ ((span : Span) × (reason : List ℕ)
+    × IsFirstFault delimiters s span reason
+    × (fault_of e ≡ fault_with_picture s (bare_fault syntax (Some reason) (Some span))))
+
+-- the text is cut whole, and its tokens are these pieces
+pub record HasPieces (delimiters : List DelimiterText) (s : List ℕ) (pieces : List Piece) : Type 0 where
+  pub lexemes : List Lexeme
+  pub cut : Cut delimiters s outside 0 lexemes outside (length s)
+  pub reads : ArePieces s pieces (significant (shown_lexemes s false lexemes)) []

@@ -1,0 +1,253 @@
+// The blocks that are open at an offset of a template, and what a tag does to them.
+ghost use Rattle.std.specs.Prelude.{◌≡◌, [], ◌∷◌, ◌++◌, true, false, option_map, string_bytes, codes, IfOk};
+ghost use Rattle.std.specs.Prelude.{MatchOption};
+ghost use Rattle.upon_language.specs.Blocks.{takes, block_takes, if_takes, after_closer, outermost, block_word};
+ghost use Rattle.upon_language.specs.Blocks.{closer_words, plain_else, end_if};
+ghost use Rattle.upon_language.specs.Wanted.{in_quotes};
+ghost use Rattle.upon_syntax.specs.Pieces.{tag_of};
+ghost use Rattle.upon_syntax.specs.OpenBlocks.{kind_of, closer_of, block_of, new_block, after_tag, HasEffect, IsTaken};
+ghost use Rattle.upon_syntax.specs.OpenBlocks.{IsUntaken};
+
+use crate::compile::parse::tag::Tag;
+use std::alloc::{AllocError, Global};
+use upon_types::types::Span;
+
+/// A kind of block.
+#[derive(Clone, Copy, Debug, PartialEq, Eq)]
+pub enum Kind {
+    If,
+    For,
+    With,
+}
+
+impl Kind {
+    // The word that begins its tag.
+    fn word(self) -> &'static str
+        ensures { result.now ≡ block_word (kind_of self) }
+    {
+        match self {
+            Kind::If => "if",
+            Kind::For => "for",
+            Kind::With => "with",
+        }
+    }
+
+    /// The reason where the text ends with such a block open.
+    pub fn reason(self, alloc: Global) -> Result<String, AllocError>
+        ensures { IfOk result (λ reason. string_bytes reason
+            ≡ codes "unclosed " ++ (in_quotes (block_word (kind_of self)) ++ codes " block")) }
+    {
+        let word = self.word();
+        format!(in alloc; "unclosed `{word}` block")
+    }
+}
+
+/// A tag that closes a block, or one of its branches.
+#[derive(Clone, Copy, Debug, PartialEq, Eq)]
+pub enum Closing {
+    ElseIf,
+    Else,
+    EndIf,
+    EndFor,
+    EndWith,
+}
+
+impl Closing {
+    // The words that begin it.
+    fn words(self) -> &'static str
+        ensures { result.now ≡ closer_words (closer_of self) }
+    {
+        match self {
+            Closing::ElseIf => "else if",
+            Closing::Else => "else",
+            Closing::EndIf => "endif",
+            Closing::EndFor => "endfor",
+            Closing::EndWith => "endwith",
+        }
+    }
+
+    /// The reason where no block takes it.
+    pub fn reason(self, alloc: Global) -> Result<String, AllocError>
+        ensures { IfOk result (λ reason. string_bytes reason
+            ≡ codes "unexpected " ++ (in_quotes (closer_words (closer_of self)) ++ codes " block")) }
+    {
+        let words = self.words();
+        format!(in alloc; "unexpected `{words}` block")
+    }
+}
+
+/// What a tag does to the open blocks.
+#[derive(Clone, Copy, Debug, PartialEq, Eq)]
+pub enum Effect {
+    /// It opens one of this kind.
+    Opens(Kind),
+    /// It closes the innermost, or goes on with its other branch.
+    Closes(Closing),
+    /// It leaves them.
+    Nothing,
+}
+
+/// What a tag does to the open blocks.
+pub fn effect_of(tag: &Tag) -> Effect
+    ensures { HasEffect (tag_of tag.now) result }
+{
+    match tag {
+        Tag::If(_) => Effect::Opens(Kind::If),
+        Tag::For(_, _) => Effect::Opens(Kind::For),
+        Tag::With(_, _) => Effect::Opens(Kind::With),
+        Tag::ElseIf(_) => Effect::Closes(Closing::ElseIf),
+        Tag::Else => Effect::Closes(Closing::Else),
+        Tag::EndIf => Effect::Closes(Closing::EndIf),
+        Tag::EndFor => Effect::Closes(Closing::EndFor),
+        Tag::EndWith => Effect::Closes(Closing::EndWith),
+        Tag::Include(_) => Effect::Nothing,
+    }
+}
+
+/// An open block: its kind, whether its `else` was read, and the span of its tag.
+#[derive(Clone, Copy)]
+pub struct OpenBlock {
+    pub kind: Kind,
+    pub has_else: bool,
+    pub span: Span,
+}
+
+impl OpenBlock {
+    // Whether it takes a closing tag, where it is the innermost.
+    fn takes(self, closer: Closing) -> bool
+        ensures { result ≡ block_takes (kind_of self.kind) self.has_else (closer_of closer) }
+    {
+        match self.kind {
+            Kind::If => if_takes(self.has_else, closer),
+            Kind::For => matches!(closer, Closing::EndFor),
+            Kind::With => matches!(closer, Closing::EndWith),
+        }
+    }
+}
+
+// Whether an `if` takes a closing tag.
+fn if_takes(has_else: bool, closer: Closing) -> bool
+    ensures { result ≡ if_takes has_else (closer_of closer) }
+{
+    match closer {
+        Closing::EndIf => true,
+        Closing::ElseIf => !has_else,
+        Closing::Else => !has_else,
+        Closing::EndFor => false,
+        Closing::EndWith => false,
+    }
+}
+
+/// The open blocks; the innermost is last.
+#[derive(Drop)]
+pub struct OpenBlocks {
+    blocks: Vec<OpenBlock>,
+}
+
+impl OpenBlocks {
+    ghost use Rattle.upon_syntax.specs.OpenBlocks.{stack_of};
+
+    /// No block is open.
+    pub fn new(alloc: Global) -> OpenBlocks
+        ensures { stack_of result ≡ [] }
+    {
+        OpenBlocks {
+            blocks: Vec::new(alloc),
+        }
+    }
+
+    // A block is open from here on, whose tag has this span.
+    fn push(&mut self, kind: Kind, span: Span) -> Result<(), AllocError>
+        ensures { IfOk result (λ _. stack_of self.new ≡ new_block (kind_of kind) span ∷ stack_of self.old) }
+    {
+        let block = OpenBlock {
+            kind,
+            has_else: false,
+            span,
+        };
+        self.blocks.push(block)?;
+        Ok(())
+    }
+
+    // Whether the innermost block takes a closing tag.
+    fn takes(&self, closer: Closing) -> bool
+        ensures { result ≡ takes (stack_of self.now) (closer_of closer) }
+    {
+        match self.blocks.last() {
+            None => false,
+            Some(block) => block.takes(closer),
+        }
+    }
+
+    // Goes on with the innermost block, or closes it.
+    fn close(&mut self, closer: Closing)
+        ensures { stack_of self.new ≡ after_closer (closer_of closer) (stack_of self.old) }
+    {
+        match closer {
+            Closing::ElseIf => {}
+            Closing::Else => self.begin_else(),
+            Closing::EndIf => self.pop(),
+            Closing::EndFor => self.pop(),
+            Closing::EndWith => self.pop(),
+        }
+    }
+
+    // Goes on with the innermost block or closes it, where that takes the closing tag; which is answered where it does
+    // not.
+    fn close_taken(&mut self, closer: Closing) -> Option<Closing>
+        ensures { MatchOption
+            result
+            ((takes (stack_of self.old) (closer_of closer) ≡ true)
+            × (stack_of self.new ≡ after_closer (closer_of closer) (stack_of self.old)))
+            (λ refused. (refused ≡ closer) × (takes (stack_of self.old) (closer_of closer) ≡ false)) }
+    {
+        if !self.takes(closer) {
+            return Some(closer);
+        }
+        self.close(closer);
+        None
+    }
+
+    /// Passes a tag with this span, which opens a block, closes one or leaves them. A closing tag that the innermost
+    /// block does not take is answered.
+    pub fn pass(&mut self, tag: &Tag, span: Span) -> Result<Option<Closing>, AllocError>
+        ensures { IfOk result (λ untaken. MatchOption
+            untaken
+            (IsTaken (tag_of tag.now) (stack_of self.old)
+            × (stack_of self.new ≡ after_tag (tag_of tag.now) span (stack_of self.old)))
+            (IsUntaken (tag_of tag.now) (stack_of self.old))) }
+    {
+        match effect_of(tag) {
+            Effect::Nothing => Ok(None),
+            Effect::Opens(kind) => {
+                self.push(kind, span)?;
+                Ok(None)
+            }
+            Effect::Closes(closer) => Ok(self.close_taken(closer)),
+        }
+    }
+
+    // The innermost block's `else` was read.
+    fn begin_else(&mut self)
+        ensures { stack_of self.new ≡ after_closer plain_else (stack_of self.old) }
+    {
+        let count = self.blocks.len();
+        if count > 0 {
+            self.blocks[count - 1].has_else = true;
+        }
+    }
+
+    // The innermost block is closed.
+    fn pop(&mut self)
+        ensures { stack_of self.new ≡ after_closer end_if (stack_of self.old) }
+    {
+        self.blocks.pop();
+    }
+
+    /// The outermost block.
+    pub fn outermost(&self) -> Option<OpenBlock>
+        ensures { option_map block_of result ≡ outermost (stack_of self.now) }
+    {
+        self.blocks.first().copied()
+    }
+}

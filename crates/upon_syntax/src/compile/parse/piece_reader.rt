@@ -1,0 +1,263 @@
+// From piece to piece through a template's text: raw parts, comments, tags.
+ghost use Rattle.std.specs.Prelude.{◌≡◌, ℕ, List, [], ◌∷◌, ◌++◌, length, Some, codes, IfOk, IfErr};
+ghost use Rattle.std.specs.Str.{IsUtf8};
+ghost use Rattle.upon_types.specs.Span.{LiesIn};
+ghost use Rattle.upon_types.specs.Error.{fault_of};
+ghost use Rattle.upon_types.specs.Fault.{syntax, bare_fault, fault_with_picture, OrMemory};
+ghost use Rattle.upon_types.specs.declared.types.token.Token.TheVariants.{BeginExpr, BeginBlock};
+ghost use Rattle.upon_language.specs.Blocks.{block_word, closer_words};
+ghost use Rattle.upon_language.specs.Cut.{Lexeme};
+ghost use Rattle.upon_language.specs.Faults.{span_of};
+ghost use Rattle.upon_language.specs.Lexing.{LexerState};
+ghost use Rattle.upon_language.specs.Wanted.{in_quotes};
+ghost use Rattle.upon_lexer.specs.Lexers.{lexer_text};
+ghost use Rattle.upon_lexer.specs.Searcher.{searcher_delimiters};
+ghost use Rattle.upon_types.specs.AstExpression.{expression_of};
+ghost use Rattle.upon_syntax.specs.OpenBlocks.{kind_of, closer_of};
+ghost use Rattle.upon_syntax.specs.Pieces.{inline_piece, block_piece, tag_of};
+ghost use Rattle.upon_syntax.specs.TagReaders.{reader_text};
+
+use crate::compile::parse::open_blocks::{Closing, OpenBlock, OpenBlocks};
+use crate::compile::parse::piece::Piece;
+use crate::compile::parse::tag::Tag;
+use crate::compile::parse::tag_reader::TagReader;
+use std::alloc::Global;
+use upon_lexer::compile::lex::Lexer;
+use upon_lexer::compile::search::Searcher;
+use upon_types::error::{Error, ErrorKind, Result};
+use upon_types::types::ast::InlineExpr;
+use upon_types::types::{Span, Token};
+
+/// What a reader finds next.
+#[derive(Drop)]
+pub enum Next {
+    /// A piece.
+    OnePiece(Piece),
+    /// A comment, which leaves nothing.
+    Comment,
+    /// The text's end, where no block is open.
+    End,
+}
+
+/// Reads the pieces of a text, and keeps the blocks that are open.
+#[derive(Drop)]
+pub struct PieceReader<'a> {
+    alloc: Global,
+    source: &'a str,
+    lexer: Lexer<'a>,
+    tags: TagReader<'a>,
+    blocks: OpenBlocks,
+    ghost is_text: { ∥ IsUtf8 source.now ∥₁ },
+    ghost same_text: { lexer_text lexer ≡ source.now },
+    ghost same_tags: { reader_text tags ≡ source.now },
+}
+
+impl<'a> PieceReader<'a> {
+    ghost use Rattle.upon_syntax.specs.PieceReading.{pieces_text, pieces_delimiters, pieces_state, pieces_blocks, Pieces, found_pieces, IsBetween, IsGivenTo, GoesOn, HasBegunComment, IsInComment, HasPassedEnd, HasPassedComment, HasFound, Finds, Refuses};
+
+    /// A reader at the start of a text, over the delimiters of a searcher.
+    pub fn new(alloc: Global, searcher: &'a Searcher, source: &'a str) -> PieceReader<'a>
+        ensures text { pieces_text result ≡ source.now }
+        ensures delimiters { pieces_delimiters result ≡ searcher_delimiters searcher.now }
+        ensures start { HasFound result [] }
+    {
+        PieceReader {
+            alloc,
+            source,
+            lexer: Lexer::new(alloc, searcher, source),
+            tags: TagReader::new(alloc, source),
+            blocks: OpenBlocks::new(alloc),
+        }
+    }
+
+    /// The next piece or comment, or the text's end. The error reports the text's first fault, or that memory is out.
+    pub fn next(&mut self) -> Result<Next>
+        requires so_far { (found : Pieces) × HasFound self.old found }
+        ensures found { IfOk result (λ next. (found : Pieces)
+            → HasFound self.old found
+            → Finds self.old self.new found next) }
+        ensures fault { IfErr result (Refuses self.old) }
+        ensures text { pieces_text self.new ≡ pieces_text self.old }
+        ensures delimiters { pieces_delimiters self.new ≡ pieces_delimiters self.old }
+    {
+        let given = self.lexer.next()?;
+        match given {
+            None => {
+                self.all_closed()?;
+                Ok(Next::End)
+            }
+            Some((token, span)) => match self.read_piece(token, span)? {
+                Some(piece) => Ok(Next::OnePiece(piece)),
+                None => Ok(Next::Comment),
+            },
+        }
+    }
+
+    // The piece that a token begins, or none for a comment.
+    fn read_piece(&mut self, token: Token, span: Span) -> Result<Option<Piece>>
+        requires given { (before : LexerState) × (ls : List Lexeme) × IsGivenTo self.old before ls token span }
+        ensures piece { IfOk result (λ piece. (before : LexerState) (ls : List Lexeme)
+            → IsGivenTo self.old before ls token span
+            → GoesOn self.old self.new before ls (found_pieces piece)) }
+        ensures fault { IfErr result (Refuses self.old) }
+        ensures text { pieces_text self.new ≡ pieces_text self.old }
+        ensures delimiters { pieces_delimiters self.new ≡ pieces_delimiters self.old }
+    {
+        match token {
+            Token::BeginComment => {
+                self.pass_comment()?;
+                Ok(None)
+            }
+            Token::BeginExpr => Ok(Some(Piece::InlineExpr(self.read_inline(span)?))),
+            Token::BeginBlock => Ok(Some(Piece::Block(self.read_block(span)?))),
+            _ => Ok(Some(Piece::Raw(span))),
+        }
+    }
+
+    // The inline tag whose begin was read.
+    fn read_inline(&mut self, begin: Span) -> Result<InlineExpr>
+        requires given { (before : LexerState) × (ls : List Lexeme) × IsGivenTo self.old before ls BeginExpr begin }
+        ensures tag { IfOk result (λ tag. (before : LexerState) (ls : List Lexeme)
+            → IsGivenTo self.old before ls BeginExpr begin
+            → GoesOn self.old self.new before ls (inline_piece (expression_of tag.expr) tag.span ∷ [])) }
+        ensures fault { IfErr result (Refuses self.old) }
+        ensures text { pieces_text self.new ≡ pieces_text self.old }
+        ensures delimiters { pieces_delimiters self.new ≡ pieces_delimiters self.old }
+    {
+        self.tags.read_inline(&mut self.lexer, begin)
+    }
+
+    // The tag of a block whose begin was read: the innermost open block takes it, where it closes one.
+    fn read_block(&mut self, begin: Span) -> Result<Tag>
+        requires given { (before : LexerState) × (ls : List Lexeme) × IsGivenTo self.old before ls BeginBlock begin }
+        ensures tag { IfOk result (λ tag. (before : LexerState) (ls : List Lexeme)
+            → IsGivenTo self.old before ls BeginBlock begin
+            → GoesOn self.old self.new before ls (block_piece (tag_of tag) ∷ [])) }
+        ensures fault { IfErr result (Refuses self.old) }
+        ensures text { pieces_text self.new ≡ pieces_text self.old }
+        ensures delimiters { pieces_delimiters self.new ≡ pieces_delimiters self.old }
+    {
+        let (tag, span) = self.tags.read_block(&mut self.lexer, begin)?;
+        let untaken = self.blocks.pass(&tag, span)?;
+        match untaken {
+            None => Ok(tag),
+            Some(closer) => Err(self.unexpected(closer, span)),
+        }
+    }
+
+    // Goes past a comment whose begin was read.
+    fn pass_comment(&mut self) -> Result<()>
+        ensures passes { IfOk result (λ _. (ls : List Lexeme)
+            → HasBegunComment self.old ls
+            → HasPassedComment self.old self.new ls) }
+        ensures fault { IfErr result (λ e. (ls : List Lexeme)
+            → HasBegunComment self.old ls
+            → Refuses self.old e) }
+        ensures text { pieces_text self.new ≡ pieces_text self.old }
+        ensures delimiters { pieces_delimiters self.new ≡ pieces_delimiters self.old }
+        ensures blocks { pieces_blocks self.new ≡ pieces_blocks self.old }
+    {
+        let inside = self.lexer.next()?;
+        match inside {
+            None => Err(self.refusal("expected raw template, found EOF", self.end())),
+            Some((token, span)) => {
+                if matches!(token, Token::EndComment) {
+                    return Err(self.refusal("expected raw template, found end comment", span));
+                }
+                self.pass_comment_end()
+            }
+        }
+    }
+
+    // Goes past the end of a comment whose raw part was read.
+    fn pass_comment_end(&mut self) -> Result<()>
+        ensures passes { IfOk result (λ _. (ls : List Lexeme)
+            → IsInComment self.old ls
+            → HasPassedEnd self.old self.new ls) }
+        ensures fault { IfErr result (λ e. (ls : List Lexeme)
+            → IsInComment self.old ls
+            → Refuses self.old e) }
+        ensures text { pieces_text self.new ≡ pieces_text self.old }
+        ensures delimiters { pieces_delimiters self.new ≡ pieces_delimiters self.old }
+        ensures blocks { pieces_blocks self.new ≡ pieces_blocks self.old }
+    {
+        let end = self.lexer.next()?;
+        match end {
+            None => Err(self.refusal("expected end comment, found EOF", self.end())),
+            Some(_) => Ok(()),
+        }
+    }
+
+    // No block is open at the text's end.
+    fn all_closed(&self) -> Result<()>
+        requires between { (ls : List Lexeme) × IsBetween self.now ls }
+        requires eof { (pieces_state self.now).offset ≡ length (pieces_text self.now) }
+        ensures closed { IfOk result (λ _. pieces_blocks self.now ≡ []) }
+        ensures fault { IfErr result (Refuses self.now) }
+    {
+        match self.blocks.outermost() {
+            None => Ok(()),
+            Some(block) => Err(self.unclosed(block)),
+        }
+    }
+
+    // The error for a block that is open at the text's end.
+    fn unclosed(&self, block: OpenBlock) -> Error
+        requires { LiesIn (pieces_text self.now) block.span }
+        ensures { OrMemory
+            (fault_with_picture
+            (pieces_text self.now)
+            (bare_fault
+            syntax
+            (Some (codes "unclosed " ++ (in_quotes (block_word (kind_of block.kind)) ++ codes " block")))
+            (Some block.span)))
+            (fault_of result) }
+    {
+        match block.kind.reason(self.alloc) {
+            Ok(reason) => self.refusal(reason.as_str(), block.span),
+            Err(e) => Error::from(e),
+        }
+    }
+
+    // The error for a closing tag that the innermost open block does not take.
+    fn unexpected(&self, closer: Closing, span: Span) -> Error
+        requires { LiesIn (pieces_text self.now) span }
+        ensures { OrMemory
+            (fault_with_picture
+            (pieces_text self.now)
+            (bare_fault
+            syntax
+            (Some (codes "unexpected " ++ (in_quotes (closer_words (closer_of closer)) ++ codes " block")))
+            (Some span)))
+            (fault_of result) }
+    {
+        match closer.reason(self.alloc) {
+            Ok(reason) => self.refusal(reason.as_str(), span),
+            Err(e) => Error::from(e),
+        }
+    }
+
+    // The error that reports a fault at a span.
+    fn refusal(&self, reason: &str, span: Span) -> Error
+        requires { LiesIn (pieces_text self.now) span }
+        ensures { OrMemory
+            (fault_with_picture (pieces_text self.now) (bare_fault syntax (Some reason.now) (Some span)))
+            (fault_of result) }
+    {
+        Error::from_parts(
+            self.alloc,
+            ErrorKind::Syntax,
+            Some(reason),
+            Some((self.source, span)),
+        )
+    }
+
+    // The text's end.
+    fn end(&self) -> Span
+        ensures end { result ≡ span_of (length (pieces_text self.now)) (length (pieces_text self.now)) }
+        ensures span { LiesIn (pieces_text self.now) result }
+    {
+        let n = self.source.len();
+        Span { m: n, n }
+    }
+}

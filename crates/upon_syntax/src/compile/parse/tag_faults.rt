@@ -1,0 +1,106 @@
+// The error of a tag whose tokens go no further: the text's first fault.
+ghost use Rattle.std.specs.Prelude.{◌≡◌, List, [], length, true, false, codes};
+ghost use Rattle.upon_types.specs.Error.{fault_of};
+ghost use Rattle.upon_types.specs.Fault.{OrMemory};
+ghost use Rattle.upon_types.specs.Span.{LiesIn};
+ghost use Rattle.upon_language.specs.Search.{DelimiterText};
+ghost use Rattle.upon_language.specs.Faults.{span_of};
+ghost use Rattle.upon_language.specs.Wanted.{wanted_at_end, expected_found};
+ghost use Rattle.upon_language.specs.LiteralWords.{fits_word};
+ghost use Rattle.upon_syntax.specs.Wants.{wanted_of};
+ghost use Rattle.upon_syntax.specs.TagReading.{IsSyntaxError};
+ghost use Rattle.upon_syntax.specs.TagEnds.{syntax_fault, EndLies};
+ghost use Rattle.upon_syntax.specs.TagFaults.{FirstLies, token_fault, GoesNoFurther};
+
+use crate::compile::parse::literal::{Lexed, Refusal};
+use crate::compile::parse::path::next_token;
+use crate::compile::parse::tag_tokens::Ended;
+use crate::compile::parse::want::Want;
+use std::alloc::Global;
+use upon_types::error::{Error, ErrorKind};
+use upon_types::types::Span;
+
+/// The error where the tokens of a tag go no further, while this is wanted and these tokens are left.
+pub fn refuse(alloc: Global, source: &str, want: Want, left: &[Lexed], ended: Ended) -> Error
+    requires left { FirstLies source.now left.now }
+    requires ended { EndLies source.now ended }
+    ensures { (delimiters : List DelimiterText) → GoesNoFurther delimiters source.now want left.now ended
+        → IsSyntaxError delimiters source.now result }
+{
+    match next_token(left) {
+        Some((found, _)) => refuse_token(alloc, source, want, found),
+        None => refuse_end(alloc, source, want, ended),
+    }
+}
+
+/// The same where no token is left.
+pub fn refuse_end(alloc: Global, source: &str, want: Want, ended: Ended) -> Error
+    requires { EndLies source.now ended }
+    ensures { (delimiters : List DelimiterText) → GoesNoFurther delimiters source.now want [] ended
+        → IsSyntaxError delimiters source.now result }
+{
+    match ended {
+        Ended::End(found) => refuse_token(alloc, source, want, found),
+        Ended::Fault(e) => e,
+        Ended::Literal(found, refusal) => refuse_literal(alloc, source, want, found, refusal),
+        Ended::Eof => refuse_eof(alloc, source, want),
+    }
+}
+
+// The error for a token that may not be there.
+fn refuse_token(alloc: Global, source: &str, want: Want, found: Lexed) -> Error
+    requires { LiesIn source.now found.span }
+    ensures { OrMemory (token_fault source.now (wanted_of want) found) (fault_of result) }
+{
+    match want.reason(alloc, source, found) {
+        Ok(reason) => Error::from_owned_parts(
+            alloc,
+            ErrorKind::Syntax,
+            Some(reason),
+            Some((source, found.span)),
+        ),
+        Err(e) => Error::from(e),
+    }
+}
+
+// The error for a literal that denotes nothing: that it does, where it may be there.
+fn refuse_literal(alloc: Global, source: &str, want: Want, found: Lexed, refusal: Refusal) -> Error
+    requires span { LiesIn source.now found.span }
+    requires refusal { LiesIn source.now refusal.span }
+    ensures fits { fits_word found.token (wanted_of want) ≡ true
+        → OrMemory (syntax_fault source.now refusal.span refusal.reason.now) (fault_of result) }
+    ensures other { fits_word found.token (wanted_of want) ≡ false
+        → OrMemory (token_fault source.now (wanted_of want) found) (fault_of result) }
+{
+    if want.takes_literal(found.token) {
+        Error::from_parts(
+            alloc,
+            ErrorKind::Syntax,
+            Some(refusal.reason),
+            Some((source, refusal.span)),
+        )
+    } else {
+        refuse_token(alloc, source, want, found)
+    }
+}
+
+// The error for the end of the text.
+fn refuse_eof(alloc: Global, source: &str, want: Want) -> Error
+    ensures { OrMemory
+        (syntax_fault
+        source.now
+        (span_of (length source.now) (length source.now))
+        (expected_found (wanted_at_end (wanted_of want)) (codes "EOF")))
+        (fault_of result) }
+{
+    match want.reason_at_end(alloc) {
+        Ok(reason) => {
+            let end = Span {
+                m: source.len(),
+                n: source.len(),
+            };
+            Error::from_owned_parts(alloc, ErrorKind::Syntax, Some(reason), Some((source, end)))
+        }
+        Err(e) => Error::from(e),
+    }
+}

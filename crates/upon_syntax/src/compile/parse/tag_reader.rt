@@ -1,0 +1,138 @@
+// A whole tag of a text: its tokens from the lexer, what they are read to, and the fault where they are no tag.
+ghost use Rattle.std.specs.Prelude.{◌≡◌, List, [], Some, None, IfOk, IfErr};
+ghost use Rattle.upon_types.specs.AstExpression.{expression_of};
+ghost use Rattle.upon_language.specs.Cut.{Lexeme};
+ghost use Rattle.upon_language.specs.Delimiters.{expression, block};
+ghost use Rattle.upon_lexer.specs.Lexers.{lexer_text, lexer_delimiters};
+ghost use Rattle.upon_language.specs.Search.{DelimiterText};
+ghost use Rattle.upon_syntax.specs.Pieces.{tag_of};
+ghost use Rattle.upon_syntax.specs.TagEnds.{EndLies, tag_end};
+ghost use Rattle.upon_syntax.specs.TagFaults.{FirstLies, GoesNoFurther};
+ghost use Rattle.upon_syntax.specs.TagParsing.{OnStuck};
+ghost use Rattle.upon_syntax.specs.WholeTags.{IsInlineTag, IsTagInside};
+ghost use Rattle.upon_syntax.specs.TagReading.{AfterBegin, AfterEnd, IsSyntaxError};
+
+use crate::compile::parse::literal::Lexed;
+use crate::compile::parse::path::{Failure, TagParser};
+use crate::compile::parse::tag::Tag;
+use crate::compile::parse::tag_faults::{refuse, refuse_end};
+use crate::compile::parse::tag_tokens::{Ended, read_tokens};
+use crate::compile::parse::want::Want;
+use std::alloc::{AllocError, Global};
+use upon_lexer::compile::lex::Lexer;
+use upon_types::error::{Error, Result};
+use upon_types::types::Span;
+use upon_types::types::ast::InlineExpr;
+
+/// Reads tags; it keeps the room for their tokens.
+#[derive(Drop)]
+pub struct TagReader<'a> {
+    alloc: Global,
+    source: &'a str,
+    tokens: Vec<Lexed>,
+}
+
+impl<'a> TagReader<'a> {
+    ghost use Rattle.upon_syntax.specs.TagReaders.{reader_text};
+
+    /// A reader of the tags of a text.
+    pub fn new(alloc: Global, source: &'a str) -> TagReader<'a>
+        ensures { reader_text result ≡ source.now }
+    {
+        TagReader {
+            alloc,
+            source,
+            tokens: Vec::new(alloc),
+        }
+    }
+
+    /// The inline tag whose begin was read. The error reports the text's first fault, or that there was no memory.
+    pub fn read_inline(&mut self, lexer: &mut Lexer, begin: Span) -> Result<InlineExpr>
+        requires same { reader_text self.now ≡ lexer_text lexer.now }
+        ensures tag { IfOk result (λ tag. (ls : List Lexeme) → AfterBegin lexer.old expression begin ls
+            → AfterEnd
+            lexer.old
+            lexer.new
+            expression
+            ls
+            tag.span.n
+            (IsInlineTag (lexer_text lexer.old) (expression_of tag.expr))) }
+        ensures start { IfOk result (λ tag. tag.span.m ≡ begin.m) }
+        ensures fault { IfErr result (λ e. (ls : List Lexeme) → AfterBegin lexer.old expression begin ls
+            → IsSyntaxError (lexer_delimiters lexer.old) (lexer_text lexer.old) e) }
+        ensures text { lexer_text lexer.new ≡ lexer_text lexer.old }
+        ensures delimiters { lexer_delimiters lexer.new ≡ lexer_delimiters lexer.old }
+        ensures reader { reader_text self.new ≡ reader_text self.old }
+    {
+        let ended = read_tokens(self.source, lexer, &mut self.tokens)?;
+        match self.parser().parse_inline_tag(&self.tokens) {
+            Ok(expr) => {
+                let end = end_of(self.alloc, self.source, Want::EndExpr, ended)?;
+                let span = Span { m: begin.m, n: end };
+                Ok(InlineExpr { expr, span })
+            }
+            Err(failure) => Err(refuse_failure(self.alloc, self.source, failure, ended)),
+        }
+    }
+
+    /// The tag of a block whose begin was read, and where the whole tag is. The error reports the text's first fault,
+    /// or that there was no memory.
+    pub fn read_block(&mut self, lexer: &mut Lexer, begin: Span) -> Result<(Tag, Span)>
+        requires same { reader_text self.now ≡ lexer_text lexer.now }
+        ensures tag { IfOk result (λ r. (ls : List Lexeme) → AfterBegin lexer.old block begin ls
+            → AfterEnd lexer.old lexer.new block ls r.1.n (IsTagInside (lexer_text lexer.old) (tag_of r.0))) }
+        ensures start { IfOk result (λ r. r.1.m ≡ begin.m) }
+        ensures fault { IfErr result (λ e. (ls : List Lexeme) → AfterBegin lexer.old block begin ls
+            → IsSyntaxError (lexer_delimiters lexer.old) (lexer_text lexer.old) e) }
+        ensures text { lexer_text lexer.new ≡ lexer_text lexer.old }
+        ensures delimiters { lexer_delimiters lexer.new ≡ lexer_delimiters lexer.old }
+        ensures reader { reader_text self.new ≡ reader_text self.old }
+    {
+        let ended = read_tokens(self.source, lexer, &mut self.tokens)?;
+        match self.parser().parse_block_tag(&self.tokens) {
+            Ok(tag) => {
+                let end = end_of(self.alloc, self.source, Want::EndBlock, ended)?;
+                Ok((tag, Span { m: begin.m, n: end }))
+            }
+            Err(failure) => Err(refuse_failure(self.alloc, self.source, failure, ended)),
+        }
+    }
+
+    // The parser of the tokens.
+    fn parser(&self) -> TagParser<'a>
+        ensures { result.source.now ≡ reader_text self.now }
+    {
+        TagParser {
+            alloc: self.alloc,
+            source: self.source,
+        }
+    }
+}
+
+// Where the tag ends, while this is wanted and no token is left; or the error that it does not end there.
+fn end_of(alloc: Global, source: &str, want: Want, ended: Ended) -> Result<usize>
+    requires { EndLies source.now ended }
+    ensures end { IfOk result (λ n. (l : Lexed) × (tag_end ended ≡ Some l) × (n ≡ l.span.n)) }
+    ensures fault { IfErr result (λ e. (delimiters : List DelimiterText)
+        → (tag_end ended ≡ None → GoesNoFurther delimiters source.now want [] ended)
+        → IsSyntaxError delimiters source.now e) }
+{
+    match ended.tag_end() {
+        Some(end) => Ok(end.span.n),
+        None => Err(refuse_end(alloc, source, want, ended)),
+    }
+}
+
+// The error for a tag whose tokens were not read to the end.
+fn refuse_failure(alloc: Global, source: &str, failure: Failure, ended: Ended) -> Error
+    requires failure { OnStuck failure (λ _ left. FirstLies source.now left) }
+    requires ended { EndLies source.now ended }
+    ensures { (delimiters : List DelimiterText)
+        → OnStuck failure.entry (λ want left. GoesNoFurther delimiters source.now want left ended)
+        → IsSyntaxError delimiters source.now result }
+{
+    match failure {
+        Failure::Memory => Error::from(AllocError),
+        Failure::Stuck(want, left) => refuse(alloc, source, want, left, ended),
+    }
+}

@@ -1,0 +1,245 @@
+// The tokens inside a tag, up to where they end.
+ghost use Rattle.std.specs.Prelude.{◌≡◌, ◌<◌, List, [], ◌∷◌, Bool, true, false, Option, Some, None, IfOk, IfErr};
+ghost use Rattle.std.specs.Prelude.{IfSome, MatchOption};
+ghost use Rattle.std.specs.Char.{is_ascii_digit};
+ghost use Rattle.upon_types.specs.declared.types.token.Token.TheVariants.{Index, Number, String};
+ghost use Rattle.upon_types.specs.Span.{LiesIn, slice};
+ghost use Rattle.upon_language.specs.Cut.{Lexeme, in_tag};
+ghost use Rattle.upon_language.specs.Delimiters.{Sort};
+ghost use Rattle.upon_language.specs.Inside.{continues_number, IsQuoted};
+ghost use Rattle.upon_language.specs.Tokens.{is_raw};
+ghost use Rattle.upon_language.specs.Words.{IsRun};
+ghost use Rattle.upon_language.proofs.NoTreeWithFault.FineAt.{last_or};
+ghost use Rattle.upon_language.proofs.NoTreeWithFault.InsideTag.{is_inside};
+ghost use Rattle.upon_language.proofs.Totality.InsideClear.{FineLiteral};
+ghost use Rattle.upon_lexer.specs.Spelling.{IsSpelled};
+ghost use Rattle.upon_lexer.specs.Lexers.{lexer_text, lexer_delimiters, lexer_state, ReadSoFar};
+ghost use Rattle.upon_syntax.specs.Literals.{lexeme_of, before_of, report_of};
+ghost use Rattle.upon_syntax.specs.TagTokens.{lexemes_of, IsTagToken, EachTagToken};
+ghost use Rattle.upon_syntax.specs.TagEnds.{DenotesNothing, SignLies, StopsAt, ReadsOn, ReadsUpTo, EndLies, tag_end};
+
+use crate::compile::parse::literal::{Lexed, Refusal, index, number_at, strange_escape};
+use std::alloc::AllocError;
+use upon_lexer::compile::lex::Lexer;
+use upon_types::error::Error;
+use upon_types::types::{Span, Token, slice};
+
+/// Where the tokens inside a tag end.
+#[derive(Drop)]
+pub enum Ended {
+    /// At the tag's end.
+    End(Lexed),
+    /// At the first fault that ends the text's cutting, or where there was no memory.
+    Fault(Error),
+    /// At a literal that denotes nothing.
+    Literal(Lexed, Refusal),
+    /// At the end of the text.
+    Eof,
+}
+
+impl Ended {
+    /// The tag's end, if it was read.
+    pub fn tag_end(&self) -> Option<Lexed>
+        ensures { result ≡ tag_end self.now }
+    {
+        match self {
+            Ended::End(end) => Some(*end),
+            Ended::Fault(_) => None,
+            Ended::Literal(_, _) => None,
+            Ended::Eof => None,
+        }
+    }
+}
+
+/// Reads the tokens after a tag's begin, up to where they end.
+pub fn read_tokens(
+    source: &str,
+    lexer: &mut Lexer,
+    tokens: &mut Vec<Lexed>,
+) -> Result<Ended, AllocError>
+    requires same { source.now ≡ lexer_text lexer.now }
+    ensures tokens { EachTagToken source.now None (lexemes_of tokens.new.items) }
+    ensures inner { IfOk result (λ ended. (sort : Sort) (path : Bool) (ls : List Lexeme)
+        → ReadSoFar lexer.old ls
+        → (lexer_state lexer.old).mode ≡ in_tag sort path
+        → ReadsUpTo
+        (lexer_delimiters lexer.old)
+        source.now
+        sort
+        ls
+        (lexemes_of tokens.new.items)
+        (last_or None (lexemes_of tokens.new.items))
+        (lexer_state lexer.new)
+        ended) }
+    ensures lies { IfOk result (EndLies source.now) }
+    ensures text { lexer_text lexer.new ≡ lexer_text lexer.old }
+    ensures delimiters { lexer_delimiters lexer.new ≡ lexer_delimiters lexer.old }
+{
+    tokens.clear();
+    let mut before = None;
+    'tokens: loop {
+        match read_token(source, lexer, before) {
+            Err(ended) => return Ok(ended),
+            Ok(found) => {
+                tokens.push(found)?;
+                before = Some(found);
+            }
+        }
+    }
+}
+
+// The next token inside a tag, after the token before it; or where the tokens end.
+fn read_token(source: &str, lexer: &mut Lexer, before: Option<Lexed>) -> Result<Lexed, Ended>
+    requires same { source.now ≡ lexer_text lexer.now }
+    requires sign { SignLies source.now (before_of before) (lexer_state lexer.now).offset }
+    ensures token { IfOk result (λ found. IsTagToken source.now (before_of before) (lexeme_of found)) }
+    ensures sign { IfOk result (λ found. SignLies source.now (Some (lexeme_of found)) (lexer_state lexer.new).offset) }
+    ensures further { IfOk result (λ _. (lexer_state lexer.old).offset < (lexer_state lexer.new).offset) }
+    ensures inner { IfOk result (λ found. (sort : Sort) (path : Bool) (ls : List Lexeme)
+        → ReadSoFar lexer.old ls
+        → (lexer_state lexer.old).mode ≡ in_tag sort path
+        → ReadsOn
+        (lexer_delimiters lexer.old)
+        source.now
+        sort
+        ls
+        (lexer_state lexer.new)
+        (lexeme_of found ∷ [])) }
+    ensures ends { IfErr result (λ ended. (sort : Sort) (path : Bool) (ls : List Lexeme)
+        → ReadSoFar lexer.old ls
+        → (lexer_state lexer.old).mode ≡ in_tag sort path
+        → ReadsUpTo
+        (lexer_delimiters lexer.old)
+        source.now
+        sort
+        ls
+        []
+        (before_of before)
+        (lexer_state lexer.new)
+        ended) }
+    ensures lies { IfErr result (EndLies source.now) }
+    ensures text { lexer_text lexer.new ≡ lexer_text lexer.old }
+    ensures delimiters { lexer_delimiters lexer.new ≡ lexer_delimiters lexer.old }
+{
+    match lexer.next() {
+        Err(e) => Err(Ended::Fault(e)),
+        Ok(None) => Err(Ended::Eof),
+        Ok(Some((token, span))) => {
+            let found = Lexed { token, span };
+            match stop_at(source, before, found) {
+                None => Ok(found),
+                Some(ended) => Err(ended),
+            }
+        }
+    }
+}
+
+// Whether the tokens end at a token: it is none inside a tag, or a literal that denotes nothing.
+fn stop_at(source: &str, before: Option<Lexed>, found: Lexed) -> Option<Ended>
+    requires span { LiesIn source.now found.span }
+    requires spelled { IsSpelled source.now found.token found.span }
+    requires sign { is_raw found.token ≡ false → SignLies source.now (before_of before) found.span.m }
+    ensures token { MatchOption
+        result
+        ((is_inside found.token ≡ true) × FineLiteral source.now (before_of before) (lexeme_of found))
+        (StopsAt source.now (before_of before) found) }
+    ensures lies { IfSome result (EndLies source.now) }
+{
+    if !is_inside(found.token) {
+        return Some(Ended::End(found));
+    }
+    match refusal_of(source, before, found) {
+        None => None,
+        Some(refusal) => Some(Ended::Literal(found, refusal)),
+    }
+}
+
+// Whether a token may be inside a tag.
+fn is_inside(token: Token) -> bool
+    ensures { result ≡ is_inside token }
+{
+    !matches!(
+        token,
+        Token::Raw
+            | Token::BeginExpr
+            | Token::EndExpr
+            | Token::BeginBlock
+            | Token::EndBlock
+            | Token::BeginComment
+            | Token::EndComment
+    )
+}
+
+// What is wrong with a token, after the token before it: it is a literal that denotes nothing.
+fn refusal_of(source: &str, before: Option<Lexed>, found: Lexed) -> Option<Refusal>
+    requires span { LiesIn source.now found.span }
+    requires spelled { IsSpelled source.now found.token found.span }
+    requires sign { is_raw found.token ≡ false → SignLies source.now (before_of before) found.span.m }
+    ensures token { MatchOption
+        result
+        (FineLiteral source.now (before_of before) (lexeme_of found))
+        (λ refusal. DenotesNothing source.now (before_of before) found.token found.span (report_of refusal)) }
+    ensures span { IfSome result (λ refusal. LiesIn source.now refusal.span) }
+{
+    match found.token {
+        Token::Number => refuse_number(source, before, found.span),
+        Token::Index => refuse_index(source, found.span),
+        Token::String => refuse_string(source, found.span),
+        _ => None,
+    }
+}
+
+// What is wrong with a number.
+fn refuse_number(source: &str, before: Option<Lexed>, span: Span) -> Option<Refusal>
+    requires span { LiesIn source.now span }
+    requires spelled { IsRun continues_number source.now span.m span.n }
+    requires sign { SignLies source.now (before_of before) span.m }
+    ensures number { MatchOption
+        result
+        (FineLiteral source.now (before_of before) (record { token = Number; hyphen = false; span = span }))
+        (λ refusal. DenotesNothing source.now (before_of before) Number span (report_of refusal)) }
+    ensures span { IfSome result (λ refusal. LiesIn source.now refusal.span) }
+{
+    match number_at(source, before, span) {
+        Ok(_) => None,
+        Err(refusal) => Some(refusal),
+    }
+}
+
+// What is wrong with an index.
+fn refuse_index(source: &str, span: Span) -> Option<Refusal>
+    requires span { LiesIn source.now span }
+    requires spelled { IsRun is_ascii_digit source.now span.m span.n }
+    ensures index { (before : Option Lexeme) → MatchOption
+        result
+        (FineLiteral source.now before (record { token = Index; hyphen = false; span = span }))
+        (λ refusal. DenotesNothing source.now before Index span (report_of refusal)) }
+    ensures span { IfSome result (λ refusal. LiesIn source.now refusal.span) }
+{
+    match index(slice(source, span)) {
+        Some(_) => None,
+        None => Some(Refusal {
+            span,
+            reason: "base 10 literal out of range for unsigned 64-bit integer",
+        }),
+    }
+}
+
+// What is wrong with a string.
+fn refuse_string(source: &str, span: Span) -> Option<Refusal>
+    requires span { LiesIn source.now span }
+    requires spelled { IsQuoted source.now span.m span.n }
+    ensures string { (before : Option Lexeme) → MatchOption
+        result
+        (FineLiteral source.now before (record { token = String; hyphen = false; span = span }))
+        (λ refusal. DenotesNothing source.now before String span (report_of refusal)) }
+    ensures span { IfSome result (λ refusal. LiesIn source.now refusal.span) }
+{
+    match strange_escape(source, span) {
+        None => None,
+        Some(strange) => Some(Refusal {
+            span: strange,
+            reason: "unknown escape character",
+        }),
+    }
+}
