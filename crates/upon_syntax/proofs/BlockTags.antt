@@ -11,7 +11,7 @@ use Rattle.upon_language.proofs.NoTreeWithFault.InsideTag.{is_inside, EachInside
 use Rattle.upon_language.proofs.NoTreeWithFault.TagBlocks.{begins_block, Closing, Walks, walks_then, walks_plain, walks_begin, else_at}
 use Rattle.upon_language.proofs.Totality.OpenBlocks.{closer_is}
 use Rattle.upon_syntax.specs.OpenBlocks.{new_block, closed_by, after_tag, IsTaken}
-use Rattle.upon_syntax.specs.Pieces.{BlockTag, if_tag, else_if_tag, else_tag, endif_tag, for_tag, endfor_tag, with_tag, endwith_tag, include_tag, IsBlockTag}
+use Rattle.upon_tags.specs.BlockTags.{BlockTag, if_tag, else_if_tag, else_tag, endif_tag, for_tag, endfor_tag, with_tag, endwith_tag, include_tag, IsBlockTag}
 
 inside_no_block : (t : Token) → is_inside t ≡ true → begins_block t ≡ false
 inside_no_block BeginBlock h = absurd cc

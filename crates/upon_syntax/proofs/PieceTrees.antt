@@ -18,11 +18,12 @@ use Rattle.upon_types.proofs.Trees.{view-Raw, view-InlineExpr, view-Include}
 use Rattle.upon_language.specs.Cut.{Lexeme}
 use Rattle.upon_language.specs.Blocks.{if_block, for_block, with_block}
 use Rattle.upon_language.specs.Grammar.{IsStatement, AreStatements, IsElse}
-use Rattle.upon_syntax.specs.Pieces.{Piece, raw_piece, inline_piece, block_piece, if_tag, else_if_tag, else_tag, for_tag, with_tag, include_tag, IsPiece, ArePieces, tag_of, piece_of, pieces_of, BlockKind, blocks_after, else_after, else_if_after, LeaveOpen}
+use Rattle.upon_tags.specs.BlockTags.{if_tag, else_if_tag, else_tag, for_tag, with_tag, include_tag, tag_of}
+use Rattle.upon_syntax.specs.Pieces.{Piece, raw_piece, inline_piece, block_piece, IsPiece, ArePieces, piece_of, pieces_of, BlockKind, blocks_after, else_after, else_if_after, LeaveOpen}
 use Rattle.upon_syntax.specs.declared.compile.parse.piece.Piece.{Piece as CodePiece}
 use Rattle.upon_syntax.specs.declared.compile.parse.piece.Piece.TheVariants as code_piece
-use Rattle.upon_syntax.specs.declared.compile.parse.tag.Tag.{Tag}
-use Rattle.upon_syntax.specs.declared.compile.parse.tag.Tag.TheVariants as code_tag
+use Rattle.upon_tags.specs.declared.compile.parse.tag.Tag.{Tag}
+use Rattle.upon_tags.specs.declared.compile.parse.tag.Tag.TheVariants as code_tag
 use Rattle.upon_syntax.specs.PieceTrees.{IsBlockEnd, ReadsOut, Reads, Ends, EndEach, Closes, MayPrecede, Pushes, Enters, Leaves, ReadsPiece, IsClosed, ReadsWith}
 use Rattle.upon_syntax.specs.declared.compile.parse.tree.BlockEnd.{BlockEnd}
 use Rattle.upon_syntax.specs.declared.compile.parse.tree.BlockEnd.TheVariants.{If, For, With}

@@ -31,7 +31,7 @@ use Rattle.upon_language.proofs.Totality.LiteralHere.{begins, least, least_index
 use Rattle.upon_language.proofs.Totality.Stage.{Stage}
 use Rattle.upon_language.proofs.Totality.InsideClear.{LiteralsFine, inside_clear, stuck_is_first, split_spaces}
 use Rattle.upon_syntax.specs.declared.compile.parse.tag_tokens.Ended.{Ended}
-use Rattle.upon_syntax.specs.TagTokens.{EachTagToken}
+use Rattle.upon_tags.specs.TagTokens.{EachTagToken}
 use Rattle.upon_syntax.specs.TagEnds.{DenotesNothing}
 use Rattle.upon_syntax.specs.TagFaults.{TagRead}
 use Rattle.upon_syntax.proofs.CutParts.{TwoCuts, cut_split, cut_rest}

@@ -19,9 +19,10 @@ use Rattle.upon_lexer.specs.declared.compile.lex.Lexer.{Lexer}
 use Rattle.upon_lexer.specs.Lexers.{lexer_text, lexer_delimiters, lexer_state, ReadSoFar}
 use Rattle.upon_syntax.specs.OpenBlocks.{closed_by, after_tag, IsTaken}
 use Rattle.upon_syntax.specs.PieceReading.{token_lexeme, TokenGiven, ReadsOn}
-use Rattle.upon_syntax.specs.Pieces.{BlockTag, inline_piece, block_piece}
+use Rattle.upon_tags.specs.BlockTags.{BlockTag}
+use Rattle.upon_syntax.specs.Pieces.{inline_piece, block_piece}
 use Rattle.upon_syntax.specs.TagReading.{AfterBegin, AfterEnd}
-use Rattle.upon_syntax.specs.WholeTags.{IsInlineTag, IsTagInside}
+use Rattle.upon_tags.specs.WholeTags.{IsInlineTag, IsTagInside}
 use Rattle.upon_syntax.proofs.NextTokens.{back, stage_of, read_on, below_end}
 use Rattle.upon_syntax.proofs.TagSteps.{inline_on, block_on, untaken_is_first}
 

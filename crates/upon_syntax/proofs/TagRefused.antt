@@ -24,18 +24,18 @@ use Rattle.upon_language.proofs.NoTreeWithFault.FineAt.{last_or}
 use Rattle.upon_language.proofs.NoTreeWithFault.InsideTag.{end_is_no_space}
 use Rattle.upon_language.proofs.NoTreeWithFault.TagShapes.{ends_a_tag}
 use Rattle.upon_language.proofs.Wanted.LiteralWords.{Decided, number_decided, string_decided, index_decided}
-use Rattle.upon_syntax.specs.declared.compile.parse.literal.Lexed.{Lexed}
-use Rattle.upon_syntax.specs.declared.compile.parse.literal.Refusal.{Refusal}
-use Rattle.upon_syntax.specs.declared.compile.parse.want.Want.{Want}
+use Rattle.upon_tags.specs.declared.compile.parse.literal.Lexed.{Lexed}
+use Rattle.upon_tags.specs.declared.compile.parse.literal.Refusal.{Refusal}
+use Rattle.upon_tags.specs.declared.compile.parse.want.Want.{Want}
 use Rattle.upon_syntax.specs.declared.compile.parse.tag_tokens.Ended.{Ended}
 use Rattle.upon_syntax.specs.declared.compile.parse.tag_tokens.Ended.TheVariants.{End, Fault as CutFault, Literal, Eof}
-use Rattle.upon_syntax.specs.Literals.{lexeme_of, report_of}
-use Rattle.upon_syntax.specs.TagTokens.{lexemes_of}
-use Rattle.upon_syntax.specs.TagParsing.{Refuses}
+use Rattle.upon_tags.specs.Literals.{lexeme_of, report_of}
+use Rattle.upon_tags.specs.TagTokens.{lexemes_of}
+use Rattle.upon_tags.specs.TagParsing.{Refuses}
 use Rattle.upon_syntax.specs.TagReading.{IsSyntaxError}
 use Rattle.upon_syntax.specs.TagEnds.{syntax_fault, tag_end, DenotesNothing, ReadsEnd, ReadsWrong, ReportsCut, EndsBy}
 use Rattle.upon_syntax.specs.TagFaults.{token_fault, GoesNoFurther}
-use Rattle.upon_syntax.specs.Wants.{wanted_of}
+use Rattle.upon_tags.specs.Wants.{wanted_of}
 use Rattle.upon_syntax.proofs.CutParts.{cut_rest}
 use Rattle.upon_syntax.proofs.ReadTag.{reads_on, stuck_inside, stuck_next, stuck_eof, stuck_cut, stuck_literal}
 

@@ -31,8 +31,9 @@ use Rattle.upon_language.proofs.Totality.Stage.{Stage, on}
 use Rattle.upon_language.proofs.Totality.WholeTag.{EndsAt, ended_tag}
 use Rattle.upon_syntax.specs.OpenBlocks.{kinds_of, closed_by, after_tag, IsTaken}
 use Rattle.upon_syntax.specs.PieceReading.{ReadTo, token_lexeme, TokenGiven, ReadsOn}
-use Rattle.upon_syntax.specs.Pieces.{Piece, inline_piece, block_piece, BlockTag, IsBlockTag, IsPiece, ArePieces, LeaveOpen}
-use Rattle.upon_syntax.specs.WholeTags.{IsInlineTag, IsTagInside}
+use Rattle.upon_tags.specs.BlockTags.{BlockTag, IsBlockTag}
+use Rattle.upon_syntax.specs.Pieces.{Piece, inline_piece, block_piece, IsPiece, ArePieces, LeaveOpen}
+use Rattle.upon_tags.specs.WholeTags.{IsInlineTag, IsTagInside}
 use Rattle.upon_syntax.proofs.BlockTags.{tag_walks, tag_closer}
 use Rattle.upon_syntax.proofs.CutParts.{cut_rest}
 use Rattle.upon_syntax.proofs.OpenBlocks.{kinds_on}

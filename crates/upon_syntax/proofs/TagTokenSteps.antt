@@ -15,14 +15,14 @@ use Rattle.upon_language.specs.Faults.{lexeme_at}
 use Rattle.upon_language.specs.Lexing.{LexerState, HasRead, IsGiven, IsCutError, LexesAfterSpace, EachIsSpace}
 use Rattle.upon_language.specs.CutFaults.{ClearTo}
 use Rattle.upon_language.proofs.NoTreeWithFault.InsideTag.{is_inside, EachInside, extent_is_inside, inside_stays, spaces_append, space_step, no_space_step}
-use Rattle.upon_syntax.specs.declared.compile.parse.literal.Lexed.{Lexed}
+use Rattle.upon_tags.specs.declared.compile.parse.literal.Lexed.{Lexed}
 use Rattle.upon_syntax.specs.declared.compile.parse.tag_tokens.Ended.{Ended}
 use Rattle.upon_syntax.specs.declared.compile.parse.tag_tokens.Ended.TheVariants.{End, Fault as CutFault, Literal, Eof}
-use Rattle.upon_syntax.specs.declared.compile.parse.literal.Refusal.{Refusal}
-use Rattle.upon_syntax.specs.Literals.{lexeme_of, report_of}
+use Rattle.upon_tags.specs.declared.compile.parse.literal.Refusal.{Refusal}
+use Rattle.upon_tags.specs.Literals.{lexeme_of, report_of}
 use Rattle.upon_syntax.specs.TagEnds.{DenotesNothing, StopsAt, ReportsCut, ReadsOn, ReadsUpTo, EndsBy}
 use Rattle.upon_language.proofs.NoTreeWithFault.FineAt.{last_or}
-use Rattle.upon_syntax.specs.TagTokens.{IsTagToken, EachTagToken}
+use Rattle.upon_tags.specs.TagTokens.{IsTagToken, EachTagToken}
 use Rattle.upon_syntax.proofs.CutParts.{cut_rest}
 
 pub each_joined : (xs ys : List Lexeme) → EachInside xs → EachInside ys → EachInside (xs ++ ys)

@@ -36,17 +36,17 @@ use Rattle.upon_language.proofs.Totality.WholeTag.{TagAt, EndsAt}
 use Rattle.upon_language.proofs.Wanted.Opened.{is_open, open_on}
 use Rattle.upon_lexer.specs.declared.compile.lex.Lexer.{Lexer}
 use Rattle.upon_lexer.specs.Lexers.{lexer_text, lexer_delimiters, lexer_state}
-use Rattle.upon_syntax.specs.declared.compile.parse.literal.Lexed.{Lexed}
+use Rattle.upon_tags.specs.declared.compile.parse.literal.Lexed.{Lexed}
 use Rattle.upon_syntax.specs.declared.compile.parse.tag_tokens.Ended.{Ended}
 use Rattle.upon_syntax.specs.declared.compile.parse.tag_tokens.Ended.TheVariants.{End, Fault as CutFault, Literal, Eof}
-use Rattle.upon_syntax.specs.declared.compile.parse.path.Failure.{Failure}
-use Rattle.upon_syntax.specs.declared.compile.parse.path.Failure.TheVariants.{Memory, Stuck}
-use Rattle.upon_syntax.specs.declared.compile.parse.want.Want.{Want}
-use Rattle.upon_syntax.specs.Literals.{lexeme_of}
-use Rattle.upon_syntax.specs.TagParsing.{OnStuck, IsStuck}
-use Rattle.upon_syntax.specs.Wants.{wanted_of}
-use Rattle.upon_syntax.specs.WholeTags.{LeadsToEnd}
-use Rattle.upon_syntax.specs.TagTokens.{lexemes_of, IsTagToken, EachTagToken}
+use Rattle.upon_tags.specs.declared.compile.parse.path.Failure.{Failure}
+use Rattle.upon_tags.specs.declared.compile.parse.path.Failure.TheVariants.{Memory, Stuck}
+use Rattle.upon_tags.specs.declared.compile.parse.want.Want.{Want}
+use Rattle.upon_tags.specs.Literals.{lexeme_of}
+use Rattle.upon_tags.specs.TagParsing.{OnStuck, IsStuck}
+use Rattle.upon_tags.specs.Wants.{wanted_of}
+use Rattle.upon_tags.specs.WholeTags.{LeadsToEnd}
+use Rattle.upon_tags.specs.TagTokens.{lexemes_of, IsTagToken, EachTagToken}
 use Rattle.upon_syntax.specs.TagEnds.{tag_end, ReadsEnd, EndsBy, ReadsUpTo}
 use Rattle.upon_syntax.specs.TagFaults.{FirstLies, TagRead, GoesNoFurther}
 use Rattle.upon_syntax.specs.TagReading.{AfterBegin, AfterEnd}

@@ -1,9 +1,4 @@
-pub mod Literals
-pub mod Wants
-pub mod TagTokens
-pub mod TagParsing
 pub mod Pieces
-pub mod WholeTags
 pub mod TagReading
 pub mod TagReaders
 pub mod TagEnds

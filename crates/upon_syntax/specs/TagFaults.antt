@@ -15,13 +15,13 @@ use Rattle.upon_language.proofs.NoTreeWithFault.FineAt.{last_or}
 use Rattle.upon_language.proofs.NoTreeWithFault.TagShapes.{ends_a_tag}
 use Rattle.upon_language.proofs.Totality.Stage.{Stage}
 use Rattle.upon_language.proofs.Wanted.Opened.{is_open}
-use Rattle.upon_syntax.specs.declared.compile.parse.literal.Lexed.{Lexed}
+use Rattle.upon_tags.specs.declared.compile.parse.literal.Lexed.{Lexed}
 use Rattle.upon_syntax.specs.declared.compile.parse.tag_tokens.Ended.{Ended}
-use Rattle.upon_syntax.specs.declared.compile.parse.want.Want.{Want}
-use Rattle.upon_syntax.specs.TagTokens.{lexemes_of, EachTagToken}
-use Rattle.upon_syntax.specs.TagParsing.{Refuses}
+use Rattle.upon_tags.specs.declared.compile.parse.want.Want.{Want}
+use Rattle.upon_tags.specs.TagTokens.{lexemes_of, EachTagToken}
+use Rattle.upon_tags.specs.TagParsing.{Refuses}
 use Rattle.upon_syntax.specs.TagEnds.{syntax_fault, ReadsUpTo, tag_end}
-use Rattle.upon_syntax.specs.Wants.{wanted_of}
+use Rattle.upon_tags.specs.Wants.{wanted_of}
 
 -- the first of the tokens lies in the text
 abbrev pub FirstLies : List ℕ → List Lexed → Type 0

@@ -8,26 +8,20 @@ ghost use Rattle.upon_language.specs.Grammar.{HasTree};
 ghost use Rattle.upon_lexer.specs.Searcher.{searcher_delimiters};
 ghost use Rattle.upon_syntax.specs.TagReading.{IsSyntaxError};
 
-pub mod base;
-pub mod expression;
-pub mod list;
-pub mod literal;
+mod fault;
 pub mod open_blocks;
-pub mod path;
 pub mod piece;
 pub mod piece_reader;
-pub mod scalar;
-pub mod tag;
 pub mod tag_faults;
 pub mod tag_reader;
 pub mod tag_tokens;
 pub mod tree;
-pub mod want;
 
 use crate::compile::parse::piece::read_pieces;
 use crate::compile::parse::tree::tree_of_pieces;
 use std::alloc::Global;
 use upon_lexer::compile::search::Searcher;
+pub use upon_tags::compile::parse::{base, expression, list, literal, path, scalar, tag, want};
 use upon_types::error::Result;
 use upon_types::types::ast::Template;
 

@@ -4,12 +4,12 @@ ghost use Rattle.std.specs.Prelude.{MatchOption};
 ghost use Rattle.upon_language.specs.Blocks.{takes, block_takes, if_takes, after_closer, outermost, block_word};
 ghost use Rattle.upon_language.specs.Blocks.{closer_words, plain_else, end_if};
 ghost use Rattle.upon_language.specs.Wanted.{in_quotes};
-ghost use Rattle.upon_syntax.specs.Pieces.{tag_of};
+ghost use Rattle.upon_tags.specs.BlockTags.{tag_of};
 ghost use Rattle.upon_syntax.specs.OpenBlocks.{kind_of, closer_of, block_of, new_block, after_tag, HasEffect, IsTaken};
 ghost use Rattle.upon_syntax.specs.OpenBlocks.{IsUntaken};
 
-use crate::compile::parse::tag::Tag;
 use std::alloc::{AllocError, Global};
+use upon_tags::compile::parse::tag::Tag;
 use upon_types::types::Span;
 
 /// A kind of block.

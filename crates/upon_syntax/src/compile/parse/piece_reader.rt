@@ -14,16 +14,18 @@ ghost use Rattle.upon_lexer.specs.Lexers.{lexer_text};
 ghost use Rattle.upon_lexer.specs.Searcher.{searcher_delimiters};
 ghost use Rattle.upon_types.specs.AstExpression.{expression_of};
 ghost use Rattle.upon_syntax.specs.OpenBlocks.{kind_of, closer_of};
-ghost use Rattle.upon_syntax.specs.Pieces.{inline_piece, block_piece, tag_of};
+ghost use Rattle.upon_tags.specs.BlockTags.{tag_of};
+ghost use Rattle.upon_syntax.specs.Pieces.{inline_piece, block_piece};
 ghost use Rattle.upon_syntax.specs.TagReaders.{reader_text};
 
+use crate::compile::parse::fault::syntax_error;
 use crate::compile::parse::open_blocks::{Closing, OpenBlock, OpenBlocks};
 use crate::compile::parse::piece::Piece;
-use crate::compile::parse::tag::Tag;
 use crate::compile::parse::tag_reader::TagReader;
 use std::alloc::Global;
 use upon_lexer::compile::lex::Lexer;
 use upon_lexer::compile::search::Searcher;
+use upon_tags::compile::parse::tag::Tag;
 use upon_types::error::{Error, ErrorKind, Result};
 use upon_types::types::ast::InlineExpr;
 use upon_types::types::{Span, Token};
@@ -213,10 +215,8 @@ impl<'a> PieceReader<'a> {
             (Some block.span)))
             (fault_of result) }
     {
-        match block.kind.reason(self.alloc) {
-            Ok(reason) => self.refusal(reason.as_str(), block.span),
-            Err(e) => Error::from(e),
-        }
+        let reason = block.kind.reason(self.alloc);
+        syntax_error(self.alloc, self.source, block.span, reason)
     }
 
     // The error for a closing tag that the innermost open block does not take.
@@ -231,10 +231,7 @@ impl<'a> PieceReader<'a> {
             (Some span)))
             (fault_of result) }
     {
-        match closer.reason(self.alloc) {
-            Ok(reason) => self.refusal(reason.as_str(), span),
-            Err(e) => Error::from(e),
-        }
+        syntax_error(self.alloc, self.source, span, closer.reason(self.alloc))
     }
 
     // The error that reports a fault at a span.

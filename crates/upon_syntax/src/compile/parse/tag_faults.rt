@@ -7,16 +7,17 @@ ghost use Rattle.upon_language.specs.Search.{DelimiterText};
 ghost use Rattle.upon_language.specs.Faults.{span_of};
 ghost use Rattle.upon_language.specs.Wanted.{wanted_at_end, expected_found};
 ghost use Rattle.upon_language.specs.LiteralWords.{fits_word};
-ghost use Rattle.upon_syntax.specs.Wants.{wanted_of};
+ghost use Rattle.upon_tags.specs.Wants.{wanted_of};
 ghost use Rattle.upon_syntax.specs.TagReading.{IsSyntaxError};
 ghost use Rattle.upon_syntax.specs.TagEnds.{syntax_fault, EndLies};
 ghost use Rattle.upon_syntax.specs.TagFaults.{FirstLies, token_fault, GoesNoFurther};
 
-use crate::compile::parse::literal::{Lexed, Refusal};
-use crate::compile::parse::path::next_token;
+use crate::compile::parse::fault::syntax_error;
 use crate::compile::parse::tag_tokens::Ended;
-use crate::compile::parse::want::Want;
 use std::alloc::Global;
+use upon_tags::compile::parse::literal::{Lexed, Refusal};
+use upon_tags::compile::parse::path::next_token;
+use upon_tags::compile::parse::want::Want;
 use upon_types::error::{Error, ErrorKind};
 use upon_types::types::Span;
 
@@ -52,15 +53,8 @@ fn refuse_token(alloc: Global, source: &str, want: Want, found: Lexed) -> Error
     requires { LiesIn source.now found.span }
     ensures { OrMemory (token_fault source.now (wanted_of want) found) (fault_of result) }
 {
-    match want.reason(alloc, source, found) {
-        Ok(reason) => Error::from_owned_parts(
-            alloc,
-            ErrorKind::Syntax,
-            Some(reason),
-            Some((source, found.span)),
-        ),
-        Err(e) => Error::from(e),
-    }
+    let reason = want.reason(alloc, source, found);
+    syntax_error(alloc, source, found.span, reason)
 }
 
 // The error for a literal that denotes nothing: that it does, where it may be there.
@@ -93,14 +87,9 @@ fn refuse_eof(alloc: Global, source: &str, want: Want) -> Error
         (expected_found (wanted_at_end (wanted_of want)) (codes "EOF")))
         (fault_of result) }
 {
-    match want.reason_at_end(alloc) {
-        Ok(reason) => {
-            let end = Span {
-                m: source.len(),
-                n: source.len(),
-            };
-            Error::from_owned_parts(alloc, ErrorKind::Syntax, Some(reason), Some((source, end)))
-        }
-        Err(e) => Error::from(e),
-    }
+    let end = Span {
+        m: source.len(),
+        n: source.len(),
+    };
+    syntax_error(alloc, source, end, want.reason_at_end(alloc))
 }

@@ -14,13 +14,13 @@ ghost use Rattle.upon_language.proofs.NoTreeWithFault.InsideTag.{is_inside};
 ghost use Rattle.upon_language.proofs.Totality.InsideClear.{FineLiteral};
 ghost use Rattle.upon_lexer.specs.Spelling.{IsSpelled};
 ghost use Rattle.upon_lexer.specs.Lexers.{lexer_text, lexer_delimiters, lexer_state, ReadSoFar};
-ghost use Rattle.upon_syntax.specs.Literals.{lexeme_of, before_of, report_of};
-ghost use Rattle.upon_syntax.specs.TagTokens.{lexemes_of, IsTagToken, EachTagToken};
+ghost use Rattle.upon_tags.specs.Literals.{lexeme_of, before_of, report_of};
+ghost use Rattle.upon_tags.specs.TagTokens.{lexemes_of, IsTagToken, EachTagToken};
 ghost use Rattle.upon_syntax.specs.TagEnds.{DenotesNothing, SignLies, StopsAt, ReadsOn, ReadsUpTo, EndLies, tag_end};
 
-use crate::compile::parse::literal::{Lexed, Refusal, index, number_at, strange_escape};
 use std::alloc::AllocError;
 use upon_lexer::compile::lex::Lexer;
+use upon_tags::compile::parse::literal::{Lexed, Refusal, index, number_at, strange_escape};
 use upon_types::error::Error;
 use upon_types::types::{Span, Token, slice};
 

@@ -5,8 +5,8 @@ use Rattle.upon_language.specs.Lexing.{HasRead}
 use Rattle.upon_language.proofs.NoTreeWithFault.FineAt.{last_or}
 use Rattle.upon_lexer.specs.Lexers.{lexer_text, lexer_delimiters, lexer_state}
 use Rattle.upon_language.specs.Search.{DelimiterText}
-use Rattle.upon_syntax.specs.Literals.{lexeme_of, before_of}
-use Rattle.upon_syntax.specs.TagTokens.{lexemes_of, IsTagToken, EachTagToken}
+use Rattle.upon_tags.specs.Literals.{lexeme_of, before_of}
+use Rattle.upon_tags.specs.TagTokens.{lexemes_of, IsTagToken, EachTagToken}
 use Rattle.upon_syntax.specs.TagEnds.{ReadsOn, ReadsUpTo}
 use Rattle.upon_syntax.proofs.TagTokenSteps.{each_token_more, last_token, reads_start, reads_then, reads_up_to}
 use Rattle.upon_syntax.proofs.compile.parse.tag_tokens.read_tokens.Goals as goal

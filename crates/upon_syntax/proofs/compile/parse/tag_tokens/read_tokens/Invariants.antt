@@ -3,8 +3,8 @@ use Rattle.upon_language.specs.Cut.{Lexeme, in_tag}
 use Rattle.upon_language.specs.Delimiters.{Sort}
 use Rattle.upon_language.proofs.NoTreeWithFault.FineAt.{last_or}
 use Rattle.upon_lexer.specs.Lexers.{lexer_text, lexer_delimiters, lexer_state, ReadSoFar}
-use Rattle.upon_syntax.specs.Literals.{before_of}
-use Rattle.upon_syntax.specs.TagTokens.{lexemes_of, EachTagToken}
+use Rattle.upon_tags.specs.Literals.{before_of}
+use Rattle.upon_tags.specs.TagTokens.{lexemes_of, EachTagToken}
 use Rattle.upon_syntax.specs.TagEnds.{SignLies, ReadsOn}
 use Rattle.upon_syntax.proofs.compile.parse.tag_tokens.read_tokens.Given as goal
 

@@ -9,7 +9,7 @@ use Rattle.upon_lexer.specs.Lexers.{lexer_text}
 use Rattle.upon_syntax.specs.declared.compile.parse.open_blocks.Closing.{Closing}
 use Rattle.upon_syntax.specs.OpenBlocks.{closer_of, stack_of}
 use Rattle.upon_syntax.specs.PieceReading.{pieces_text, pieces_delimiters, pieces_blocks, token_lexeme}
-use Rattle.upon_syntax.specs.Pieces.{tag_of}
+use Rattle.upon_tags.specs.BlockTags.{tag_of}
 use Rattle.upon_syntax.specs.TagReading.{IsSyntaxError}
 use Rattle.upon_syntax.proofs.BlockFaults.{had_utf8, first_lies_in}
 use Rattle.upon_syntax.proofs.NextTokens.{handed_on, said_at}

@@ -10,7 +10,7 @@ use Rattle.upon_lexer.specs.Lexers.{lexer_text, lexer_state}
 use Rattle.upon_syntax.specs.PieceReading.{pieces_text, pieces_delimiters, pieces_state, pieces_blocks, token_lexeme, TokenGiven, ReadsOn}
 use Rattle.upon_syntax.specs.Pieces.{inline_piece}
 use Rattle.upon_syntax.specs.TagReading.{AfterBegin, AfterEnd, IsSyntaxError}
-use Rattle.upon_syntax.specs.WholeTags.{IsInlineTag}
+use Rattle.upon_tags.specs.WholeTags.{IsInlineTag}
 use Rattle.upon_syntax.proofs.NextTokens.{ok_both, err_on}
 use Rattle.upon_syntax.proofs.TagEnds.{after_begin_expr, inline_step}
 use Rattle.upon_syntax.proofs.compile.parse.piece_reader.PieceReader.read_inline.Goals as goal

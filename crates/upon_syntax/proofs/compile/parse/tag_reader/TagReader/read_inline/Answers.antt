@@ -8,14 +8,14 @@ use Rattle.upon_language.specs.Parts.{Part, a_base, filters, end_expr}
 use Rattle.upon_language.specs.Wanted.{an_end_expression}
 use Rattle.upon_language.proofs.NoTreeWithFault.FineAt.{last_or}
 use Rattle.upon_lexer.specs.Lexers.{lexer_text, lexer_delimiters, lexer_state}
-use Rattle.upon_syntax.specs.declared.compile.parse.literal.Lexed.{Lexed}
-use Rattle.upon_syntax.specs.declared.compile.parse.want.Want.TheVariants as want
-use Rattle.upon_syntax.specs.TagTokens.{lexemes_of, EachTagToken}
-use Rattle.upon_syntax.specs.TagParsing.{OnStuck, IsStuck}
+use Rattle.upon_tags.specs.declared.compile.parse.literal.Lexed.{Lexed}
+use Rattle.upon_tags.specs.declared.compile.parse.want.Want.TheVariants as want
+use Rattle.upon_tags.specs.TagTokens.{lexemes_of, EachTagToken}
+use Rattle.upon_tags.specs.TagParsing.{OnStuck, IsStuck}
 use Rattle.upon_syntax.specs.TagEnds.{ReadsUpTo}
 use Rattle.upon_syntax.specs.TagFaults.{GoesNoFurther}
 use Rattle.upon_syntax.specs.TagReading.{AfterBegin, IsSyntaxError}
-use Rattle.upon_syntax.specs.WholeTags.{LeadsToEnd, IsInlineTag}
+use Rattle.upon_tags.specs.WholeTags.{LeadsToEnd, IsInlineTag}
 use Rattle.upon_syntax.proofs.WholeTags.{mode_is, tag_read, end_is, failure_lies, failure_stops, end_stops, leads_all, after_end, error_handed}
 use Rattle.upon_syntax.proofs.compile.parse.tag_reader.TagReader.read_inline.Goals as goal
 

@@ -5,7 +5,8 @@ use Rattle.upon_types.specs.AstPath.{loop_vars_of}
 use Rattle.upon_types.specs.declared.types.ast.ForLoop.{ForLoop, roll-ForLoop}
 use Rattle.upon_types.specs.declared.types.ast.Stmt as stmt
 use Rattle.upon_types.proofs.Trees.{view-ForLoop, for_of-out}
-use Rattle.upon_syntax.specs.Pieces.{block_piece, for_tag}
+use Rattle.upon_tags.specs.BlockTags.{for_tag}
+use Rattle.upon_syntax.specs.Pieces.{block_piece}
 use Rattle.upon_syntax.specs.PieceTrees.{Pushes, ReadsPiece}
 use Rattle.upon_syntax.proofs.PieceTrees.{reads_for}
 use Rattle.upon_syntax.proofs.compile.parse.tree.TreeBuilder.read_for.Goals as goal

@@ -1,0 +1,16 @@
+pub mod TagTokens
+pub mod Stuck
+pub mod Paths
+pub mod Stops
+pub mod BaseStarts
+pub mod TagViews
+pub mod Bases
+pub mod Lists
+pub mod Maps
+pub mod Calls
+pub mod Filters
+pub mod Endings
+pub mod Tags
+pub mod Digits
+pub mod Reasons
+pub mod StringPieces

@@ -1,0 +1,31 @@
+-- What is wrong with a literal, as the code says it.
+use Rattle.std.specs.Prelude.{◌≡◌, ◌⊎◌, ℕ, Option, Some, None, false}
+use Rattle.upon_language.specs.Cut.{Lexeme}
+use Rattle.upon_language.specs.LaterFaults.{Report}
+use Rattle.upon_tags.specs.declared.compile.parse.literal.Lexed.{Lexed}
+use Rattle.upon_tags.specs.declared.compile.parse.literal.Refusal.{Refusal}
+use Rattle.upon_language.specs.LiteralFaults.{NumberFault, bad_digit, too_large}
+use Rattle.upon_tags.specs.declared.compile.parse.literal.DigitFault.{DigitFault}
+use Rattle.upon_tags.specs.declared.compile.parse.literal.DigitFault.TheVariants.{BadDigit, TooLarge}
+
+-- what is wrong with digits
+abbrev pub fault_of_digits : DigitFault → NumberFault
+fault_of_digits (BadDigit offset) = bad_digit offset
+fault_of_digits TooLarge = too_large
+
+-- a token that is no delimiter, as the code holds it
+abbrev pub lexeme_of : Lexed → Lexeme
+lexeme_of x = record { token = x.token; hyphen = false; span = x.span }
+
+-- the token before, where there is one
+abbrev pub before_of : Option Lexed → Option Lexeme
+before_of None = None
+before_of (Some x) = Some (lexeme_of x)
+
+-- what a refusal reports
+abbrev pub report_of : Refusal → Report
+report_of refusal = record { span = refusal.span; reason = refusal.reason.now }
+
+-- a base that numbers are written in
+abbrev pub IsBase : ℕ → Type 0
+IsBase base = (base ≡ 2) ⊎ ((base ≡ 8) ⊎ ((base ≡ 10) ⊎ (base ≡ 16)))

@@ -1,0 +1,2 @@
+// The steps from a tag's tokens to what it says.
+pub mod parse;
