@@ -1,0 +1,9 @@
+// The machine that runs programs: rendering.
+#![tactic(auto)]
+
+pub mod act;
+pub mod failure;
+pub mod machine;
+pub mod run;
+pub mod source;
+pub mod step;
