@@ -1,21 +1,13 @@
 // A run: step after step, up to the program's end.
-ghost use Rattle.std.specs.Prelude.{◌≡◌, Some, true};
-ghost use Rattle.upon_render.specs.Roots.{pure_root};
-ghost use Rattle.upon_render.specs.Stack.{frames_of, root_of};
-ghost use Rattle.upon_meaning.specs.RenderFaults.{TemplatesLie};
-ghost use Rattle.upon_machine.specs.Run.{run};
-ghost use Rattle.upon_machine.specs.Spans.{StateLies};
-ghost use Rattle.upon_renderer.specs.Acts.{calls_of};
-ghost use Rattle.upon_renderer.specs.Frames.{is_unbounded};
-ghost use Rattle.upon_renderer.specs.Keeps.{Asks};
+ghost use Rattle.std.specs.Prelude.{◌≡◌};
 ghost use Rattle.upon_renderer.specs.Machine.{state_of};
-ghost use Rattle.upon_renderer.specs.Runs.{Known, Ran, ending_of};
+ghost use Rattle.upon_renderer.specs.Runs.{Known, Ran, Starts, ending_of};
 
 use crate::failure::{Failure, stopped};
 use crate::machine::{Flow, Machine};
 use crate::source::ProgramSource;
 use crate::step::step;
-use std::alloc::Global;
+use std::alloc::{AllocError, Global};
 use upon_calls::callables::Callables;
 use upon_fmt::output::Output;
 use upon_render::source::ValueSource;
@@ -42,27 +34,22 @@ fn end_of(flow: Flow) -> Option<Ending>
     }
 }
 
-/// Runs the machine's program to its end.
-pub fn run<'r, V: ValueSource, T: ProgramSource<'r>, C: Callables, W: Output>(
+/// Runs the machine's program to its end. A run of `u64::MAX` steps is given up, as out of memory.
+pub(crate) fn run<'r, V: ValueSource, T: ProgramSource<'r>, C: Callables, W: Output>(
     alloc: Global,
     callables: &C,
     machine: &mut Machine<'r, V, T>,
     out: &mut W,
 ) -> Result<Ending, Failure>
-    ghost known: { Known V.State T.State }
-    requires run { run (calls_of (C.callables callables.now) (C.default_formatter callables.now) known.ask) (T.resolve machine.old.templates) (pure_root (root_of machine.old.stack)) known.count (state_of V.value_state T.template_state known.values machine.old) ≡ Some known.outcome }
-    requires asks { Asks V.ask (root_of machine.old.stack) known.ask }
-    requires lies { StateLies (state_of V.value_state T.template_state known.values machine.old) }
-    requires templates { TemplatesLie (T.resolve machine.old.templates) }
-    requires unbounded { is_unbounded (frames_of machine.old.stack) ≡ true }
-    ensures { Ran
+    requires starts { (known : Known V.State T.State) × Starts V.ask V.value_state T.template_state (T.resolve machine.old.templates) (C.callables callables.now) (C.default_formatter callables.now) known machine.old }
+    ensures { (known : Known V.State T.State) → Starts V.ask V.value_state T.template_state (T.resolve machine.old.templates) (C.callables callables.now) (C.default_formatter callables.now) known machine.old → Ran
         result
         (W.given out.old)
         (W.given out.new)
         known.outcome
         (state_of V.value_state T.template_state known.values machine.new).asked }
 {
-    'steps: loop {
+    'steps: for _ in 0..u64::MAX {
         let running = machine.running;
         match step(alloc, callables, machine, out) {
             Err(stop) => return Err(stopped(alloc, running, stop)),
@@ -73,4 +60,5 @@ pub fn run<'r, V: ValueSource, T: ProgramSource<'r>, C: Callables, W: Output>(
             }
         }
     }
+    Err(Failure::Error(AllocError.into()))
 }
