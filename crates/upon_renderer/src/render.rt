@@ -14,11 +14,12 @@ ghost use Rattle.upon_renderer.specs.Program.{IsProgramOf};
 ghost use Rattle.upon_renderer.specs.Runs.{Rendered};
 
 use crate::failure::Failure;
-use crate::machine::Running;
-use crate::run::Ending;
+use crate::machine::{Machine, Running};
+use crate::run::{Ending, run};
 use crate::source::ProgramSource;
-use std::alloc::{AllocError, Global};
+use std::alloc::Global;
 use upon_calls::callables::Callables;
+use upon_calls::operands::Operands;
 use upon_fmt::output::Output;
 use upon_render::source::ValueSource;
 use upon_render::stack::Stack;
@@ -45,5 +46,13 @@ pub fn render<'r, V: ValueSource, T: ProgramSource<'r>, C: Callables, W: Output>
         (W.given out.new)
         (alone_within (calls_of (C.callables callables.now) (C.default_formatter callables.now) ask) (T.resolve templates) running.entry.left t (option_map (λ name. name.now) running.entry.name) (pure_root (root_of stack.entry)) (states (source_state V.value_state q (root_of stack.entry)) (T.template_state templates))) }
 {
-    Err(Failure::Error(AllocError.into()))
+    let mut machine = Machine {
+        running,
+        waiting: Vec::new(alloc),
+        position: 0,
+        operands: Operands::new(alloc),
+        stack,
+        templates,
+    };
+    run(alloc, callables, &mut machine, out)
 }
