@@ -12,3 +12,4 @@ pub mod Unnamed
 pub mod Runs
 pub mod OnTheWay
 pub mod AtStart
+pub mod Writes

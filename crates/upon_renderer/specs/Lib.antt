@@ -6,3 +6,4 @@ pub mod Acts
 pub mod Keeps
 pub mod Failures
 pub mod Runs
+pub mod Reports

@@ -5,6 +5,7 @@ pub mod act;
 pub mod failure;
 pub mod machine;
 pub mod render;
+pub mod report;
 pub mod run;
 pub mod source;
 pub mod step;
