@@ -1,11 +1,11 @@
 // The machine that runs programs: rendering.
 #![tactic(auto)]
 
-pub mod act;
+mod act;
 pub mod failure;
 pub mod machine;
 pub mod render;
 pub mod report;
 pub mod run;
 pub mod source;
-pub mod step;
+mod step;

@@ -34,7 +34,7 @@ fn end_of(flow: Flow) -> Option<Ending>
     }
 }
 
-/// Runs the machine's program to its end. A run of `u64::MAX` steps is given up, as out of memory.
+// Runs the machine's program to its end. A run of `u64::MAX` steps is given up, as out of memory.
 pub(crate) fn run<'r, V: ValueSource, T: ProgramSource<'r>, C: Callables, W: Output>(
     alloc: Global,
     callables: &C,
