@@ -1,0 +1,15 @@
+pub mod FrameRows
+pub mod Emissions
+pub mod Reported
+pub mod Asked
+pub mod Entered
+pub mod Acts
+pub mod SpansLie
+pub mod Keeps
+pub mod Needed
+pub mod InTemplate
+pub mod Unnamed
+pub mod Runs
+pub mod OnTheWay
+pub mod AtStart
+pub mod Writes

@@ -1,0 +1,9 @@
+pub mod Program
+pub mod Frames
+pub mod Machine
+pub mod Steps
+pub mod Acts
+pub mod Keeps
+pub mod Failures
+pub mod Runs
+pub mod Reports
