@@ -1,9 +1,9 @@
 // From piece to piece through a template's text: raw parts, comments, tags.
-ghost use Rattle.std.specs.Prelude.{◌≡◌, ℕ, List, [], ◌∷◌, ◌++◌, length, Some, codes, IfOk, IfErr};
+ghost use Rattle.std.specs.Prelude.{◌≡◌, ℕ, List, [], ◌∷◌, ◌++◌, length, codes, IfOk, IfErr};
 ghost use Rattle.std.specs.Str.{IsUtf8};
 ghost use Rattle.upon_types.specs.Span.{LiesIn};
 ghost use Rattle.upon_types.specs.Error.{fault_of};
-ghost use Rattle.upon_types.specs.Fault.{syntax, bare_fault, fault_with_picture, OrMemory};
+ghost use Rattle.upon_types.specs.Fault.{OrMemory};
 ghost use Rattle.upon_types.specs.declared.types.token.Token.TheVariants.{BeginExpr, BeginBlock};
 ghost use Rattle.upon_language.specs.Blocks.{block_word, closer_words};
 ghost use Rattle.upon_language.specs.Cut.{Lexeme};
@@ -16,6 +16,7 @@ ghost use Rattle.upon_types.specs.AstExpression.{expression_of};
 ghost use Rattle.upon_syntax.specs.OpenBlocks.{kind_of, closer_of};
 ghost use Rattle.upon_tags.specs.BlockTags.{tag_of};
 ghost use Rattle.upon_syntax.specs.Pieces.{inline_piece, block_piece};
+ghost use Rattle.upon_syntax.specs.TagEnds.{syntax_fault};
 ghost use Rattle.upon_syntax.specs.TagReaders.{reader_text};
 
 use crate::compile::parse::fault::syntax_error;
@@ -207,12 +208,10 @@ impl<'a> PieceReader<'a> {
     fn unclosed(&self, block: OpenBlock) -> Error
         requires { LiesIn (pieces_text self.now) block.span }
         ensures { OrMemory
-            (fault_with_picture
+            (syntax_fault
             (pieces_text self.now)
-            (bare_fault
-            syntax
-            (Some (codes "unclosed " ++ (in_quotes (block_word (kind_of block.kind)) ++ codes " block")))
-            (Some block.span)))
+            block.span
+            (codes "unclosed " ++ (in_quotes (block_word (kind_of block.kind)) ++ codes " block")))
             (fault_of result) }
     {
         let reason = block.kind.reason(self.alloc);
@@ -223,12 +222,10 @@ impl<'a> PieceReader<'a> {
     fn unexpected(&self, closer: Closing, span: Span) -> Error
         requires { LiesIn (pieces_text self.now) span }
         ensures { OrMemory
-            (fault_with_picture
+            (syntax_fault
             (pieces_text self.now)
-            (bare_fault
-            syntax
-            (Some (codes "unexpected " ++ (in_quotes (closer_words (closer_of closer)) ++ codes " block")))
-            (Some span)))
+            span
+            (codes "unexpected " ++ (in_quotes (closer_words (closer_of closer)) ++ codes " block")))
             (fault_of result) }
     {
         syntax_error(self.alloc, self.source, span, closer.reason(self.alloc))
@@ -237,9 +234,7 @@ impl<'a> PieceReader<'a> {
     // The error that reports a fault at a span.
     fn refusal(&self, reason: &str, span: Span) -> Error
         requires { LiesIn (pieces_text self.now) span }
-        ensures { OrMemory
-            (fault_with_picture (pieces_text self.now) (bare_fault syntax (Some reason.now) (Some span)))
-            (fault_of result) }
+        ensures { OrMemory (syntax_fault (pieces_text self.now) span reason.now) (fault_of result) }
     {
         Error::from_parts(
             self.alloc,

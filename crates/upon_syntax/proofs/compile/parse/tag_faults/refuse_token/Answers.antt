@@ -1,0 +1,9 @@
+use Rattle.upon_language.specs.Tags.{word_of}
+use Rattle.upon_language.specs.Wanted.{reason_for}
+use Rattle.upon_tags.specs.Wants.{wanted_of}
+use Rattle.upon_syntax.proofs.compile.parse.tag_faults.refuse_token.Goals as goal
+
+pub returns : goal.returns
+returns c =
+    let found = c.args.found in
+    c.syntax_error.ensures (reason_for (wanted_of c.args.want) found.token (word_of c.args.source.now found.token found.span)) c.reason-reason.ensures
