@@ -1,11 +1,9 @@
 -- A rendering and what is reported of it, in one.
-use Rattle.std.proofs.Common.{◌≡◌, ℕ, List, [], Option, Some, Bool, true, false, Result, Ok, Err, refl, sym, ap, ◌∙◌, subst, inl, inr, append-nil}
-use Rattle.std.specs.Io.KnownBytes.{Appends}
+use Rattle.std.proofs.Common.{ℕ, List, [], Option, Some, Bool, true, false, Result, Ok, Err, refl, sym, ap, ◌∙◌, inl, inr, append-nil}
 use Rattle.upon_types.specs.Error.{fault_of as error_of}
 use Rattle.upon_types.specs.declared.error.Error.{Error}
 use Rattle.upon_meaning.specs.Alone.{fault_of_end}
 use Rattle.upon_meaning.specs.Outcome.{Outcome}
-use Rattle.upon_fmt.specs.Given.{Part}
 use Rattle.upon_renderer.specs.Reports.{IsReport, OutputReport, LeavesOut, Writes}
 use Rattle.upon_renderer.specs.Runs.{Rendered}
 use Rattle.upon_renderer.specs.declared.failure.Failure.{Failure}

@@ -54,8 +54,7 @@ tree_lies Loops =
     let s = source_of Loops in
     ((lies s 7 8 refl, name_lies s 12 13 refl, (shows_lies s 19 20 16 23 refl refl, (lies s 23 24 refl, tt))), tt)
 tree_lies Pairs =
-    let s = source_of Pairs in
-    (
+    let s = source_of Pairs in (
       (
         (lies s 7 8 refl, lies s 10 11 refl, lies s 7 11 refl),
         name_lies s 15 16 refl,

@@ -1,8 +1,8 @@
 -- The templates that the tests include.
-use Rattle.std.specs.Prelude.{◌≡◌, ℕ, List, Option, Some, None, Bool, true, false, bytes_eq, codes, refl}
+use Rattle.std.specs.Prelude.{◌≡◌, Option, Some, None, Bool, true, false, bytes_eq, codes}
 use Rattle.std.proofs.Common.{subst}
 use Rattle.upon_types.specs.TreeSpans.{TreeLiesIn}
-use Rattle.upon_render.specs.Source.{SourceAnswer, says, refuses}
+use Rattle.upon_render.specs.Source.{says}
 use Rattle.upon_meaning.specs.Engine.{Table, Template, from_table, table_answer}
 use Rattle.upon_meaning.specs.RenderFaults.{TemplatesLie}
 use Rattle.upon_renderer_tests.specs.Lies.{tree_lies}

@@ -1,10 +1,9 @@
 -- The texts of the tests' templates, and their trees.
-use Rattle.std.specs.Prelude.{ℕ, List, [], ◌∷◌, Option, Some, None, false, codes}
-use Rattle.upon_types.specs.Expression.{Expression, base, var, call, Bases, no_bases, base_then, no_arguments, arguments}
+use Rattle.std.specs.Prelude.{ℕ, List, [], Some, None, false, codes}
+use Rattle.upon_types.specs.Expression.{Expression, base, var, call, no_bases, base_then, arguments}
 use Rattle.upon_types.specs.Path.{Ident, Member, by_key, item, key_value}
-use Rattle.upon_types.specs.Tree.{Statement, raw, inline_expr, include, if_else, for_loop, with, Statements, no_statements, statement_then, no_else, otherwise}
+use Rattle.upon_types.specs.Tree.{Statement, raw, inline_expr, include, if_else, for_loop, with, Statements, no_statements, statement_then, otherwise}
 use Rattle.upon_types.specs.declared.types.Span.{Span}
-use Rattle.upon_types.specs.declared.types.ast.path.AccessOp.{AccessOp}
 use Rattle.upon_types.specs.declared.types.ast.path.AccessOp.TheVariants.{Direct}
 use Rattle.upon_renderer_tests.specs.declared.programs.Case.{Case}
 use Rattle.upon_renderer_tests.specs.declared.programs.Case.TheVariants.{Raw, Shows, Chooses, Loops, Pairs, Names, Calls, Includes, IncludesWith, Part, Endless}

@@ -20,7 +20,10 @@ fn shows(
     wanted: &str,
 ) -> Result<(), AllocError> {
     let context = with_x(alloc, x)?;
-    assert_eq!(rt; shown(alloc, case, Plain::Formats, &context)?.as_str(), wanted);
+    assert_eq!(rt;
+        shown(alloc, case, Plain::Formats, &context)?.as_str(),
+        wanted
+    );
     Ok(())
 }
 
@@ -61,9 +64,15 @@ fn includes(rt: HostRuntime) -> Result<(), Fail> {
     let inner = with_x(alloc, Value::Integer(7))?;
     let context = with_x(alloc, inner)?;
     let got = shown(alloc, Case::IncludesWith, Plain::Formats, &context)?;
-    assert_eq!(rt; got.as_str(), "[7] | main 30..31 expression evaluated to unformattable type map");
+    assert_eq!(rt;
+        got.as_str(),
+        "[7] | main 30..31 expression evaluated to unformattable type map"
+    );
     let got = shown(alloc, Case::Endless, Plain::Formats, &context)?;
-    assert_eq!(rt; got.as_str(), " | no template reached maximum include depth (3)");
+    assert_eq!(rt;
+        got.as_str(),
+        " | no template reached maximum include depth (3)"
+    );
     Ok(())
 }
 

@@ -1,4 +1,4 @@
-use Rattle.std.proofs.Common.{refl, sym, ◌∙◌}
+use Rattle.std.proofs.Common.{refl, sym}
 use Rattle.std.proofs.Math.Logic.{∥∥₁_elim}
 use Rattle.upon_renderer_tests.specs.Parts.{template_of}
 use Rattle.upon_renderer_tests.specs.declared.programs.Case.TheVariants.{Part, Endless}
