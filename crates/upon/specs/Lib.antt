@@ -1,4 +1,1 @@
-pub mod Meaning
-pub mod Rendered
-pub mod Engine
 pub mod Program

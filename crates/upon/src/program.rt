@@ -41,8 +41,9 @@ impl From<AllocError> for Failure {
     }
 }
 
-/// Renders `file` on the texts of `args`, the words `FILE [KEY=TEXT]..` after the program's name, writes the text to
-/// `out`, flushes that, and answers the program's status. A fault is reported on `err`.
+/// Renders `file`, a template under its own name, on the texts of `args`, the words `FILE [KEY=TEXT]..` after the
+/// program's name. The text goes to `out` as it comes, which is flushed at the end. A fault is reported on `err`. The
+/// answer is the program's status.
 ///
 /// - 0: rendered.
 /// - 1: a fault of the engine, of memory or of `out`; `err` has its picture, ended by a newline.
@@ -120,19 +121,24 @@ fn work<R: Read + Drop, O: Write>(
     }
     let source = read_source(alloc, file)?;
     let context = read_context(alloc, &args[1..])?;
-    let text = render(alloc, source, &context).map_err(|error| error.with_name(
-        alloc,
-        args[0].as_str(),
-    ))?;
-    show(text.as_str(), out)?;
+    render(alloc, args[0].as_str(), source, &context, out)?;
     Ok(())
 }
 
-// The text of the template with this source, on a context.
-fn render(alloc: Global, source: String, context: &Value) -> Result<String, Error> {
-    let engine = Engine::new(alloc);
-    let template = engine.compile(CowStr::Owned(source))?;
-    template.render_from(&engine, context).to_string()
+// Writes the text of the template of this name and source, on a context, and flushes.
+fn render<O: Write>(
+    alloc: Global,
+    name: &str,
+    source: String,
+    context: &Value,
+    out: &mut O,
+) -> Result<(), Error> {
+    let mut engine = Engine::new(alloc);
+    engine.add_template(CowStr::Borrowed(name), CowStr::Owned(source))?;
+    let template = engine.template(name);
+    template.render_from(context).to_writer(out)?;
+    out.flush()?;
+    Ok(())
 }
 
 // Whether the words are those of a call: a file's name, and then words with a `=` each.
@@ -184,11 +190,4 @@ fn read_context(alloc: Global, words: &[String]) -> Result<Value, AllocError> {
         }
     }
     Ok(Value::from(texts))
-}
-
-// Writes the text and flushes.
-fn show<O: Write>(text: &str, out: &mut O) -> Result<(), Error> {
-    out.write_all(text.as_bytes())?;
-    out.flush()?;
-    Ok(())
 }

@@ -4,7 +4,6 @@ pub mod Totality
 pub mod RawText
 pub mod Spans
 pub mod OneCut
-pub mod FirstStage
 pub mod OneFirstFault
 pub mod SpansLieIn
 pub mod OneTree

@@ -1,3 +1,4 @@
+pub mod Characters
 pub mod Offsets
 pub mod Token
 pub mod Cut

@@ -31,4 +31,3 @@ pub mod LexStep
 pub mod Longest
 pub mod LiesIn
 pub mod SpansLieIn
-pub mod FirstStage

@@ -21,8 +21,6 @@ ghost use Rattle.upon_language.specs.Parts.{Part, tag_start, Path, wanted_at};
 ghost use Rattle.upon_language.specs.SpansLieIn.{StatementsLieIn};
 ghost use Rattle.upon_language.specs.Given.{EachGiven, shown_tokens};
 
-pub mod first;
-
 /// A text is cut into tokens in one way at most, whatever the delimiters, as long as none of them is empty.
 pub fn one_cut()
     ensures { (delimiters : List DelimiterText) (s : List ℕ) (ls ks : List Lexeme)

@@ -1,4 +1,3 @@
-pub mod FirstStage
 pub mod PieceTrees
 pub mod OpenBlocks
 pub mod NextTokens

@@ -7,4 +7,3 @@ pub mod OpenBlocks
 pub mod PieceReading
 pub mod PieceTrees
 pub mod Parsed
-pub mod FirstStage

@@ -1,5 +1,4 @@
 // The steps from a template's text to its tree.
-pub mod first;
 pub mod parse;
 
 pub use upon_lexer::compile::{lex, search};

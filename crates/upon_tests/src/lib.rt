@@ -2,6 +2,24 @@
 #![tactic(auto)]
 
 #[cfg(test)]
+mod answers;
+#[cfg(test)]
+mod callables;
+#[cfg(test)]
+mod calls;
+#[cfg(test)]
+mod delimiters;
+#[cfg(test)]
+mod examples;
+#[cfg(test)]
+mod expressions;
+#[cfg(test)]
+mod includes;
+#[cfg(test)]
+mod loops;
+#[cfg(test)]
+mod memory;
+#[cfg(test)]
 mod pictures;
 #[cfg(test)]
 mod program;
@@ -9,3 +27,7 @@ mod program;
 mod readme;
 #[cfg(test)]
 mod rendering;
+#[cfg(test)]
+mod sources;
+#[cfg(test)]
+mod writers;

@@ -38,6 +38,17 @@ fn ends(
 #[test]
 fn renders(rt: HostRuntime) -> Result<(), Fail> {
     let alloc = rt.alloc();
+    let page: Option<&[u8]> = Some(
+        b"{% for x in [1, 2] %}{{ x }}{% if not loop.last %}, {% endif %}{% endfor %}.",
+    );
+    ends(&rt, alloc, &["t"], page, (0, "1, 2.", ""))?;
+    let itself: Option<&[u8]> = Some(b"x{% include \"t\" %}");
+    let deep = (
+        1,
+        "xxxxxxxxxxxxxxxxxxxxxxxxxxxxxxxxxxxxxxxxxxxxxxxxxxxxxxxxxxxxxxxx",
+        "render error: reached maximum include depth (64)\n",
+    );
+    ends(&rt, alloc, &["t"], itself, deep)?;
     let hello: Option<&[u8]> = Some(b"Hello {{ name }}!");
     ends(
         &rt,
@@ -96,7 +107,7 @@ fn reports_faults(rt: HostRuntime) -> Result<(), Fail> {
         (
             1,
             "",
-            "invalid syntax\n\n  --> t:1:1\n   |\n 1 | {{\n   | ^--\n   |\n   = reason: unsupported template\n",
+            "invalid syntax\n\n  --> t:1:3\n   |\n 1 | {{\n   |   ^--\n   |\n   = reason: expected token, found EOF\n",
         ),
     )?;
     ends(
@@ -106,7 +117,7 @@ fn reports_faults(rt: HostRuntime) -> Result<(), Fail> {
         Some(b"Hello {{ name }}!"),
         (
             1,
-            "",
+            "Hello ",
             "render error\n\n  --> hello.txt:1:10\n   |\n 1 | Hello {{ name }}!\n   |          ^^^^\n   |\n   = reason: not found in this scope\n",
         ),
     )

@@ -21,4 +21,3 @@ pub mod TreeSpans
 pub mod AstPath
 pub mod AstExpression
 pub mod Ast
-pub mod FirstStage

@@ -6,7 +6,6 @@ use std::ops::Range;
 pub use token::Token;
 
 pub mod ast;
-pub mod first;
 pub mod token;
 
 /// A span in a template's source: the bytes from `m` on, up to `n` and without it.

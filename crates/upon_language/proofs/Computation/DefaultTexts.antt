@@ -1,13 +1,9 @@
--- The delimiters of the default syntax have texts, and these are UTF-8: what its trees' spans need.
+-- The delimiters of the default syntax have texts, and these are UTF-8.
 use Rattle.std.proofs.Common.{ℕ, zero, suc, List, [], ◌∷◌, arith, rules}
 use Rattle.std.specs.Str.{IsUtf8}
-use Rattle.upon_types.specs.FirstStage.Tree.{Statements}
 use Rattle.upon_language.specs.Search.{DelimiterText, HasTexts}
 use Rattle.upon_language.specs.DefaultDelimiters.{default_delimiters}
-use Rattle.upon_language.specs.FirstStage.Grammar.{HasTree}
-use Rattle.upon_language.specs.FirstStage.LiesIn.{EachLiesIn}
 use Rattle.upon_language.specs.LiesIn.{HasUtf8}
-use Rattle.upon_language.proofs.FirstStage.SpansLieIn.{lies_in}
 
 abbrev EachIsUtf8 : List DelimiterText → Type 0
 EachIsUtf8 [] = Unit {0}
@@ -23,6 +19,3 @@ default_texts i l = search rules
 
 pub default_utf8 : HasUtf8 default_delimiters
 default_utf8 = by_index default_delimiters (search rules)
-
-pub lies_in_default : (s : List ℕ) (tree : Statements) → IsUtf8 s → HasTree default_delimiters s tree → EachLiesIn s tree
-lies_in_default s tree text has = lies_in default_delimiters s tree default_texts default_utf8 text has

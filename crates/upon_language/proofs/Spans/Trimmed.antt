@@ -8,7 +8,7 @@ use Rattle.std.proofs.lemmas.Str.{IsUtf8-drop, IsUtf8-take, IsCharBoundary-from_
 use Rattle.upon_types.specs.declared.types.Span.{Span}
 use Rattle.upon_types.specs.Span.{LiesIn, slice}
 use Rattle.upon_language.proofs.SpansLieIn.Offsets.{drop-Occurs, Occurs-from_drop}
-use Rattle.upon_language.proofs.FirstStage.SpansLieIn.{past_chars}
+use Rattle.upon_language.proofs.SpansLieIn.Characters.{past_chars}
 use Rattle.upon_language.specs.Shown.{trim_end_span, trim_start_span, trim_if, shown_span}
 
 -- the characters that are dropped

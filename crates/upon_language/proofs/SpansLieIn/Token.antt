@@ -17,7 +17,7 @@ use Rattle.upon_language.specs.Inside.{Piece, plain, escape, pieces_text, string
 use Rattle.upon_language.specs.Cut.{Mode, outside, in_tag, in_comment, IsToken}
 use Rattle.upon_language.proofs.SpansLieIn.Offsets.{drop-Occurs, occurs_lies_in}
 use Rattle.upon_language.specs.LiesIn.{HasUtf8}
-use Rattle.upon_language.proofs.FirstStage.SpansLieIn.{past_chars}
+use Rattle.upon_language.proofs.SpansLieIn.Characters.{past_chars}
 use Rattle.upon_language.proofs.OneCut.Run.{run_ends}
 use Rattle.upon_language.proofs.OneCut.Quoted.{quoted_ends}
 use Rattle.upon_language.proofs.OneCut.Token.{step_ends}

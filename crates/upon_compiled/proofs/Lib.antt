@@ -1,0 +1,4 @@
+pub mod Sets
+pub mod TreeSpans
+pub mod CompiledTree
+pub mod Templates

@@ -1,0 +1,21 @@
+use Rattle.std.proofs.Common.{List, ℕ, Option, true, sym, subst}
+use Rattle.upon_renderer.specs.Reports.{Writes}
+use Rattle.upon_renderer.proofs.Writes.{writes}
+use Rattle.upon_engine.specs.Calls.{call_of, outcome}
+use Rattle.upon_engine.proofs.Laws.{kept}
+use Rattle.upon_engine.proofs.Texts.{maybe_waits}
+use Rattle.upon_engine.proofs.renderer.Renderer.to_output.Goals as goal
+
+pub returns-clause-means : goal.returns-clause-means
+returns-clause-means g c =
+    let o = outcome (call_of g.E.Callables.callables g.E.Callables.default_formatter g.V.Values.asks g.V.Values.root g.V.Values.values_state g.T.TemplateSource.resolve g.T.TemplateSource.template_state c.args.self) in
+    let old = g.O.Output.given c.args.out.now in
+    let mid = g.O.Output.given c.run-ended.new.out in
+    let limit = c.args.self.limit in
+    let waits = g.O.Output.waits c.run-ended.new.out in
+    let all = writes limit waits old mid o c.run-ended.result c.reported.result c.run-ended.ensures c.reported.ensures.report in
+    let F : Option (List ℕ) → Type 0 = λ new. Writes limit true c.reported.result old new o in
+    subst F (sym c.reported.ensures.given) (maybe_waits limit o waits c.reported.result old mid all)
+
+pub returns-clause-laws : goal.returns-clause-laws
+returns-clause-laws g c = kept _

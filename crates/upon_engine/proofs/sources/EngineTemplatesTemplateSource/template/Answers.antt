@@ -1,0 +1,8 @@
+use Rattle.std.proofs.Common.{refl, sym, ap, ◌∙◌}
+use Rattle.upon_render.specs.Source.{says}
+use Rattle.upon_meaning.specs.Engine.{table_answer}
+use Rattle.upon_engine.specs.Template.{template_of}
+use Rattle.upon_engine.proofs.sources.EngineTemplatesTemplateSource.template.Goals as goal
+
+pub returns-in-Some-clause-resolved : goal.returns-in-Some-clause-resolved
+returns-in-Some-clause-resolved g c = (ap table_answer (sym c.in-Some.ensures) ∙ ap (λ t. says (template_of t)) (sym c.lent.ensures), refl)

@@ -1,0 +1,75 @@
+// What an engine's names call while a template is rendered.
+ghost use Rattle.std.specs.Prelude.{◌≡◌, List};
+ghost use Rattle.upon_language.specs.Search.{DelimiterText};
+ghost use Rattle.upon_meaning.specs.Engine.{Engine as Meaning};
+
+use crate::engine::{Callable, Engine};
+use std::alloc::Global;
+use upon_calls::callables::{Callables, EngineCallable};
+use upon_fmt::fmt::{self, Formatter};
+use upon_functions::function::CallError;
+use upon_types::value::{Value, ValueCow};
+
+impl<'r, 'e> Callables for &'r Engine<'e> {
+    ghost use Rattle.upon_meaning.specs.DefaultFormat.{formatter_or_default};
+    ghost use Rattle.upon_engine.specs.Engine.{engine_of};
+
+    ghost callables = { λ e. (engine_of (λ f. (Format-box f).formats f.value) (λ f. (Function-box f).answers f.value) e.now).callables };
+
+    ghost default_formatter = { λ e. formatter_or_default (engine_of (λ f. (Format-box f).formats f.value) (λ f. (Function-box f).answers f.value) e.now).default_formatter };
+
+    fn get(&self, name: &str) -> Option<EngineCallable> {
+        match self.callable(name) {
+            Some(callable) => Some(callable.sort()),
+            None => None,
+        }
+    }
+
+    fn call(&self, alloc: Global, name: &str, args: &[ValueCow]) -> Result<Value, CallError> {
+        match self.callable(name) {
+            Some(Callable::Function(function)) => function.call(alloc, args),
+            Some(Callable::Formatter(_)) => Err(CallError::Memory),
+            None => Err(CallError::Memory),
+        }
+    }
+
+    fn format(&self, name: &str, f: &mut Formatter, value: &Value) -> fmt::Result {
+        match self.callable(name) {
+            Some(Callable::Formatter(formatter)) => formatter.format(f, value),
+            Some(Callable::Function(_)) => fmt::default(f, value),
+            None => fmt::default(f, value),
+        }
+    }
+
+    fn default_format(&self, f: &mut Formatter, value: &Value) -> fmt::Result {
+        match self.formatter() {
+            Some(formatter) => formatter.format(f, value),
+            None => fmt::default(f, value),
+        }
+    }
+}
+
+/// What an engine denotes, for clauses of other crates: those can't cite the boxes that it holds.
+pub trait EngineView {
+    // Its templates and callables by their names, the default formatter that was set, and the depth.
+    ghost engine_view: { Self → Meaning };
+
+    // The delimiters that it compiles with.
+    ghost syntax_view: { Self → List DelimiterText };
+
+    /// How deep includes may go in renderings that do not set it themselves.
+    fn max_include_depth(&self) -> usize
+        ensures { result ≡ (engine_view self.now).depth };
+}
+
+impl<'r, 'e> EngineView for &'r Engine<'e> {
+    ghost use Rattle.upon_engine.specs.Engine.{engine_of, engine_syntax};
+
+    ghost engine_view = { λ e. engine_of (λ f. (Format-box f).formats f.value) (λ f. (Function-box f).answers f.value) e.now };
+
+    ghost syntax_view = { λ e. engine_syntax e.now };
+
+    fn max_include_depth(&self) -> usize {
+        (**self).depth()
+    }
+}

@@ -1,0 +1,314 @@
+// An engine: templates and callables by their names.
+ghost use Rattle.std.specs.Prelude.{◌≡◌, ℕ, List, Some, None, IsSome, IfOk, IfErr, OnOk, OnErr, is_some, option_map};
+ghost use Rattle.std.specs.BTreeMap.{get_by_text};
+ghost use Rattle.std.specs.Cow.{cow_str_bytes};
+ghost use Rattle.upon_types.specs.Answers.{formatter, function};
+ghost use Rattle.upon_types.specs.Error.{fault_of};
+ghost use Rattle.upon_types.specs.Fault.{syntax};
+ghost use Rattle.upon_types.specs.Tree.{Statements};
+ghost use Rattle.upon_language.specs.DefaultDelimiters.{default_delimiters};
+ghost use Rattle.upon_language.specs.Grammar.{HasTree};
+ghost use Rattle.upon_lexer.specs.Syntax.{syntax_delimiters};
+ghost use Rattle.upon_syntax.specs.TagReading.{IsSyntaxError};
+ghost use Rattle.upon_calls.specs.Calls.{sort_of};
+ghost use Rattle.upon_engine.specs.Faults.{IsSyntaxErrorOf};
+ghost use Rattle.upon_engine.specs.Template.{template_of, template_source, template_syntax, template_tree};
+ghost use Rattle.upon_engine.specs.Engine.{callable_of, engine_depth, engine_of, engine_syntax, OthersStay, AllStay, HoldsTemplate};
+
+use crate::compile;
+use crate::template::Template;
+use std::alloc::{AllocError, Global};
+use std::borrow::CowStr;
+use std::collections::BTreeMap;
+use upon_calls::callables::EngineCallable;
+use upon_fmt::fmt::Format;
+use upon_functions::function::Function;
+use upon_syntax::compile::search::Searcher;
+use upon_syntax::types::syntax::Syntax;
+use upon_types::error::Result;
+
+/// A formatter or a function.
+#[derive(Drop)]
+pub(crate) enum Callable {
+    Formatter(Box<dyn Format>),
+    Function(Box<dyn Function>),
+}
+
+/// Templates, formatters and functions by their names, with the syntax that templates are compiled under.
+#[derive(Drop)]
+pub struct Engine<'e> {
+    alloc: Global,
+    searcher: Searcher,
+    default_formatter: Option<Box<dyn Format>>,
+    callables: BTreeMap<String, Callable>,
+    templates: BTreeMap<String, Template<'e>>,
+    depth: usize,
+}
+
+impl<'e> Engine<'e> {
+    /// An engine without templates and callables, with the default syntax, the default formatter, and 64 as the depth of
+    /// includes. It keeps the allocator.
+    pub fn new(alloc: Global) -> Engine<'e>
+        ensures templates { (name : List ℕ) → (engine_of (λ f. formats f) (λ f. answers f) result).templates name ≡ None }
+        ensures callables { (name : List ℕ) → (engine_of (λ f. formats f) (λ f. answers f) result).callables name ≡ None }
+        ensures default_formatter { (engine_of (λ f. formats f) (λ f. answers f) result).default_formatter ≡ None }
+        ensures depth { (engine_of (λ f. formats f) (λ f. answers f) result).depth ≡ 64 }
+        ensures syntax { engine_syntax result ≡ default_delimiters }
+    {
+        Engine {
+            alloc,
+            searcher: Searcher::new(),
+            default_formatter: None,
+            callables: BTreeMap::new(alloc),
+            templates: BTreeMap::new(alloc),
+            depth: 64,
+        }
+    }
+
+    /// The same as [`Engine::new`].
+    pub fn default(alloc: Global) -> Engine<'e>
+        ensures templates { (name : List ℕ) → (engine_of (λ f. formats f) (λ f. answers f) result).templates name ≡ None }
+        ensures callables { (name : List ℕ) → (engine_of (λ f. formats f) (λ f. answers f) result).callables name ≡ None }
+        ensures default_formatter { (engine_of (λ f. formats f) (λ f. answers f) result).default_formatter ≡ None }
+        ensures depth { (engine_of (λ f. formats f) (λ f. answers f) result).depth ≡ 64 }
+        ensures syntax { engine_syntax result ≡ default_delimiters }
+    {
+        Engine::new(alloc)
+    }
+
+    /// Sets how deep includes may go in renderings that do not set it themselves. The template that is rendered counts as
+    /// one; 0 acts as 1.
+    pub fn set_max_include_depth(&mut self, depth: usize)
+        ensures engine { engine_of (λ f. formats f) (λ f. answers f) self.new
+            ≡ record (engine_of (λ f. formats f) (λ f. answers f) self.old) { depth = depth } }
+        ensures syntax { engine_syntax self.new ≡ engine_syntax self.old }
+    {
+        self.depth = depth;
+    }
+
+    /// Sets the syntax for templates that are compiled from now on.
+    pub fn set_syntax(&mut self, syntax: Syntax)
+        ensures engine { engine_of (λ f. formats f) (λ f. answers f) self.new
+            ≡ engine_of (λ f. formats f) (λ f. answers f) self.old }
+        ensures syntax { engine_syntax self.new ≡ syntax_delimiters syntax }
+    {
+        self.searcher = Searcher::with_syntax(syntax);
+    }
+
+    /// Sets what writes the values that are shown without a formatter's name.
+    pub fn set_default_formatter(&mut self, formatter: Box<dyn Format>)
+        ensures engine { engine_of (λ f. formats f) (λ f. answers f) self.new
+            ≡ record (engine_of (λ f. formats f) (λ f. answers f) self.old) { default_formatter = Some (formats formatter) } }
+        ensures syntax { engine_syntax self.new ≡ engine_syntax self.old }
+    {
+        self.default_formatter = Some(formatter);
+    }
+
+    /// What takes memory for texts, lists and maps.
+    pub(crate) fn alloc(&self) -> Global {
+        self.alloc
+    }
+
+    /// How deep includes may go.
+    pub(crate) fn depth(&self) -> usize
+        ensures { result ≡ engine_depth self.now }
+    {
+        self.depth
+    }
+}
+
+impl<'e> Engine<'e> {
+    /// The template of a text under the engine's syntax. A text that has no tree is refused, with its first fault; out of
+    /// memory has the kind `OutOfMemory`.
+    pub fn compile<'s>(&self, source: CowStr<'s>) -> Result<Template<'s>>
+        ensures source { IfOk result (λ t. template_source t ≡ cow_str_bytes source.entry) }
+        ensures syntax { IfOk result (λ t. template_syntax t ≡ engine_syntax self.now) }
+        ensures has_tree { IfOk result
+            (λ t. HasTree (engine_syntax self.now) (cow_str_bytes source.entry) (template_tree t)) }
+        ensures only_tree { IfOk result
+            (λ t. (tree : Statements)
+            → HasTree (engine_syntax self.now) (cow_str_bytes source.entry) tree → tree ≡ template_tree t) }
+        ensures fault { IfErr result (IsSyntaxError (engine_syntax self.now) (cow_str_bytes source.entry)) }
+        ensures no_tree { IfErr result
+            (λ e. (fault_of e).kind ≡ syntax
+            → (tree : Statements) → HasTree (engine_syntax self.now) (cow_str_bytes source.entry) tree → ⊥) }
+    {
+        compile::with_searcher(self.alloc, &self.searcher, source)
+    }
+
+    /// Compiles a template and puts it under a name, in place of one that is there. Where the text has no tree or memory is
+    /// out, the engine stays as it was; the fault is as for [`Engine::compile`], with the template's name.
+    pub fn add_template(&mut self, name: CowStr<'_>, source: CowStr<'e>) -> Result<()>
+        ensures added { OnOk result
+            (HoldsTemplate (engine_syntax self.old) (cow_str_bytes source.entry) ((engine_of (λ f. formats f) (λ f. answers f) self.new).templates (cow_str_bytes name.entry))) }
+        ensures others { OthersStay
+            (cow_str_bytes name.entry)
+            (engine_of (λ f. formats f) (λ f. answers f) self.old).templates
+            (engine_of (λ f. formats f) (λ f. answers f) self.new).templates }
+        ensures refused { OnErr result
+            (AllStay (engine_of (λ f. formats f) (λ f. answers f) self.old).templates (engine_of (λ f. formats f) (λ f. answers f) self.new).templates) }
+        ensures fault { IfErr result
+            (IsSyntaxErrorOf (cow_str_bytes name.entry) (engine_syntax self.old) (cow_str_bytes source.entry)) }
+        ensures no_tree { IfErr result
+            (λ e. (fault_of e).kind ≡ syntax
+            → (tree : Statements) → HasTree (engine_syntax self.old) (cow_str_bytes source.entry) tree → ⊥) }
+        ensures beside { record (engine_of (λ f. formats f) (λ f. answers f) self.new) { templates = (engine_of (λ f. formats f) (λ f. answers f) self.old).templates }
+            ≡ engine_of (λ f. formats f) (λ f. answers f) self.old }
+        ensures syntax { engine_syntax self.new ≡ engine_syntax self.old }
+    {
+        let template = compile::with_name(self.alloc, &self.searcher, name.as_str(), source)?;
+        let name = name.into_owned(self.alloc)?;
+        match self.templates.insert(name, template) {
+            Ok(old) => {
+                drop(old);
+                Ok(())
+            }
+            Err(error) => Err(AllocError::from(error).into()),
+        }
+    }
+
+    /// Takes a template away. The answer is whether there was one of this name.
+    pub fn remove_template(&mut self, name: &str) -> bool
+        ensures removed { (engine_of (λ f. formats f) (λ f. answers f) self.new).templates name.now ≡ None }
+        ensures was_there { result ≡ is_some ((engine_of (λ f. formats f) (λ f. answers f) self.old).templates name.now) }
+        ensures others { OthersStay
+            name.now
+            (engine_of (λ f. formats f) (λ f. answers f) self.old).templates
+            (engine_of (λ f. formats f) (λ f. answers f) self.new).templates }
+        ensures beside { record (engine_of (λ f. formats f) (λ f. answers f) self.new) { templates = (engine_of (λ f. formats f) (λ f. answers f) self.old).templates }
+            ≡ engine_of (λ f. formats f) (λ f. answers f) self.old }
+        ensures syntax { engine_syntax self.new ≡ engine_syntax self.old }
+    {
+        self.templates.remove(name).is_some()
+    }
+
+    /// The template of a name.
+    pub(crate) fn held(&self, name: &str) -> Option<&Template<'e>>
+        ensures { option_map (λ t. template_of t.now) result ≡ (engine_of (λ f. formats f) (λ f. answers f) self.now).templates name.now }
+    {
+        self.templates.get(name)
+    }
+}
+
+impl Callable {
+    /// Whether it is a formatter or a function.
+    pub(crate) fn sort(&self) -> EngineCallable
+        ensures { result ≡ sort_of (callable_of (λ f. formats f) (λ f. answers f) self.now) }
+    {
+        match self {
+            Callable::Formatter(_) => EngineCallable::Formatter,
+            Callable::Function(_) => EngineCallable::Function,
+        }
+    }
+}
+
+impl<'e> Engine<'e> {
+    /// Puts a formatter under a name, in place of a callable that is there. The answer is what that was. Where memory is out,
+    /// the engine stays as it was.
+    pub fn add_formatter(
+        &mut self,
+        name: CowStr<'_>,
+        added: Box<dyn Format>,
+    ) -> std::result::Result<Option<EngineCallable>, AllocError>
+        ensures added { OnOk result ((engine_of (λ f. formats f) (λ f. answers f) self.new).callables (cow_str_bytes name.entry) ≡ Some (formatter (formats added))) }
+        ensures replaced { IfOk result (λ old. old ≡ option_map sort_of ((engine_of (λ f. formats f) (λ f. answers f) self.old).callables (cow_str_bytes name.entry))) }
+        ensures others { OthersStay
+            (cow_str_bytes name.entry)
+            (engine_of (λ f. formats f) (λ f. answers f) self.old).callables
+            (engine_of (λ f. formats f) (λ f. answers f) self.new).callables }
+        ensures refused { OnErr result
+            (AllStay (engine_of (λ f. formats f) (λ f. answers f) self.old).callables (engine_of (λ f. formats f) (λ f. answers f) self.new).callables) }
+        ensures beside { record (engine_of (λ f. formats f) (λ f. answers f) self.new) { callables = (engine_of (λ f. formats f) (λ f. answers f) self.old).callables }
+            ≡ engine_of (λ f. formats f) (λ f. answers f) self.old }
+        ensures syntax { engine_syntax self.new ≡ engine_syntax self.old }
+    {
+        self.put(name, Callable::Formatter(added))
+    }
+
+    /// Puts a function under a name, in place of a callable that is there. The answer is what that was. Where memory is out,
+    /// the engine stays as it was.
+    pub fn add_function(
+        &mut self,
+        name: CowStr<'_>,
+        added: Box<dyn Function>,
+    ) -> std::result::Result<Option<EngineCallable>, AllocError>
+        ensures added { OnOk result ((engine_of (λ f. formats f) (λ f. answers f) self.new).callables (cow_str_bytes name.entry) ≡ Some (function (answers added))) }
+        ensures replaced { IfOk result (λ old. old ≡ option_map sort_of ((engine_of (λ f. formats f) (λ f. answers f) self.old).callables (cow_str_bytes name.entry))) }
+        ensures others { OthersStay
+            (cow_str_bytes name.entry)
+            (engine_of (λ f. formats f) (λ f. answers f) self.old).callables
+            (engine_of (λ f. formats f) (λ f. answers f) self.new).callables }
+        ensures refused { OnErr result
+            (AllStay (engine_of (λ f. formats f) (λ f. answers f) self.old).callables (engine_of (λ f. formats f) (λ f. answers f) self.new).callables) }
+        ensures beside { record (engine_of (λ f. formats f) (λ f. answers f) self.new) { callables = (engine_of (λ f. formats f) (λ f. answers f) self.old).callables }
+            ≡ engine_of (λ f. formats f) (λ f. answers f) self.old }
+        ensures syntax { engine_syntax self.new ≡ engine_syntax self.old }
+    {
+        self.put(name, Callable::Function(added))
+    }
+
+    /// Takes a formatter or a function away. The answer is which of both was there, or `None`.
+    pub fn remove_callable(&mut self, name: &str) -> Option<EngineCallable>
+        ensures removed { (engine_of (λ f. formats f) (λ f. answers f) self.new).callables name.now ≡ None }
+        ensures was_there { result ≡ option_map sort_of ((engine_of (λ f. formats f) (λ f. answers f) self.old).callables name.now) }
+        ensures others { OthersStay
+            name.now
+            (engine_of (λ f. formats f) (λ f. answers f) self.old).callables
+            (engine_of (λ f. formats f) (λ f. answers f) self.new).callables }
+        ensures beside { record (engine_of (λ f. formats f) (λ f. answers f) self.new) { callables = (engine_of (λ f. formats f) (λ f. answers f) self.old).callables }
+            ≡ engine_of (λ f. formats f) (λ f. answers f) self.old }
+        ensures syntax { engine_syntax self.new ≡ engine_syntax self.old }
+    {
+        let old = self.callables.remove(name);
+        sort_of_old(old)
+    }
+
+    // Puts a callable under a name.
+    fn put(
+        &mut self,
+        name: CowStr<'_>,
+        callable: Callable,
+    ) -> std::result::Result<Option<EngineCallable>, AllocError>
+        ensures added { OnOk result ((engine_of (λ f. formats f) (λ f. answers f) self.new).callables (cow_str_bytes name.entry) ≡ Some (callable_of (λ f. formats f) (λ f. answers f) callable)) }
+        ensures replaced { IfOk result (λ old. old ≡ option_map sort_of ((engine_of (λ f. formats f) (λ f. answers f) self.old).callables (cow_str_bytes name.entry))) }
+        ensures others { OthersStay
+            (cow_str_bytes name.entry)
+            (engine_of (λ f. formats f) (λ f. answers f) self.old).callables
+            (engine_of (λ f. formats f) (λ f. answers f) self.new).callables }
+        ensures refused { OnErr result
+            (AllStay (engine_of (λ f. formats f) (λ f. answers f) self.old).callables (engine_of (λ f. formats f) (λ f. answers f) self.new).callables) }
+        ensures beside { record (engine_of (λ f. formats f) (λ f. answers f) self.new) { callables = (engine_of (λ f. formats f) (λ f. answers f) self.old).callables }
+            ≡ engine_of (λ f. formats f) (λ f. answers f) self.old }
+        ensures syntax { engine_syntax self.new ≡ engine_syntax self.old }
+    {
+        let name = name.into_owned(self.alloc)?;
+        match self.callables.insert(name, callable) {
+            Ok(old) => Ok(sort_of_old(old)),
+            Err(error) => Err(error.into()),
+        }
+    }
+
+    /// The callable of a name.
+    pub(crate) fn callable(&self, name: &str) -> Option<&Callable>
+        ensures { option_map (λ c. c.now) result ≡ get_by_text self.now.callables name.now }
+    {
+        self.callables.get(name)
+    }
+
+    /// The default formatter that was set.
+    pub(crate) fn formatter(&self) -> Option<&Box<dyn Format>>
+        ensures { option_map (λ f. f.now) result ≡ self.now.default_formatter }
+    {
+        self.default_formatter.as_ref()
+    }
+}
+
+// What a callable was that another one replaced.
+fn sort_of_old(old: Option<Callable>) -> Option<EngineCallable>
+    ensures { result ≡ option_map (λ c. sort_of (callable_of (λ f. formats f) (λ f. answers f) c)) old }
+{
+    match old {
+        Some(callable) => Some(callable.sort()),
+        None => None,
+    }
+}

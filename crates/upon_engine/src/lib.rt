@@ -1,0 +1,11 @@
+// The public calls: templates, engines and renderings.
+#![tactic(auto)]
+
+pub mod callables;
+pub mod compile;
+pub mod engine;
+pub mod renderer;
+pub mod sources;
+pub mod template;
+pub mod template_ref;
+pub mod values;

@@ -1,0 +1,213 @@
+// The renderer: a rendering before it is made.
+ghost use Rattle.std.specs.Prelude.{◌≡◌, None, true};
+ghost use Rattle.upon_types.specs.View.{view};
+ghost use Rattle.upon_renderer.specs.Reports.{Writes};
+ghost use Rattle.upon_renderer.specs.Runs.{Rendered};
+ghost use Rattle.upon_engine.specs.Template.{template_of};
+ghost use Rattle.upon_engine.specs.Answers.{AnswersEnd, AnswersText};
+ghost use Rattle.upon_engine.specs.Calls.{call_of, outcome, engine_in, values_in, templates_in, template_in, name_in, limit_in};
+ghost use Rattle.upon_engine.specs.Engine.{engine_depth};
+ghost use Rattle.upon_engine.specs.Kept.{Kept};
+ghost use Rattle.upon_engine.specs.Sources.{engine_of_templates, source_in, value_in};
+
+use crate::engine::Engine;
+use crate::sources::{EngineTemplates, TemplateSource, program_of};
+use crate::template::Template;
+use crate::values::{Context, SourceValues, Values};
+use std::alloc::Global;
+use std::io;
+use upon_calls::callables::Callables;
+use upon_fmt::output::{Output, Writer};
+use upon_render::source::ValueSource;
+use upon_renderer::failure::Failure;
+use upon_renderer::machine::Running;
+use upon_renderer::report::reported;
+use upon_renderer::run::Ending;
+use upon_types::error;
+use upon_types::value::Value;
+
+/// A rendering before it is made: a template, what its names call, what it is rendered on, where the templates come from
+/// that it includes, and how deep includes may go.
+#[derive(Drop)]
+pub struct Renderer<'r, E, V, T> {
+    pub(crate) alloc: Global,
+    pub(crate) engine: E,
+    pub(crate) template: &'r Template<'r>,
+    pub(crate) name: Option<&'r str>,
+    pub(crate) values: V,
+    pub(crate) templates: T,
+    pub(crate) limit: usize,
+}
+
+impl<'s> Template<'s> {
+    /// A rendering on a value, with the engine's callables, templates and depth. It is not made yet.
+    pub fn render_from<'r, 'e>(
+        &'r self,
+        engine: &'r Engine<'e>,
+        value: &'r Value,
+    ) -> Renderer<'r, &'r Engine<'e>, Context<'r>, EngineTemplates<'r, 'e>>
+        ensures template { template_in result ≡ template_of self.now }
+        ensures name { name_in result ≡ None }
+        ensures engine { (engine_in result).now ≡ engine.now }
+        ensures templates { engine_of_templates (templates_in result) ≡ engine.now }
+        ensures value { value_in (values_in result) ≡ view value.now }
+        ensures limit { limit_in result ≡ engine_depth engine.now }
+    {
+        let limit = engine.depth();
+        Renderer {
+            alloc: engine.alloc(),
+            engine,
+            template: self.lent(),
+            name: None,
+            values: Context { value },
+            templates: EngineTemplates { engine },
+            limit,
+        }
+    }
+
+    /// A rendering on a source of values, with the engine's callables, templates and depth. It is not made yet.
+    pub fn render_from_fn<'r, 'e, S: ValueSource>(
+        &'r self,
+        engine: &'r Engine<'e>,
+        source: S,
+    ) -> Renderer<'r, &'r Engine<'e>, SourceValues<S>, EngineTemplates<'r, 'e>>
+        ensures template { template_in result ≡ template_of self.now }
+        ensures name { name_in result ≡ None }
+        ensures engine { (engine_in result).now ≡ engine.now }
+        ensures templates { engine_of_templates (templates_in result) ≡ engine.now }
+        ensures source { source_in (values_in result) ≡ source }
+        ensures limit { limit_in result ≡ engine_depth engine.now }
+    {
+        Renderer {
+            alloc: engine.alloc(),
+            engine,
+            template: self.lent(),
+            name: None,
+            values: SourceValues { source },
+            templates: EngineTemplates { engine },
+            limit: engine.depth(),
+        }
+    }
+}
+
+impl<'r, E: Drop, V: Drop, T: Drop> Renderer<'r, E, V, T> {
+    /// The same with a source of templates in place of the engine's.
+    pub fn with_template_fn<S: TemplateSource<'r>>(self, templates: S) -> Renderer<'r, E, V, S>
+        ensures template { template_in result ≡ template_in self.entry }
+        ensures name { name_in result ≡ name_in self.entry }
+        ensures engine { engine_in result ≡ engine_in self.entry }
+        ensures templates { templates_in result ≡ templates }
+        ensures values { values_in result ≡ values_in self.entry }
+        ensures limit { limit_in result ≡ limit_in self.entry }
+    {
+        let Renderer {
+            alloc,
+            engine,
+            template,
+            name,
+            values,
+            templates: _,
+            limit,
+        } = self;
+        Renderer {
+            alloc,
+            engine,
+            template,
+            name,
+            values,
+            templates,
+            limit,
+        }
+    }
+
+    /// The same with a depth of its own for includes. The template that is rendered counts as one; 0 acts as 1.
+    pub fn with_max_include_depth(self, depth: usize) -> Renderer<'r, E, V, T>
+        ensures template { template_in result ≡ template_in self.entry }
+        ensures name { name_in result ≡ name_in self.entry }
+        ensures engine { engine_in result ≡ engine_in self.entry }
+        ensures templates { templates_in result ≡ templates_in self.entry }
+        ensures values { values_in result ≡ values_in self.entry }
+        ensures limit { limit_in result ≡ depth }
+    {
+        Renderer {
+            limit: depth,
+            ..self
+        }
+    }
+}
+
+impl<'r, E: Callables + Drop, V: Values<'r, T>, T: TemplateSource<'r>> Renderer<'r, E, V, T> {
+    /// The text that the template means. There is no text with a fault: it is the one with which the meaning ends, or says
+    /// that memory is out.
+    pub fn to_string(self) -> error::Result<String>
+        ensures means { AnswersText
+            (limit_in self.entry)
+            (outcome (call_of E.callables E.default_formatter V.asks V.root V.values_state T.resolve T.template_state self.entry))
+            result }
+        ensures laws { Kept (call_of E.callables E.default_formatter V.asks V.root V.values_state T.resolve T.template_state self.entry) }
+    {
+        let alloc = self.alloc;
+        let limit = self.limit;
+        let mut text = String::new(alloc);
+        let ended = self.run(&mut text);
+        match reported(alloc, ended, limit, &mut text) {
+            Ok(()) => Ok(text),
+            Err(error) => Err(error),
+        }
+    }
+
+    /// Writes the text that the template means, up to its fault. Where the output does not receive a text whole, the fault is
+    /// its error, of the kind `Io`, or says that memory is out.
+    pub fn to_output<O: Output>(self, out: &mut O) -> error::Result<()>
+        ensures means { Writes
+            (limit_in self.entry)
+            true
+            result
+            (O.given out.old)
+            (O.given out.new)
+            (outcome (call_of E.callables E.default_formatter V.asks V.root V.values_state T.resolve T.template_state self.entry)) }
+        ensures laws { Kept (call_of E.callables E.default_formatter V.asks V.root V.values_state T.resolve T.template_state self.entry) }
+    {
+        let alloc = self.alloc;
+        let limit = self.limit;
+        let ended = self.run(out);
+        reported(alloc, ended, limit, out)
+    }
+
+    /// The same to a writer. Where a write fails or takes nothing, the fault is of the kind `Io`.
+    pub fn to_writer<W: io::Write>(self, writer: &mut W) -> error::Result<()>
+        ensures ends { AnswersEnd
+            (limit_in self.entry)
+            (outcome (call_of E.callables E.default_formatter V.asks V.root V.values_state T.resolve T.template_state self.entry))
+            result }
+        ensures laws { Kept (call_of E.callables E.default_formatter V.asks V.root V.values_state T.resolve T.template_state self.entry) }
+    {
+        let mut out = Writer::new(writer);
+        self.to_output(&mut out)
+    }
+
+    // Runs the template's program into an output.
+    fn run<O: Output>(self, out: &mut O) -> Result<Ending, Failure>
+        ensures { Rendered
+            result
+            (O.given out.old)
+            (O.given out.new)
+            (outcome (call_of E.callables E.default_formatter V.asks V.root V.values_state T.resolve T.template_state self.entry)) }
+    {
+        let Renderer {
+            alloc,
+            engine,
+            template,
+            name,
+            values,
+            templates,
+            limit,
+        } = self;
+        let running = Running {
+            program: program_of(template),
+            name,
+            left: limit.max(1) - 1,
+        };
+        values.render(alloc, &engine, running, templates, out)
+    }
+}

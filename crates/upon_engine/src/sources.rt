@@ -1,0 +1,159 @@
+// Where the templates of includes come from.
+ghost use Rattle.std.specs.Prelude.{◌≡◌};
+ghost use Rattle.upon_render.specs.Asked.{Asked};
+ghost use Rattle.upon_meaning.specs.Engine.{Resolver};
+ghost use Rattle.upon_meaning.specs.RenderFaults.{TemplatesLie};
+ghost use Rattle.upon_renderer.specs.Program.{IsProgramOf};
+ghost use Rattle.upon_engine.specs.Template.{template_of};
+
+use crate::engine::Engine;
+use crate::template::Template;
+use upon_render::source::SourceError;
+use upon_renderer::source::{Program, ProgramSource};
+
+/// What gives templates by their names.
+///
+/// Answer and next state are functions of the state and the name, out of memory aside.
+pub trait TemplateSource<'r>: Drop {
+    /// What the answers depend on, beside the name.
+    ghost State: { Type 0 };
+
+    ghost template_state: { Self → State };
+
+    /// The answer and the next state, in each state and for each name.
+    ghost resolve: { Self → Resolver State };
+
+    /// The spans in the trees of all templates that answer lie in their texts.
+    ghost templates_lie: { (s : Self) → TemplatesLie (resolve s) };
+
+    /// The template of this name.
+    fn template(&mut self, name: &str) -> Result<&'r Template<'r>, SourceError>
+        ensures stays { resolve self.new ≡ resolve self.old }
+        ensures resolved { Asked (λ t. template_of t.now) result (template_state self.new) (resolve self.old (template_state self.old) name.now) };
+}
+
+impl<'r, S: TemplateSource<'r>> TemplateSource<'r> for &mut S {
+    ghost State = { S.State };
+
+    ghost template_state = { λ s. S.template_state s.now };
+
+    ghost resolve = { λ s. S.resolve s.now };
+
+    ghost templates_lie = { λ s. S.templates_lie s.now };
+
+    fn template(&mut self, name: &str) -> Result<&'r Template<'r>, SourceError> {
+        (**self).template(name)
+    }
+}
+
+/// The templates that an engine holds. Another name is refused as an unknown template.
+#[derive(Clone, Copy)]
+pub struct EngineTemplates<'r, 'e> {
+    pub(crate) engine: &'r Engine<'e>,
+}
+
+impl<'r, 'e> TemplateSource<'r> for EngineTemplates<'r, 'e> {
+    ghost use Rattle.upon_meaning.specs.Engine.{from_table};
+    ghost use Rattle.upon_engine.specs.Engine.{engine_of};
+    ghost use Rattle.upon_engine.specs.Sources.{engine_lies};
+
+    ghost State = { Unit {0} };
+
+    ghost template_state = { λ _. tt };
+
+    ghost resolve = { λ s. from_table (engine_of (λ f. (Format-box f).formats f.value) (λ f. (Function-box f).answers f.value) s.engine.now).templates };
+
+    ghost templates_lie = { λ s. engine_lies (λ f. (Format-box f).formats f.value) (λ f. (Function-box f).answers f.value) s.engine.now };
+
+    fn template(&mut self, name: &str) -> Result<&'r Template<'r>, SourceError> {
+        match self.engine.held(name) {
+            Some(template) => Ok(template.lent()),
+            None => match String::from_str(self.engine.alloc(), "unknown template") {
+                Ok(reason) => Err(SourceError::Refused(reason)),
+                Err(_) => Err(SourceError::Memory),
+            },
+        }
+    }
+}
+
+/// A function from names to templates, which may keep a state. It is named by a type, since no field can hold a fact about
+/// a closure.
+pub trait CallName<'r>: Drop {
+    // What its answers depend on, beside the name.
+    ghost State: { Type 0 };
+
+    ghost name_state: { Self → State };
+
+    // The answer and the next state, in each state and for each name.
+    ghost answers_name: { Resolver State };
+
+    // The spans in the trees of all templates that answer lie in their texts.
+    ghost answers_lie: { TemplatesLie answers_name };
+
+    /// The template of this name. The error is `Refused` where the function refuses, and `Memory` where memory is out.
+    fn call(&mut self, name: &str) -> Result<&'r Template<'r>, SourceError>
+        ensures { Asked (λ t. template_of t.now) result (name_state self.new) (answers_name (name_state self.old) name.now) };
+}
+
+/// The source that is a function.
+#[derive(Drop)]
+pub struct TemplateFn<C> {
+    /// The function.
+    pub callable: C,
+}
+
+impl<C> TemplateFn<C> {
+    /// The source that calls this function.
+    pub fn new(callable: C) -> Self
+        ensures { result.callable ≡ callable }
+    {
+        TemplateFn { callable }
+    }
+}
+
+impl<'r, C: CallName<'r>> TemplateSource<'r> for TemplateFn<C> {
+    ghost State = { C.State };
+
+    ghost template_state = { λ s. C.name_state s.callable };
+
+    ghost resolve = { λ _. C.answers_name };
+
+    ghost templates_lie = { λ _. C.answers_lie };
+
+    fn template(&mut self, name: &str) -> Result<&'r Template<'r>, SourceError> {
+        self.callable.call(name)
+    }
+}
+
+/// A source of templates, as one of their programs.
+#[derive(Drop)]
+pub(crate) struct Programs<T> {
+    pub(crate) templates: T,
+}
+
+impl<'r, T: TemplateSource<'r>> ProgramSource<'r> for Programs<T> {
+    ghost State = { T.State };
+
+    ghost template_state = { λ s. T.template_state s.templates };
+
+    ghost resolve = { λ s. T.resolve s.templates };
+
+    ghost templates_lie = { λ s. T.templates_lie s.templates };
+
+    fn program(&mut self, name: &str) -> Result<Program<'r>, SourceError> {
+        match self.templates.template(name) {
+            Ok(template) => Ok(program_of(template)),
+            Err(error) => Err(error),
+        }
+    }
+}
+
+/// The program of a template that is lent.
+pub(crate) fn program_of<'r>(template: &'r Template<'r>) -> Program<'r>
+    ensures { IsProgramOf result (template_of template.entry.now) }
+{
+    Program {
+        source: template.source(),
+        instrs: template.instrs(),
+    }
+}

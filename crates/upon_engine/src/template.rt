@@ -1,0 +1,60 @@
+// A compiled template.
+ghost use Rattle.std.specs.Prelude.{◌≡◌};
+ghost use Rattle.std.specs.Cow.{cow_str_bytes};
+ghost use Rattle.upon_lexer.specs.Syntax.{syntax_delimiters};
+ghost use Rattle.upon_compiled.specs.Compiled.{HasProgram};
+
+use std::borrow::CowStr;
+use upon_instructions::types::program::Instr;
+use upon_syntax::types::syntax::Syntax;
+
+/// A compiled template: its text, the syntax that it was compiled under, and its instructions.
+#[derive(Drop)]
+pub struct Template<'s> {
+    source: CowStr<'s>,
+    syntax: Syntax,
+    instrs: Vec<Instr>,
+    ghost is_compiled: { HasProgram (syntax_delimiters syntax) (cow_str_bytes source) instrs.items },
+}
+
+impl<'s> Template<'s> {
+    ghost use Rattle.upon_language.specs.Grammar.{HasTree};
+    ghost use Rattle.upon_machine.specs.Code.{program_of};
+    ghost use Rattle.upon_instructions.specs.Program.{program_view};
+    ghost use Rattle.upon_engine.specs.Template.{template_source, template_syntax, template_tree};
+
+    /// The template of a text under a syntax, with the program of its only tree.
+    pub(crate) fn from_parts(source: CowStr<'s>, syntax: Syntax, instrs: Vec<Instr>) -> Template<'s>
+        requires { HasProgram (syntax_delimiters syntax) (cow_str_bytes source) instrs.items }
+        ensures source { template_source result ≡ cow_str_bytes source.entry }
+        ensures syntax { template_syntax result ≡ syntax_delimiters syntax }
+    {
+        Template {
+            source,
+            syntax,
+            instrs,
+        }
+    }
+
+    /// The text that the template was compiled from.
+    pub fn source(&self) -> &str
+        ensures source { result.now ≡ template_source self.now }
+        ensures has_tree { ∥ HasTree (template_syntax self.now) (template_source self.now) (template_tree self.now) ∥₁ }
+    {
+        self.source.as_str()
+    }
+
+    /// Its instructions.
+    pub fn instrs(&self) -> &[Instr]
+        ensures { program_view result.now ≡ program_of (template_tree self.now) }
+    {
+        self.instrs.as_slice()
+    }
+
+    /// The same template, lent for a shorter time.
+    pub fn lent(&self) -> &Template<'_>
+        ensures { result.now ≡ self.now }
+    {
+        self
+    }
+}

@@ -1,0 +1,104 @@
+// A template of an engine, with its name.
+ghost use Rattle.std.specs.Prelude.{◌≡◌, Some, IfSome, IsSome, option_map};
+ghost use Rattle.upon_types.specs.View.{view};
+ghost use Rattle.upon_engine.specs.Calls.{engine_in, values_in, templates_in, template_in, name_in, limit_in};
+ghost use Rattle.upon_engine.specs.Engine.{engine_depth, engine_of};
+ghost use Rattle.upon_engine.specs.Sources.{engine_of_templates, source_in, value_in};
+ghost use Rattle.upon_engine.specs.Template.{template_of};
+ghost use Rattle.upon_engine.specs.TemplateRef.{ref_engine, ref_name, ref_template};
+
+use crate::engine::Engine;
+use crate::renderer::Renderer;
+use crate::sources::EngineTemplates;
+use crate::template::Template;
+use crate::values::{Context, SourceValues};
+use upon_render::source::ValueSource;
+use upon_types::value::Value;
+
+/// A template that an engine holds, with its name. A fault of its rendering has the name.
+#[derive(Clone, Copy)]
+pub struct TemplateRef<'r, 'e> {
+    engine: &'r Engine<'e>,
+    name: &'r str,
+    template: &'r Template<'e>,
+}
+
+impl<'e> Engine<'e> {
+    /// The template of a name, or `None` where there is none.
+    pub fn get_template<'r>(&'r self, name: &'r str) -> Option<TemplateRef<'r, 'e>>
+        ensures template { option_map ref_template result ≡ (engine_of (λ f. formats f) (λ f. answers f) self.now).templates name.now }
+        ensures engine { IfSome result (λ t. ref_engine t ≡ self.now) }
+        ensures name { IfSome result (λ t. ref_name t ≡ name.now) }
+    {
+        match self.held(name) {
+            Some(template) => Some(TemplateRef {
+                engine: self,
+                name,
+                template,
+            }),
+            None => None,
+        }
+    }
+
+    /// The template of a name that is there.
+    pub fn template<'r>(&'r self, name: &'r str) -> TemplateRef<'r, 'e>
+        requires { IsSome ((engine_of (λ f. formats f) (λ f. answers f) self.now).templates name.now) }
+        ensures template { Some (ref_template result) ≡ (engine_of (λ f. formats f) (λ f. answers f) self.now).templates name.now }
+        ensures engine { ref_engine result ≡ self.now }
+        ensures name { ref_name result ≡ name.now }
+    {
+        let Some(template) = self.held(name) else {
+            unreachable!()
+        };
+        TemplateRef {
+            engine: self,
+            name,
+            template,
+        }
+    }
+}
+
+impl<'r, 'e> TemplateRef<'r, 'e> {
+    /// The text that the template was compiled from.
+    pub fn source(self) -> &'r str
+        ensures { result.now ≡ (ref_template self.entry).source }
+    {
+        self.template.source()
+    }
+
+    /// A rendering on a value, with the engine's callables, templates and depth. It is not made yet.
+    pub fn render_from(
+        self,
+        value: &'r Value,
+    ) -> Renderer<'r, &'r Engine<'e>, Context<'r>, EngineTemplates<'r, 'e>>
+        ensures template { template_in result ≡ ref_template self.entry }
+        ensures name { name_in result ≡ Some (ref_name self.entry) }
+        ensures engine { (engine_in result).now ≡ ref_engine self.entry }
+        ensures templates { engine_of_templates (templates_in result) ≡ ref_engine self.entry }
+        ensures value { value_in (values_in result) ≡ view value.now }
+        ensures limit { limit_in result ≡ engine_depth (ref_engine self.entry) }
+    {
+        Renderer {
+            name: Some(self.name),
+            ..self.template.render_from(self.engine, value)
+        }
+    }
+
+    /// A rendering on a source of values, with the engine's callables, templates and depth. It is not made yet.
+    pub fn render_from_fn<S: ValueSource>(
+        self,
+        source: S,
+    ) -> Renderer<'r, &'r Engine<'e>, SourceValues<S>, EngineTemplates<'r, 'e>>
+        ensures template { template_in result ≡ ref_template self.entry }
+        ensures name { name_in result ≡ Some (ref_name self.entry) }
+        ensures engine { (engine_in result).now ≡ ref_engine self.entry }
+        ensures templates { engine_of_templates (templates_in result) ≡ ref_engine self.entry }
+        ensures source { source_in (values_in result) ≡ source }
+        ensures limit { limit_in result ≡ engine_depth (ref_engine self.entry) }
+    {
+        Renderer {
+            name: Some(self.name),
+            ..self.template.render_from_fn(self.engine, source)
+        }
+    }
+}

@@ -1,3 +1,0 @@
-pub mod OneTree
-pub mod SpansLieIn
-pub mod OneTag

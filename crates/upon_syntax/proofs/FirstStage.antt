@@ -1,4 +1,0 @@
-pub mod Start
-pub mod NoTag
-pub mod NoStatement
-pub mod StatementsRead

@@ -1,0 +1,2 @@
+pub mod Callables
+pub mod Only
