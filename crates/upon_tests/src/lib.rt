@@ -29,5 +29,6 @@ mod readme;
 mod rendering;
 #[cfg(test)]
 mod sources;
+pub mod users;
 #[cfg(test)]
 mod writers;

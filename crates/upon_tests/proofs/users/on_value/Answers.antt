@@ -1,5 +1,5 @@
 use Rattle.upon_engine.proofs.Renderings.{on_value}
-use Rattle.upon_engine_tests.proofs.users.on_value.Goals as goal
+use Rattle.upon_tests.proofs.users.on_value.Goals as goal
 
 pub returns : goal.returns
 returns g c =

@@ -1,8 +1,8 @@
 // Callers of the engine, by its public clauses alone.
-ghost use Rattle.std.specs.Prelude.{◌≡◌, None, Some};
+ghost use Rattle.std.specs.Prelude.{None};
 ghost use Rattle.upon_types.specs.View.{view};
 ghost use Rattle.upon_render.specs.Asked.{never};
-ghost use Rattle.upon_render.specs.Environment.{context, value_source};
+ghost use Rattle.upon_render.specs.Environment.{context};
 ghost use Rattle.upon_meaning.specs.Alone.{alone};
 ghost use Rattle.upon_meaning.specs.Engine.{rendering_of};
 ghost use Rattle.upon_meaning.specs.Outcome.{states};
