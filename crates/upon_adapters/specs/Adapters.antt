@@ -1,6 +1,6 @@
 -- What an adapter answers: it tests the number of arguments, then each from the left, then its callable answers.
 use Rattle.std.specs.Prelude.{ℕ, ◌+◌, ◌==◌, List, ◌∷◌, Option, Some, None, length, if◌then◌else◌}
-use Rattle.upon_functions.specs.Arguments.{Test}
+use Rattle.upon_types.specs.Misfits.{Test}
 use Rattle.upon_functions.specs.Outcome.{Outcome, answer_of}
 use Rattle.upon_types.specs.Answers.{Answer, Misfit, wrong_number, wrong_argument}
 use Rattle.upon_types.specs.Val.{Val}

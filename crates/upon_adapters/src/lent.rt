@@ -1,7 +1,7 @@
 // Functions of callables of one argument that is lent: a text, a list, a map or any value.
 ghost use Rattle.std.specs.Prelude.{◌≡◌, ◌∷◌, [], List};
 ghost use Rattle.upon_adapters.specs.Adapters.{adapter_answer};
-ghost use Rattle.upon_functions.specs.Arguments.{str_misfit, list_misfit, map_misfit, any_misfit};
+ghost use Rattle.upon_types.specs.Misfits.{str_misfit, list_misfit, map_misfit, any_misfit};
 ghost use Rattle.upon_functions.specs.Outcome.{Outcome, Gives};
 ghost use Rattle.upon_types.specs.Val.{Val, text_val, list_val, map_val};
 ghost use Rattle.upon_types.specs.View.{view, vals_view, entries_view};

@@ -1,6 +1,6 @@
 -- Which argument an answer blames: one that is given, and only an integer for being out of range.
 use Rattle.std.specs.Prelude.{List, Option, Some, None, slice_get}
-use Rattle.upon_functions.specs.Arguments.{IsFair}
+use Rattle.upon_types.specs.Misfits.{IsFair}
 use Rattle.upon_types.specs.Answers.{Answer, Misfit, gives, wrong_number, wrong_argument, declines}
 use Rattle.upon_types.specs.Val.{Val}
 

@@ -1,7 +1,7 @@
 -- The integer types: for each its word, and the least and the greatest number that it holds. `usize` and `isize` have
 -- 64 bits.
 use Rattle.std.specs.Prelude.{pos, negsuc, codes}
-use Rattle.upon_functions.specs.Arguments.{Range}
+use Rattle.upon_types.specs.Misfits.{Range}
 
 -- the range of `u8`
 abbrev pub u8_range : Range

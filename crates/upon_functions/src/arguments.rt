@@ -1,6 +1,6 @@
 // What a callable may take as an argument: what it owns, made of a value, or a part of a value that is lent.
 ghost use Rattle.std.specs.Prelude.{Option};
-ghost use Rattle.upon_functions.specs.Arguments.{IsFair};
+ghost use Rattle.upon_types.specs.Misfits.{IsFair};
 ghost use Rattle.upon_functions.specs.Says.{Takes};
 ghost use Rattle.upon_types.specs.Answers.{Misfit};
 ghost use Rattle.upon_types.specs.Val.{Val};

@@ -2,7 +2,7 @@
 -- integers of 64 bits, `low` of an integer of eight bits without a sign.
 use Rattle.std.proofs.Common.{◌≡◌, ℕ, pos, List, [], ◌∷◌, refl, codes}
 use Rattle.upon_adapters.specs.Adapters.{adapter_answer}
-use Rattle.upon_functions.specs.Arguments.{Test, integer_misfit}
+use Rattle.upon_types.specs.Misfits.{Test, integer_misfit}
 use Rattle.upon_functions.specs.Integers.{i64_range, u8_range}
 use Rattle.upon_functions.specs.Outcome.{Outcome}
 use Rattle.upon_meaning.proofs.Computing.{computing}

@@ -4,6 +4,7 @@ pub mod Totality
 pub mod RawText
 pub mod Spans
 pub mod OneCut
+pub mod SameDelimiters
 pub mod OneFirstFault
 pub mod SpansLieIn
 pub mod OneTree

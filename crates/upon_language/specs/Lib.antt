@@ -1,4 +1,5 @@
 pub mod Search
+pub mod SameDelimiters
 pub mod Delimiters
 pub mod DefaultDelimiters
 pub mod Raw

@@ -3,7 +3,6 @@ pub mod Syntax
 pub mod SetTexts
 pub mod TagTexts
 pub mod Builder
-pub mod SyntaxEquality
 pub mod Searcher
 pub mod Class
 pub mod Roles

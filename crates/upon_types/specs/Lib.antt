@@ -9,9 +9,9 @@ pub mod View
 pub mod Events
 pub mod Truth
 pub mod Same
-pub mod ValueEquality
 pub mod Conversions
 pub mod Answers
+pub mod Misfits
 pub mod Cow
 pub mod Token
 pub mod Path

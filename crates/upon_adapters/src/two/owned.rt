@@ -1,7 +1,7 @@
 // Functions of callables of two arguments, the first owned and the second lent.
 ghost use Rattle.std.specs.Prelude.{◌≡◌, ◌∷◌, [], List};
 ghost use Rattle.upon_adapters.specs.Adapters.{adapter_answer};
-ghost use Rattle.upon_functions.specs.Arguments.{str_misfit, any_misfit};
+ghost use Rattle.upon_types.specs.Misfits.{str_misfit, any_misfit};
 ghost use Rattle.upon_functions.specs.Outcome.{Outcome, Gives};
 ghost use Rattle.upon_types.specs.Val.{Val, text_val};
 ghost use Rattle.upon_types.specs.View.{view};

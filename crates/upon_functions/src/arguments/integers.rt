@@ -1,7 +1,7 @@
 // Integer arguments: each takes an integer in its type's range.
 ghost use Rattle.std.specs.Prelude.{pos};
-ghost use Rattle.upon_functions.specs.Arguments.{integer_misfit};
-ghost use Rattle.upon_functions.specs.Fair.{integer_misfit-fair};
+ghost use Rattle.upon_types.specs.Misfits.{integer_misfit};
+ghost use Rattle.upon_types.proofs.FairMisfits.{integer_misfit-fair};
 ghost use Rattle.upon_functions.specs.Integers.{u8_range, u16_range, u32_range, u64_range, u128_range, usize_range, i8_range, i16_range, i32_range, i64_range, i128_range, isize_range};
 ghost use Rattle.upon_types.specs.Val.{int_val};
 

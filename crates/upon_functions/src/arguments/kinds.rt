@@ -1,7 +1,7 @@
 // Arguments that own one kind of value, and values of any kind. A text, a list, a map and a value are copies.
 ghost use Rattle.std.specs.Prelude.{string_bytes};
-ghost use Rattle.upon_functions.specs.Arguments.{unit_misfit, bool_misfit, string_misfit, list_misfit, map_misfit, any_misfit};
-ghost use Rattle.upon_functions.specs.Fair.{unit_misfit-fair, bool_misfit-fair, string_misfit-fair, list_misfit-fair, map_misfit-fair};
+ghost use Rattle.upon_types.specs.Misfits.{unit_misfit, bool_misfit, string_misfit, list_misfit, map_misfit, any_misfit};
+ghost use Rattle.upon_types.proofs.FairMisfits.{unit_misfit-fair, bool_misfit-fair, string_misfit-fair, list_misfit-fair, map_misfit-fair};
 ghost use Rattle.upon_types.specs.Val.{none_val, bool_val, text_val, list_val, map_val};
 ghost use Rattle.upon_types.specs.View.{view, vals_view, entries_view};
 

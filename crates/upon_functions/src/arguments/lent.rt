@@ -1,5 +1,5 @@
 // Arguments that are lent: a text, a list or a map inside a value. Nothing is copied, so no memory is taken.
-ghost use Rattle.upon_functions.specs.Arguments.{str_misfit, list_misfit, map_misfit};
+ghost use Rattle.upon_types.specs.Misfits.{str_misfit, list_misfit, map_misfit};
 ghost use Rattle.upon_functions.specs.Says.{Lends};
 ghost use Rattle.upon_types.specs.Val.{text_val, list_val, map_val};
 ghost use Rattle.upon_types.specs.View.{view, vals_view, entries_view};

@@ -1,10 +1,10 @@
 // When two values are the same: where they denote one value. A map is known by what is at each key.
 ghost use Rattle.std.specs.Prelude.{◌≡◌, ◌↔◌, ℕ, List, true, IsTrue, length};
 ghost use Rattle.std.specs.BTreeMap.{btree_map_len};
-ghost use Rattle.std.specs.Cmp.{partial_equiv_from_equiv, on_equiv};
+ghost use Rattle.std.specs.Cmp.{partial_equiv_from_equiv, on_equiv, decided};
 ghost use Rattle.std.specs.Ordering.{on};
-ghost use Rattle.upon_types.specs.Same.{val_eq, vals_eq, entries_eq};
-ghost use Rattle.upon_types.specs.ValueEquality.{val_eq-IsEquivalence};
+ghost use Rattle.std.proofs.Math.Bool.{decide_iff};
+ghost use Rattle.upon_types.specs.Same.{one_or_two, val_eq, val_agrees, vals_agree, entries_agree};
 ghost use Rattle.upon_types.specs.Val.{Val, Entries, entry_at, rises};
 ghost use Rattle.upon_types.specs.View.{view, vals_view, entries_view};
 
@@ -14,7 +14,7 @@ use std::collections::BTreeMap;
 impl PartialEq for Value {
     ghost eq = { on view val_eq };
 
-    ghost laws = { partial_equiv_from_equiv (on_equiv view val_eq-IsEquivalence) };
+    ghost laws = { partial_equiv_from_equiv (on_equiv view (decided val_eq (λ v w. decide_iff (one_or_two v w)))) };
 
     fn eq(&self, other: &Value) -> bool {
         same(self, other)
@@ -22,12 +22,12 @@ impl PartialEq for Value {
 }
 
 impl Eq for Value {
-    ghost laws = { on_equiv view val_eq-IsEquivalence };
+    ghost laws = { on_equiv view (decided val_eq (λ v w. decide_iff (one_or_two v w))) };
 }
 
 #[cycle(same)]
 fn same(a: &Value, b: &Value) -> bool
-    ensures { result ≡ val_eq (view a.now) (view b.now) }
+    ensures { result ≡ val_agrees (view a.now) (view b.now) }
 {
     match (a, b) {
         (Value::None, Value::None) => true,
@@ -45,7 +45,7 @@ fn same(a: &Value, b: &Value) -> bool
 #[cycle(same)]
 fn same_items(a: &[Value], b: &[Value]) -> bool
     requires { length a.now ≡ length b.now }
-    ensures { result ≡ vals_eq (vals_view a.now) (vals_view b.now) }
+    ensures { result ≡ vals_agree (vals_view a.now) (vals_view b.now) }
 {
     for (x, y) in a.iter().zip(b.iter()) {
         if !same(x, y) {
@@ -58,7 +58,7 @@ fn same_items(a: &[Value], b: &[Value]) -> bool
 #[cycle(same)]
 fn same_entries(a: &BTreeMap<String, Value>, b: &BTreeMap<String, Value>) -> bool
     requires { btree_map_len a.now ≡ btree_map_len b.now }
-    ensures { result ≡ entries_eq (entries_view a.now.entries) (entries_view b.now.entries) }
+    ensures { result ≡ entries_agree (entries_view a.now.entries) (entries_view b.now.entries) }
 {
     for ((k, x), (l, y)) in a.iter().zip(b.iter()) {
         if k != l || !same(x, y) {
@@ -93,6 +93,7 @@ pub fn laws_of_equality()
     ensures symmetric { (v w : Val) → val_eq v w ≡ true → val_eq w v ≡ true }
     ensures transitive { (u v w : Val) → val_eq u v ≡ true → val_eq v w ≡ true → val_eq u w ≡ true }
     ensures one_value { (v w : Val) → ((val_eq v w ≡ true) ↔ (v ≡ w)) }
+    ensures part_by_part { (v w : Val) → val_agrees v w ≡ val_eq v w }
 {}
 
 /// Nothing runs here: maps whose keys ascend are one map where the same value is at each key.

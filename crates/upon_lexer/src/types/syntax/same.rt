@@ -1,17 +1,18 @@
 // When two syntaxes are the same: where they have the same list of delimiters.
 ghost use Rattle.std.specs.Prelude.{◌≡◌, ◌<◌, ◌↔◌, IsTrue, length};
-ghost use Rattle.std.specs.Cmp.{partial_equiv_from_equiv, on_equiv};
+ghost use Rattle.std.specs.Cmp.{partial_equiv_from_equiv, on_equiv, decided};
 ghost use Rattle.std.specs.Ordering.{on};
+ghost use Rattle.upon_language.specs.SameDelimiters.{delimiters_eq};
 ghost use Rattle.upon_language.specs.Search.{kind_at, text_at};
+ghost use Rattle.upon_language.proofs.SameDelimiters.{delimiters_eq-Decides};
 ghost use Rattle.upon_lexer.specs.Syntax.{syntax_delimiters};
-ghost use Rattle.upon_lexer.specs.SyntaxEquality.{delimiters_eq, delimiters_eq-IsEquivalence};
 
 use super::Syntax;
 
 impl PartialEq for Syntax {
     ghost eq = { on syntax_delimiters delimiters_eq };
 
-    ghost laws = { partial_equiv_from_equiv (on_equiv syntax_delimiters delimiters_eq-IsEquivalence) };
+    ghost laws = { partial_equiv_from_equiv (on_equiv syntax_delimiters (decided delimiters_eq delimiters_eq-Decides)) };
 
     fn eq(&self, other: &Syntax) -> bool {
         is_same(self, other)
@@ -19,7 +20,7 @@ impl PartialEq for Syntax {
 }
 
 impl Eq for Syntax {
-    ghost laws = { on_equiv syntax_delimiters delimiters_eq-IsEquivalence };
+    ghost laws = { on_equiv syntax_delimiters (decided delimiters_eq delimiters_eq-Decides) };
 }
 
 /// Whether the two have the same delimiters in the same order, as `==` says.

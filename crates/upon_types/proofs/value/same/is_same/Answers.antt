@@ -1,5 +1,5 @@
 use Rattle.std.proofs.Common.{◌∙◌, sym}
-use Rattle.upon_types.specs.ValueEquality.{val_eq-Decides}
+use Rattle.upon_types.proofs.ValueEquality.{val_eq-Decides}
 use Rattle.upon_types.specs.View.{view}
 use Rattle.upon_types.proofs.value.same.is_same.Goals as goal
 

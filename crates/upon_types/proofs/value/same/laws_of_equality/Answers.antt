@@ -1,11 +1,15 @@
 use Rattle.std.proofs.Common.{◌∙◌}
-use Rattle.upon_types.specs.ValueEquality.{val_eq-Decides, val_eq-IsEquivalence}
+use Rattle.std.specs.Cmp.{IsEquivalence, decided}
+use Rattle.upon_types.specs.Same.{val_eq}
+use Rattle.upon_types.proofs.ValueEquality.{val_eq-Decides, part_by_part}
 use Rattle.upon_types.proofs.value.same.laws_of_equality.Goals as goal
 
 pub returns : goal.returns
-returns c = record {
-  reflexive = val_eq-IsEquivalence.refl;
-  symmetric = λ v w h. val_eq-IsEquivalence.symm w v ∙ h;
-  transitive = λ u v w h k. val_eq-IsEquivalence.congr u v w h ∙ k;
-  one_value = val_eq-Decides;
-}
+returns c =
+    let laws : IsEquivalence val_eq = decided val_eq val_eq-Decides in record {
+      reflexive = laws.refl;
+      symmetric = λ v w h. laws.symm w v ∙ h;
+      transitive = λ u v w h k. laws.congr u v w h ∙ k;
+      one_value = val_eq-Decides;
+      part_by_part = part_by_part;
+    }

@@ -1,6 +1,6 @@
--- Every test of an argument is fair: only an integer is out of range. Laws of traits cite these, and can cite `specs` alone.
+-- Every test of an argument is fair: only an integer is out of range.
 use Rattle.std.specs.Prelude.{Bool, true, false, int_le, ◌&&◌, Some, None, if◌then◌else◌}
-use Rattle.upon_functions.specs.Arguments.{Range, IsFair, integer_misfit, unit_misfit, bool_misfit, string_misfit, list_misfit, map_misfit}
+use Rattle.upon_types.specs.Misfits.{Range, IsFair, integer_misfit, unit_misfit, bool_misfit, string_misfit, list_misfit, map_misfit}
 use Rattle.upon_types.specs.Answers.{out_of_range}
 use Rattle.upon_types.specs.Val.{Val, none_val, bool_val, int_val, text_val, list_val, map_val}
 
