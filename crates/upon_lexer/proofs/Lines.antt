@@ -1,13 +1,10 @@
 -- Where a line ends: at the first byte after a span that ends one.
-use Rattle.std.proofs.Common.{◌≡◌, ℕ, ◌+◌, ◌-◌, ◌<◌, ◌≤◌, inl, inr, Bool, true, false, List, length, drop, get_or, get_or-drop, length-drop, arith, refl, sym, ap, ◌∙◌}
+use Rattle.std.proofs.Common.{◌≡◌, ℕ, ◌+◌, ◌-◌, ◌<◌, ◌≤◌, inl, inr, false, List, length, drop, get_or, get_or-drop, length-drop, arith, refl, sym, ap, ◌∙◌}
+use Rattle.std.proofs.lemmas.Bool.{false_from_ne_true}
 use Rattle.std.specs.Prelude.{slice_index}
 use Rattle.memchr.specs.Find.{Passes, NoneBefore, Nowhere, is_byte2}
 use Rattle.upon_language.specs.Inside.{ends_line}
 use Rattle.upon_language.specs.Faults.{LineEnds}
-
-fails : (b : Bool) → (b ≡ true → ⊥) → b ≡ false
-fails true h = absurd (h refl)
-fails false h = refl
 
 -- a search of the rest of the text for a byte that ends a line
 module _ (s rest : List ℕ) (at : ℕ) (within : at ≤ length s) (is : rest ≡ drop at s) where
@@ -22,7 +19,7 @@ module _ (s rest : List ℕ) (at : ℕ) (within : at ≤ length s) (is : rest �
       let place : at + (q - at) ≡ q = omega arith in
       ap (λ i. ends_line (slice_index s i)) (sym place)
       ∙ ap ends_line (sym (at_rest (q - at)))
-      ∙ fails (ends_line (slice_index rest (q - at))) (h (q - at) (omega arith) (omega arith))
+      ∙ false_from_ne_true (ends_line (slice_index rest (q - at))) (h (q - at) (omega arith) (omega arith))
 
   pub line_found : (k : ℕ) → NoneBefore (Passes (is_byte2 10 13) rest) 0 (length rest) k → Passes (is_byte2 10 13) rest k → LineEnds s at (at + k)
   line_found k h passes =

@@ -1,6 +1,7 @@
 -- No whitespace follows whitespace: its run has gone as far as it goes.
 use Rattle.std.proofs.Common.{◌≡◌, ℕ, ◌<◌, arith, IfOk, IfSome, List, [], ◌∷◌, ◌++◌, Bool, true, false, Some, None, Ok, Err, Option, Result, inl, inr, refl, sym, ap, ◌∙◌, subst}
 use Rattle.std.proofs.lemmas.List.{append-nil}
+use Rattle.std.proofs.lemmas.Bool.{false_from_ne_true}
 use Rattle.upon_types.specs.declared.types.Span.{Span}
 use Rattle.upon_types.specs.declared.types.token.Token.{Token}
 use Rattle.upon_types.specs.declared.types.token.Token.TheVariants.{Whitespace}
@@ -63,13 +64,9 @@ module _ (delimiters : List DelimiterText) (s : List ℕ) where
       (subst H first.to (space_run first.before a.hyphen first.from a.span.n (subst F (is_whitespace a.token spaced) first.step)))
       (space_run second.before b.hyphen second.from b.span.n (subst G (is_whitespace b.token spaced') second.step))
 
-  no_space : (b : Bool) → (b ≡ true → ⊥) → b ≡ false
-  no_space true h = absurd (h refl)
-  no_space false h = refl
-
   -- what is given after whitespace is none
   pub no_space_behind : (behind : LexerState) (ls : List Lexeme) (a : Lexeme) (result : Result (Option (Token × Span)) Error) (after : LexerState) → is_space a.token ≡ true → Lexes delimiters s behind (ls ++ a ∷ []) result after → IsNoSpace result
-  no_space_behind behind ls a (Ok (Some given)) after spaced h = no_space (is_space given.0) (λ e. no_two_spaces after ls a h.0 spaced (ap is_space h.1 ∙ e) h.3)
+  no_space_behind behind ls a (Ok (Some given)) after spaced h = false_from_ne_true (is_space given.0) (λ e. no_two_spaces after ls a h.0 spaced (ap is_space h.1 ∙ e) h.3)
   no_space_behind behind ls a (Ok None) after spaced h = tt
   no_space_behind behind ls a (Err e) after spaced h = tt
 

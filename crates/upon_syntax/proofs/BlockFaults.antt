@@ -1,11 +1,9 @@
 -- The faults of blocks, and that the span of a first fault lies in the text.
 use Rattle.std.proofs.Common.{◌≡◌, ℕ, List, [], ◌∷◌, ◌++◌, length, Some, None, refl, ap, ◌∙◌, codes}
 use Rattle.std.specs.Str.{IsUtf8}
-use Rattle.std.proofs.Math.Logic.{∥∥₁_map}
-use Rattle.std.proofs.lemmas.Str.{IsUtf8-had}
 use Rattle.upon_types.specs.declared.types.Span.{Span}
 use Rattle.upon_types.specs.Span.{LiesIn}
-use Rattle.upon_language.specs.Search.{DelimiterText, HasTexts, text_at}
+use Rattle.upon_language.specs.Search.{DelimiterText, HasTexts}
 use Rattle.upon_language.specs.LiesIn.{HasUtf8}
 use Rattle.upon_language.specs.Cut.{Lexeme, outside}
 use Rattle.upon_language.specs.Blocks.{OpenBlock, outermost, block_word}
@@ -13,13 +11,10 @@ use Rattle.upon_language.specs.FirstFault.{IsFirstFault}
 use Rattle.upon_language.specs.Lexing.{LexerState}
 use Rattle.upon_language.specs.Wanted.{in_quotes}
 use Rattle.upon_language.proofs.Spans.FirstFault.{fault_lies_in}
+use Rattle.upon_language.proofs.SpansLieIn.Characters.{had_utf8}
 use Rattle.upon_language.proofs.Totality.Stage.{unclosed_is_first}
 use Rattle.upon_syntax.specs.PieceReading.{BetweenPieces}
 use Rattle.upon_syntax.proofs.NextTokens.{reads_in, stage_of}
-
--- what a searcher keeps of its delimiters
-pub had_utf8 : (delimiters : List DelimiterText) → ∥ HasUtf8 delimiters ∥₁ → HasUtf8 delimiters
-had_utf8 delimiters h = λ i below. IsUtf8-had (text_at delimiters i) (∥∥₁_map h (λ each. each i below))
 
 pub first_lies_in : (delimiters : List DelimiterText) (s : List ℕ) (span : Span) (reason : List ℕ) → HasTexts delimiters → ∥ HasUtf8 delimiters ∥₁ → IsUtf8 s → IsFirstFault delimiters s span reason → LiesIn s span
 first_lies_in delimiters s span reason texts utf8 text f = fault_lies_in delimiters s texts (had_utf8 delimiters utf8) text f.fault f.point span reason f.holds

@@ -1,21 +1,18 @@
 -- A whole tag of a block, by its tokens: what it does to the open blocks, and which closing tag it is.
-use Rattle.std.proofs.Common.{◌≡◌, ℕ, List, [], ◌∷◌, ◌++◌, true, false, Option, Some, None, refl, sym, ap, ◌∙◌, subst, codes}
+use Rattle.std.proofs.Common.{◌≡◌, ℕ, List, [], ◌∷◌, ◌++◌, true, Option, Some, None, refl, sym, ap, ◌∙◌, subst, codes}
 use Rattle.upon_types.specs.declared.types.Span.{Span}
 use Rattle.upon_types.specs.declared.types.token.Token.{Token}
-use Rattle.upon_types.specs.declared.types.token.Token.TheVariants.{BeginBlock, EndBlock, Keyword}
+use Rattle.upon_types.specs.declared.types.token.Token.TheVariants.{EndBlock, Keyword}
 use Rattle.upon_language.specs.Cut.{Lexeme}
 use Rattle.upon_language.specs.Tokens.{from_to}
 use Rattle.upon_language.specs.Grammar.{BeginsBlock}
 use Rattle.upon_language.specs.Blocks.{Block, if_block, for_block, with_block, OpenBlock, Closer, else_if, plain_else, end_if, end_for, end_with, else_by, closer_by, closer_of, end_from, by_word, takes, after_closer}
 use Rattle.upon_language.proofs.NoTreeWithFault.InsideTag.{is_inside, EachInside}
 use Rattle.upon_language.proofs.NoTreeWithFault.TagBlocks.{begins_block, Closing, Walks, walks_then, walks_plain, walks_begin, else_at}
+use Rattle.upon_language.proofs.NoTreeWithFault.ReadBefore.{inside_begins_nothing}
 use Rattle.upon_language.proofs.Totality.OpenBlocks.{closer_is}
 use Rattle.upon_syntax.specs.OpenBlocks.{new_block, closed_by, after_tag, IsTaken}
 use Rattle.upon_tags.specs.BlockTags.{BlockTag, if_tag, else_if_tag, else_tag, endif_tag, for_tag, endfor_tag, with_tag, endwith_tag, include_tag, IsBlockTag}
-
-inside_no_block : (t : Token) → is_inside t ≡ true → begins_block t ≡ false
-inside_no_block BeginBlock h = absurd cc
-inside_no_block t h = refl
 
 inside_no_end : (t : Token) (a b : Span) → is_inside t ≡ true → (elim t as (λ _. Span) [ EndBlock ↦ a | _ ↦ b ]) ≡ b
 inside_no_end EndBlock a b h = absurd cc
@@ -31,7 +28,7 @@ module _ (s : List ℕ) (l end : Lexeme) (w : List Lexeme) (each : EachInside w)
 
   walks_rest : (b : List OpenBlock) (v : List Lexeme) → EachInside v → Walks s b (v ++ end ∷ []) b []
   walks_rest b [] inside = walks_plain s b end [] (ap begins_block is_end)
-  walks_rest b (x ∷ v) inside = walks_then s b b b (x ∷ (v ++ end ∷ [])) (v ++ end ∷ []) [] (walks_plain s b x (v ++ end ∷ []) (inside_no_block x.token inside.0)) (walks_rest b v inside.1)
+  walks_rest b (x ∷ v) inside = walks_then s b b b (x ∷ (v ++ end ∷ [])) (v ++ end ∷ []) [] (walks_plain s b x (v ++ end ∷ []) (inside_begins_nothing x.token inside.0)) (walks_rest b v inside.1)
 
   -- after the keyword the tokens inside go on up to the end
   tail_of : (v : List Lexeme) (k : Lexeme) (rest : List Lexeme) → EachInside v → k.token ≡ Keyword → v ++ end ∷ [] ≡ k ∷ rest → (v' : List Lexeme) × EachInside v' × (v' ++ end ∷ [] ≡ rest)

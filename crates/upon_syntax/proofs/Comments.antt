@@ -1,12 +1,11 @@
 -- Comments: how a reader goes over one, and the faults that it can meet there.
-use Rattle.std.proofs.Common.{◌≡◌, inl, inr, ℕ, List, [], ◌∷◌, ◌++◌, length, Bool, true, false, Some, refl, sym, ap, ◌∙◌, subst, codes}
+use Rattle.std.proofs.Common.{◌≡◌, inl, inr, ℕ, List, [], ◌∷◌, ◌++◌, length, Bool, true, Some, refl, sym, ap, ◌∙◌, subst, codes}
 use Rattle.upon_types.specs.declared.types.Span.{Span}
 use Rattle.upon_types.specs.declared.types.token.Token.{Token}
 use Rattle.upon_types.specs.declared.types.token.Token.TheVariants.{Raw, BeginComment, EndComment}
 use Rattle.upon_language.specs.Search.{DelimiterText, HasTexts}
-use Rattle.upon_language.specs.Delimiters.{comment}
 use Rattle.upon_language.specs.Raw.{IsRaw}
-use Rattle.upon_language.specs.Cut.{Lexeme, Mode, outside, in_comment, IsToken, Ends, mode_after}
+use Rattle.upon_language.specs.Cut.{Lexeme, Mode, outside, in_comment, IsToken, mode_after}
 use Rattle.upon_language.specs.Blocks.{OpenBlock}
 use Rattle.upon_language.specs.Faults.{span_of}
 use Rattle.upon_language.specs.FirstFault.{IsFirstFault}
@@ -15,16 +14,13 @@ use Rattle.upon_language.specs.Lexing.{LexerState, HasRead, IsGiven}
 use Rattle.upon_language.specs.Reading.{last_of}
 use Rattle.upon_language.specs.Wanted.{expected_found}
 use Rattle.upon_language.proofs.NoTreeWithFault.InsideTag.{raw_then_raw}
-use Rattle.upon_language.proofs.OneCut.Token.{one_step}
+use Rattle.upon_language.proofs.OneCut.Token.{raw_is_no_end}
 use Rattle.upon_language.proofs.Totality.InsideClear.{last_more}
 use Rattle.upon_language.proofs.Totality.Stage.{outside_is_clear, comment_is_clear, empty_is_first, comment_eof_is_first}
 use Rattle.upon_syntax.specs.PieceReading.{ReadTo, TokenGiven, token_lexeme, AfterCommentBegin, AfterCommentRaw, PassesEnd}
 use Rattle.upon_syntax.proofs.NextTokens.{reads_in, stage_of, Step, step_of, read_on, below_end}
 
 module _ (delimiters : List DelimiterText) (s : List ℕ) (texts : HasTexts delimiters) where
-  raw_no_end : (q n k : ℕ) (hyphen : Bool) → IsRaw delimiters s q n → Ends delimiters s comment hyphen q k → ⊥
-  raw_no_end q n k hyphen is ends = let same = (one_step delimiters s in_comment Raw EndComment false hyphen q n k (inl (refl, refl, is)) (inr (refl, ends))).0 in cc
-
   -- its begin
   pub comment_begins : (before after : LexerState) (stack : List OpenBlock) (ls : List Lexeme) (span : Span) (x : TokenGiven delimiters s before after stack ls BeginComment span) → AfterCommentBegin delimiters s after (ls ++ token_lexeme BeginComment x.hyphen x.at ∷ [])
   comment_begins before after stack ls span x =
@@ -48,7 +44,7 @@ module _ (delimiters : List DelimiterText) (s : List ℕ) (texts : HasTexts deli
         by_step (inr end) = absurd (other end.0)
         by_step (inl raw) =
             let below = below_end delimiters s texts before after in_comment ls l b.read_to h in
-            let none = comment_is_clear delimiters s texts ls in_comment before.offset (stage_of delimiters s before in_comment ls b.read_to) refl below.1 (λ e hyphen to ends. raw_no_end before.offset l.span.n to hyphen raw.2 ends) in
+            let none = comment_is_clear delimiters s texts ls in_comment before.offset (stage_of delimiters s before in_comment ls b.read_to) refl below.1 (λ e hyphen to ends. raw_is_no_end delimiters s before.offset l.span.n to hyphen raw.2 ends) in
             let F : Mode → Type 0 = λ m. ReadTo delimiters s after m (ls ++ l ∷ []) in
             let G : ℕ → Type 0 = λ n. IsRaw delimiters s before.offset n in (
               raw.0,

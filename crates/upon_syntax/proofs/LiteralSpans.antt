@@ -18,6 +18,7 @@ use Rattle.upon_language.specs.LaterFaults.{Report, minus_before, start_from, nu
 use Rattle.upon_language.proofs.NoTreeWithFault.LiteralValue.{integer_no_fault}
 use Rattle.upon_language.proofs.Totality.LiteralValues.{ascii_digits}
 use Rattle.upon_language.proofs.Spans.Literals.{number_between, digit_in_number}
+use Rattle.upon_language.proofs.Spans.FirstFault.{told_place}
 use Rattle.upon_syntax.specs.TagEnds.{SignLies}
 
 -- a number that denotes an integer has no report
@@ -48,9 +49,6 @@ start_lies s p (Some l) h b = by_token l.token h
     by_token Plus h = let x = h refl in (omega (arith, x.0.ordered, x.1), x.0.start)
     by_token t h = (omega arith, b)
 
-same_span : (a b : Report) → Some a ≡ Some b → a.span ≡ b.span
-same_span a b e = let same : a ≡ b = cc in ap (λ (x : Report). x.span) same
-
 -- what is reported of a number lies in the text
 pub number_lies : (s : List ℕ) (before : Option Lexeme) (at : Span) (report : Report) → LiesIn s at → IsRun continues_number s at.m at.n → SignLies s before at.m → number_report (slice s at) before at.m at.n ≡ Some report → LiesIn s report.span
 number_lies s before at report lies run sign e = by_float (is_float (slice s at)) e
@@ -68,7 +66,7 @@ number_lies s before at report lies run sign e = by_float (is_float (slice s at)
     whole = record { ordered = omega (arith, start.0, lies.ordered); start = start.1; end = lies.end }
 
     placed : (found : Report) → LiesIn s found.span → Some found ≡ Some report → LiesIn s report.span
-    placed found h k = subst (LiesIn s) (same_span found report k) h
+    placed found h k = subst (LiesIn s) (told_place found report k) h
 
     digit : (i : ℕ) → i < length (slice s at) → LiesIn s (span_of (p + i) (p + i + 1))
     digit i l =

@@ -1,6 +1,5 @@
 -- The tokens inside a tag that was read: which fault is the first where they go no further, and the whole tag.
-use Rattle.std.proofs.Common.{◌≡◌, inr, ℕ, ◌+◌, List, [], ◌∷◌, ◌++◌, length, Bool, true, false, Option, Some, None, refl, sym, ap, ◌∙◌, subst, arith, append_assoc, codes, if◌then◌else◌}
-use Rattle.std.proofs.lemmas.List.{append-nil}
+use Rattle.std.proofs.Common.{◌≡◌, inr, ℕ, ◌+◌, List, [], ◌∷◌, ◌++◌, length, Bool, true, false, Option, Some, None, refl, sym, ap, ◌∙◌, subst, arith, codes, if◌then◌else◌}
 use Rattle.upon_types.specs.declared.types.Span.{Span}
 use Rattle.upon_types.specs.declared.types.token.Token.{Token}
 use Rattle.upon_types.specs.declared.types.token.Token.TheVariants.{Index, Number, String}
@@ -20,9 +19,10 @@ use Rattle.upon_language.specs.Lexing.{LexerState}
 use Rattle.upon_language.specs.Parts.{Part, tag_start, after_symbol, Path, wanted_at}
 use Rattle.upon_language.specs.Wanted.{Wanted, reason_for, wanted_at_end, expected_found}
 use Rattle.upon_language.proofs.NoTreeWithFault.FineAt.{last_or}
-use Rattle.upon_language.proofs.NoTreeWithFault.InsideTag.{EachInside, inside_is_no_begin, inside_stays, other_step, no_space_step, spaces_append}
+use Rattle.upon_language.proofs.NoTreeWithFault.InsideTag.{EachInside, inside_stays, no_space_step, spaces_append}
 use Rattle.upon_language.proofs.NoTreeWithFault.NextToken.{begin_is_no_space}
 use Rattle.upon_language.proofs.NoTreeWithFault.SplitInTag.{last_is}
+use Rattle.upon_language.proofs.NoTreeWithFault.BeforeTag.{inner_from}
 use Rattle.upon_language.proofs.OneCut.Cut.{cut_ends}
 use Rattle.upon_language.proofs.OneCut.Token.{step_ends}
 use Rattle.upon_language.proofs.Totality.FittingClears.{StandsAt, AllClear, stuck_end}
@@ -69,12 +69,8 @@ each_after s sort begin [] e each = tt
 each_after s sort begin (l ∷ ls) e each = (record { inside = each.0.inside; lies = each.0.lies; quoted = each.0.quoted; digits = each.0.digits; fine = (fine_after s sort begin (l ∷ ls) e each).0 }, each.1)
 
 -- the open tag goes on with the tokens inside it
-from_more : (acc ms : List Lexeme) → EachInside ms → from_begin acc ms ≡ acc ++ ms
-from_more acc [] h = sym (append-nil acc)
-from_more acc (m ∷ ms) h = other_step acc m ms (inside_is_no_begin m.token h.0) ∙ from_more (acc ++ m ∷ []) ms h.1 ∙ append_assoc acc (m ∷ []) ms
-
 pub from_all : (acc ks ms : List Lexeme) → EachInside ms → from_begin acc (ks ++ ms) ≡ from_begin acc ks ++ ms
-from_all acc [] ms h = from_more acc ms h
+from_all acc [] ms h = inner_from acc ms h
 from_all acc (k ∷ ks) ms h = by_begin (opens_tag k.token) (λ x. from_all x ks ms h)
   where
     by_begin : (b : Bool) → ((x : List Lexeme) → from_begin x (ks ++ ms) ≡ from_begin x ks ++ ms) → (if b then from_begin (k ∷ []) (ks ++ ms) else from_begin (acc ++ k ∷ []) (ks ++ ms)) ≡ (if b then from_begin (k ∷ []) ks else from_begin (acc ++ k ∷ []) ks) ++ ms

@@ -18,7 +18,7 @@ use Rattle.upon_language.specs.Reading.{opens_tag, open_tag, first_span, before_
 use Rattle.upon_language.specs.Shown.{shown_lexemes, is_end}
 use Rattle.upon_language.specs.Tokens.{is_raw, begins_comment, without_spaces, significant}
 use Rattle.upon_language.specs.Wanted.{in_quotes}
-use Rattle.upon_language.proofs.NoTreeWithFault.BeforeTag.{open_tag_is, before_tag_is}
+use Rattle.upon_language.proofs.NoTreeWithFault.BeforeTag.{open_tag_more, before_tag_more}
 use Rattle.upon_language.proofs.NoTreeWithFault.FineExpression.{passes_expression}
 use Rattle.upon_language.proofs.NoTreeWithFault.InsideTag.{EachInside, end_is_no_comment, end_is_no_space, end_leaves, kept}
 use Rattle.upon_language.proofs.NoTreeWithFault.TagBlocks.{Walks, walks_inline}
@@ -75,13 +75,13 @@ module _ (delimiters : List DelimiterText) (s : List ℕ) (texts : HasTexts deli
 
     module _ (opens : opens_tag (begin_token sort) ≡ true) (no_raw : is_raw (begin_token sort) ≡ false) (no_comment : begins_comment (begin_token sort) ≡ false) where
       tokens_are : tag_tokens so_far ≡ without_spaces (l ∷ inner)
-      tokens_are = ap without_spaces (ap open_tag so_far_is ∙ open_tag_is ls l inner opens each)
+      tokens_are = ap without_spaces (open_tag_more ls l inner opens each)
 
       before_is : before_tag so_far ≡ ls
-      before_is = ap before_tag so_far_is ∙ before_tag_is ls l inner opens each
+      before_is = before_tag_more ls l inner opens each
 
       begin_is : e.tag.begin ≡ l.span
-      begin_is = let a : first_span (open_tag so_far) ≡ Some l.span = ap first_span (ap open_tag so_far_is ∙ open_tag_is ls l inner opens each) in let b = e.tag.opening in cc
+      begin_is = let a : first_span (open_tag so_far) ≡ Some l.span = ap first_span (open_tag_more ls l inner opens each) in let b = e.tag.opening in cc
 
       plain : Plain (l ∷ inner)
       plain = (no_raw, no_comment, plain_inside inner each)

@@ -21,7 +21,6 @@ use Rattle.upon_language.specs.LiteralFaults.{index_value}
 use Rattle.upon_language.specs.Faults.{span_of, lexeme_at}
 use Rattle.upon_language.specs.CutFaults.{ClearTo}
 use Rattle.upon_language.specs.FirstFault.{unclosed_bracket}
-use Rattle.upon_language.specs.LexStep.{Fits as BracketsFit}
 use Rattle.upon_language.specs.Lexing.{LexerState, HasRead}
 use Rattle.upon_language.specs.Parts.{Part, tag_start, after, after_symbol, Path}
 use Rattle.upon_language.proofs.NoTreeWithFault.FineAt.{last_or}
@@ -33,6 +32,7 @@ use Rattle.upon_language.proofs.OneCut.Token.{step_ends}
 use Rattle.upon_language.proofs.Totality.LiteralValues.{number_stands, text_stands}
 use Rattle.upon_language.proofs.Totality.TagTree.{StandsFor, EachStands}
 use Rattle.upon_language.proofs.Totality.WholeTag.{TagAt, EndsAt}
+use Rattle.upon_language.proofs.Totality.NextOrFault.{end_fits}
 use Rattle.upon_language.proofs.Wanted.Opened.{is_open, open_on}
 use Rattle.upon_lexer.specs.declared.compile.lex.Lexer.{Lexer}
 use Rattle.upon_lexer.specs.Lexers.{lexer_text, lexer_delimiters, lexer_state}
@@ -88,11 +88,6 @@ inside_left (l ∷ ls) h = by_space (is_space l.token) (inside_left ls h.1)
 pub still_open : (s : List ℕ) (ls : List Lexeme) (from to : List Part) → EachInside ls → is_open from ≡ true → Path from (symbols_of s ls) to → is_open to ≡ true
 still_open s [] from to h open_now leads = ap is_open (sym leads) ∙ open_now
 still_open s (l ∷ ls) from to h open_now (next, taken, leads) = still_open s ls next to h.1 (open_on from next l.token (key_of (word_of s l.token l.span)) open_now (inside_ends_nothing l.token h.0) taken) leads
-
-pub end_fits : (sort : Sort) (brackets : List Lexeme) → brackets ≡ [] → BracketsFit brackets (end_token sort)
-end_fits expression brackets e = e
-end_fits block brackets e = e
-end_fits comment brackets e = e
 
 module _ (delimiters : List DelimiterText) (s : List ℕ) (sort : Sort) (ls : List Lexeme) (from : List Part) (tokens : List Lexeme) (after_all : LexerState) (ended : Ended) (t : TagRead delimiters s sort ls from tokens after_all ended) (to : List Part) (leads : Path from (symbols_of s tokens) to) where
   abbrev here : ℕ

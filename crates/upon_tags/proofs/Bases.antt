@@ -16,9 +16,9 @@ use Rattle.upon_language.specs.Wanted.{Wanted}
 use Rattle.upon_language.specs.Parts.{Part, a_base, a_member, a_magnitude, after_name, filters, list_start, map_start, close_paren}
 use Rattle.upon_language.specs.PartTails.{no_tail, TakesBase}
 use Rattle.upon_language.specs.PartLeads.{Leads}
-use Rattle.upon_language.proofs.Wanted.ExpressionsLead.{leads_then, leads_token, leads_key}
+use Rattle.upon_language.proofs.Wanted.ExpressionsLead.{leads_then, leads_token, leads_key, op_takes}
 use Rattle.upon_tags.specs.TagParsing.{StuckAt, StartsBase, ReadsBase}
-use Rattle.upon_tags.proofs.Stuck.{stuck_then, op_takes}
+use Rattle.upon_tags.proofs.Stuck.{stuck_then}
 
 module _ (s : List ℕ) where
   -- the tokens are stuck, wherever a Base may start

@@ -12,9 +12,10 @@ use Rattle.upon_language.specs.Keys.{Key, key_of}
 use Rattle.upon_language.specs.Tags.{symbol_of}
 use Rattle.upon_language.specs.Parts.{Part, a_base, filters, filter_name, after_filter, more_args, close_paren, after}
 use Rattle.upon_language.specs.Wanted.{Wanted}
-use Rattle.upon_language.specs.PartTails.{No, Tail, tail_parts, no_tail, member_tail, name_tail}
+use Rattle.upon_language.specs.PartTails.{No, no_tail}
 use Rattle.upon_language.specs.PartLeads.{Leads}
 use Rattle.upon_language.proofs.Wanted.ExpressionsLead.{base_ending, name_ending, args_ending, ending_parts, leads_then, leads_nowhere, leads_token, by_ending, base_takes}
+use Rattle.upon_language.proofs.Wanted.TagsLead.{tail_joins}
 use Rattle.upon_tags.specs.declared.compile.parse.literal.Lexed.{Lexed}
 use Rattle.upon_tags.specs.declared.compile.parse.want.Want.{Want}
 use Rattle.upon_tags.specs.declared.compile.parse.want.Want.TheVariants.{Name as WantName, CloseParen as WantCloseParen}
@@ -24,11 +25,6 @@ use Rattle.upon_tags.specs.TagParsing.{Refuses, StuckAt, IsRefused, StartsBase, 
 use Rattle.upon_tags.proofs.Stuck.{is_not, stuck_then, refused_here}
 use Rattle.upon_tags.proofs.BaseStarts.{base_starts}
 use Rattle.upon_tags.proofs.Endings.{ending_refuses, ending_wants}
-
-tail_joins : (tail : Tail) (ps : List Part) → tail_parts tail ++ (more_args ∷ ps) ≡ (tail_parts tail ++ more_args ∷ []) ++ ps
-tail_joins no_tail ps = refl
-tail_joins member_tail ps = refl
-tail_joins name_tail ps = refl
 
 more_takes : (ps : List Part) → TakesComma (more_args ∷ ps)
 more_takes ps k = refl

@@ -12,9 +12,9 @@ use Rattle.upon_language.specs.Tokens.{GoesName}
 use Rattle.upon_language.specs.Expressions.{IsMember, AreMembers}
 use Rattle.upon_language.specs.Parts.{after_name}
 use Rattle.upon_language.specs.PartTails.{No, member_tail, name_tail}
-use Rattle.upon_language.proofs.Wanted.ExpressionsLead.{leads_then, leads_nowhere, leads_token, step_leads, steps_leads}
+use Rattle.upon_language.proofs.Wanted.ExpressionsLead.{leads_then, leads_nowhere, leads_token, step_leads, steps_leads, op_takes}
 use Rattle.upon_tags.specs.TagParsing.{ReadsBase, ReadsMembers}
-use Rattle.upon_tags.proofs.Stuck.{op_takes, name_op}
+use Rattle.upon_tags.proofs.Stuck.{name_op}
 
 -- the members of a path that begins with this one
 pub first_is : (xs : List AstMember) (some : 0 < length xs) (first : AstMember) (members : List AstMember) → xs ≡ first ∷ members → member_of (first_of xs some) ≡ member_of first

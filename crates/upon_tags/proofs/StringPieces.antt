@@ -1,12 +1,13 @@
 -- What is left of a string at an offset inside it: the pieces from there on, what is wrong with them, and what they say.
 use Rattle.std.proofs.Common.{◌≡◌, ℕ, ◌+◌, ◌<◌, List, [], ◌∷◌, ◌++◌, length, drop, Option, Some, None, encode_utf8, refl, sym, ap, ◌∙◌, subst, arith, append_assoc, length-append, length-drop}
-use Rattle.std.proofs.lemmas.List.{append-nil, drop-drop, drop_at}
+use Rattle.std.proofs.lemmas.List.{append-nil, drop-drop}
 use Rattle.std.proofs.lemmas.Str.{encode_same, encode_ascii}
 use Rattle.upon_language.specs.Search.{Occurs}
 use Rattle.upon_language.specs.Inside.{Piece, plain, escape, pieces_text, EachIsPiece, string_text, IsQuoted}
 use Rattle.upon_language.specs.Literal.{escape_value, join, text_of_pieces}
 use Rattle.upon_language.specs.LiteralFaults.{escape_fault}
 use Rattle.upon_language.proofs.SpansLieIn.Offsets.{drop-Occurs}
+use Rattle.upon_language.proofs.Spans.Literals.{rest_after}
 use Rattle.upon_language.proofs.OneCut.Run.{char_has_bytes}
 use Rattle.upon_language.proofs.OneCut.Quoted.{is_byte, quote_is_no_piece, backslash_is_no_piece, quote_is_no_backslash, reads}
 
@@ -34,9 +35,6 @@ left_at_start s P m n q h = record {
   reads = sym (drop-drop 1 m s) ∙ ap (λ (x : List ℕ). drop 1 x) (reads s m n q);
   holds = h;
 }
-
-rest_after : (s : List ℕ) (p : ℕ) (d rest : List ℕ) → drop p s ≡ d ++ rest → drop (p + length d) s ≡ rest
-rest_after s p d rest e = sym (drop-drop (length d) p s) ∙ ap (drop (length d)) e ∙ drop_at d rest (length d) refl
 
 low_first : (c b : ℕ) (xs ys : List ℕ) → b < 128 → b ∷ xs ≡ encode_utf8 c ++ ys → c ≡ b
 low_first c b xs ys low e = sym (is_byte b c xs ys low e)

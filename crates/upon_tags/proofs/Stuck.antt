@@ -1,7 +1,7 @@
 -- Where the tokens of a tag are stuck: at the first of them, or after what leads on; and errors that are handed on.
 use Rattle.std.proofs.Common.{◌≡◌, ℕ, List, [], ◌∷◌, ◌++◌, Bool, true, false, Some, None, refl, sym, ap, subst, ◌∙◌, Result, Ok, Err, IfOk}
 use Rattle.upon_types.specs.declared.types.token.Token.{Token}
-use Rattle.upon_types.specs.declared.types.token.Token.TheVariants.{Ident, Index, Number, Minus, Plus, Dot, QuestionDot}
+use Rattle.upon_types.specs.declared.types.token.Token.TheVariants.{Ident, Index, Number, Minus, Plus}
 use Rattle.upon_language.specs.Cut.{Lexeme}
 use Rattle.upon_language.specs.Wanted.{Wanted}
 use Rattle.upon_language.specs.Keys.{Key}
@@ -90,10 +90,6 @@ signed_stuck s from parts sign tokens rest w left takes (minus, is) e r =
     (magnitude_stuck s parts rest w left r)
 
 -- ---- paths
-pub op_takes : (from parts : List Part) → TakesBase from parts → (op : AccessOp) (k : Key) → after from (op_token op) k ≡ Some (a_member ∷ parts)
-op_takes from parts takes Direct k = takes Dot k
-op_takes from parts takes Optional k = takes QuestionDot k
-
 pub member_op : (parts : List Part) → TakesOp (after_member ∷ parts) parts
 member_op parts Direct k = refl
 member_op parts Optional k = refl

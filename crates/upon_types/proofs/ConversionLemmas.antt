@@ -3,6 +3,7 @@ use Rattle.std.proofs.Common.{◌≡◌, ℕ, List, [], ◌∷◌, ◌++◌, Boo
 use Rattle.std.proofs.lemmas.Map.Text.{btree_map_updates_text}
 use Rattle.std.specs.BTreeMap.{Updates, get_by_text}
 use Rattle.std.specs.Prelude.{bytes_eq, if◌then◌else◌}
+use Rattle.std.specs.Cmp.Lexicographic.{nat_list_eq_equiv}
 use Rattle.upon_types.specs.Conversions.{EachConverts, pairs_of, or_else, last_at}
 use Rattle.upon_types.specs.Val.{Val, entry_at}
 use Rattle.upon_types.specs.View.{view, entries_view}
@@ -32,7 +33,7 @@ or_else-assoc (Some x) b c = refl
 or_else-assoc None b c = refl
 
 abbrev at_pair : List ℕ → List ℕ × Val → Option Val
-at_pair key p = if bytes_eq p.0 key then Some p.1 else None
+at_pair key p = if bytes_eq key p.0 then Some p.1 else None
 
 pub last_at-append : (key : List ℕ) (ps : List (List ℕ × Val)) (p : List ℕ × Val) → last_at key (ps ++ p ∷ []) ≡ or_else (at_pair key p) (last_at key ps)
 last_at-append key [] p = or_else-none (at_pair key p)
@@ -49,6 +50,7 @@ entry_at-insert m n k v updates key =
     sym (view-lookup key n.entries)
     ∙ ap (option_map view) (btree_map_updates_text (string_bytes k) m n (Some v) updates key)
     ∙ put_or_kept (bytes_eq (string_bytes k) key) v (get_by_text m key)
+    ∙ ap (λ b. or_else (if b then Some (view v) else None) (option_map view (get_by_text m key))) (nat_list_eq_equiv.symm (string_bytes k) key)
     ∙ ap (or_else (at_pair key (string_bytes k, view v))) (view-lookup key m.entries)
 
 -- so the last of equal keys is, as one more entry is put

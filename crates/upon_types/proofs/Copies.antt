@@ -19,7 +19,7 @@ pub joined-none : (es : Entries) → joined es no_entries ≡ es
 joined-none no_entries = refl
 joined-none (entry_then k v es) = ap (entry_then k v) (joined-none es)
 
-is_less : (o : Ordering) → is_lt o ≡ true → o ≡ Less
+pub is_less : (o : Ordering) → is_lt o ≡ true → o ≡ Less
 is_less Less h = refl
 is_less Equal h = absurd cc
 is_less Greater h = absurd cc

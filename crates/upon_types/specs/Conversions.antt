@@ -30,7 +30,7 @@ or_else None other = other
 -- the last value that is paired with a key
 abbrev pub last_at : List ℕ → List (List ℕ × Val) → Option Val
 last_at key [] = None
-last_at key (p ∷ pairs) = or_else (last_at key pairs) (if bytes_eq p.0 key then Some p.1 else None)
+last_at key (p ∷ pairs) = or_else (last_at key pairs) (if bytes_eq key p.0 then Some p.1 else None)
 
 -- the entries of a map that is made of pairs: the keys ascend, and at each key is the last value that is paired with it
 abbrev pub HoldsLast : List (List ℕ × Val) → Val → Type 0

@@ -1,5 +1,5 @@
 -- The delimiters of the default syntax have texts, and these are UTF-8.
-use Rattle.std.proofs.Common.{ℕ, zero, suc, List, [], ◌∷◌, arith, rules}
+use Rattle.std.proofs.Common.{zero, suc, List, [], ◌∷◌, arith, rules}
 use Rattle.std.specs.Str.{IsUtf8}
 use Rattle.upon_language.specs.Search.{DelimiterText, HasTexts}
 use Rattle.upon_language.specs.DefaultDelimiters.{default_delimiters}

@@ -1,5 +1,6 @@
 -- Whether a token is inside a tag, as a test that computes.
-use Rattle.std.proofs.Common.{◌≡◌, ℕ, ◌+◌, ◌-◌, ◌==◌, ◌&&◌, not, nat_le, List, [], ◌∷◌, length, take, drop, length-take, length-drop, ◌<◌, ◌≤◌, Bool, true, false, Some, refl, ap, subst, arith, codes, encode_utf8, encode_utf8_all, if◌then◌else◌}
+use Rattle.std.proofs.Common.{◌≡◌, ℕ, ◌+◌, ◌-◌, ◌==◌, ◌&&◌, not, nat_le, List, [], ◌∷◌, length, take, drop, length-take, length-drop, ◌<◌, ◌≤◌, Bool, true, false, Some, ap, subst, arith, codes, encode_utf8, encode_utf8_all, if◌then◌else◌}
+use Rattle.std.proofs.lemmas.Bool.{not-true}
 use Rattle.std.specs.Str.{chars}
 use Rattle.std.specs.Char.{is_ascii_digit}
 use Rattle.std.specs.List.{list_all}
@@ -34,10 +35,6 @@ each_passes : (test : ℕ → Bool) (cs : List ℕ) → list_all test cs ≡ tru
 each_passes test [] h = tt
 each_passes test (c ∷ cs) h = (left_true _ _ h, each_passes test cs (right_true _ _ h))
 
-pub not_false : (b : Bool) → not b ≡ true → b ≡ false
-not_false true h = absurd cc
-not_false false h = refl
-
 nothing_at_end : (s : List ℕ) (n : ℕ) (d : List ℕ) → length s ≤ n → 0 < length d → Occurs s n d → ⊥
 nothing_at_end s n d e some o =
     let short : length d ≡ length (take (length d) (drop n s)) = ap length o in
@@ -47,7 +44,7 @@ next_failed : (test : ℕ → Bool) (s : List ℕ) (n : ℕ) (rest : List ℕ) �
 next_failed test s n [] h c o = let past : length s ≤ n = grind (arith, h) in absurd (nothing_at_end s n (encode_utf8 c) past (char_has_bytes c) o)
 next_failed test s n (d ∷ ds) h c o =
     let same : d ≡ c = one_char s n d c (occurs_tested s n _ (left_true _ _ h)) o in
-    subst (λ x. test x ≡ false) same (not_false _ (right_true _ _ h))
+    subst (λ x. test x ≡ false) same (not-true _ (right_true _ _ h))
 
 run_from : (test : ℕ → Bool) (s : List ℕ) (m n : ℕ) (cs : List ℕ) → run_by test s m n cs ≡ true → IsRun test s m n
 run_from test s m n [] h = absurd cc
@@ -102,7 +99,7 @@ extent_test s t m n = n == m + 1
 
 extent_tested : (s : List ℕ) (t : Token) (m n : ℕ) → extent_test s t m n ≡ true → Extent s t m n
 extent_tested s Whitespace m n h = run_tested is_tag_space s m n h
-extent_tested s Ident m n h = (run_tested is_xid_continue s m n (left_true _ _ h), not_false _ (right_true _ _ h))
+extent_tested s Ident m n h = (run_tested is_xid_continue s m n (left_true _ _ h), not-true _ (right_true _ _ h))
 extent_tested s Keyword m n h = (run_tested is_xid_continue s m n (left_true _ _ h), right_true _ _ h)
 extent_tested s Number m n h = run_tested continues_number s m n h
 extent_tested s Index m n h = run_tested is_ascii_digit s m n h

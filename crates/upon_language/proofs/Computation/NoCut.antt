@@ -1,6 +1,6 @@
 -- A text has no tree where it ends in a tag or a comment, and where a delimiter is that may not be there.
 use Rattle.std.proofs.Common.{◌≡◌, inl, inr, ℕ, ◌==◌, ◌&&◌, ◌||◌, not, nat_lt, List, [], ◌∷◌, length, Bool, true, false, Option, Some, None, refl, ap, ◌∙◌}
-use Rattle.std.proofs.lemmas.Bool.{ltb-true}
+use Rattle.std.proofs.lemmas.Bool.{ltb-true, not-true}
 use Rattle.upon_types.specs.declared.types.Delimiter.{Delimiter}
 use Rattle.upon_types.specs.Tree.{Statements}
 use Rattle.upon_language.specs.DefaultDelimiters.{default_delimiters}
@@ -16,7 +16,6 @@ use Rattle.upon_language.proofs.Computation.Tests.{left_true, right_true}
 use Rattle.upon_language.proofs.Computation.Tests.{same_number}
 use Rattle.upon_language.proofs.Computation.CutTests.{stands_test, stands_tested}
 use Rattle.upon_language.proofs.Computation.TokenTests.{is_sort}
-use Rattle.upon_language.proofs.Computation.InnerTests.{not_false}
 use Rattle.upon_language.proofs.Computation.WholeCut.{step_test, step_tested, is_outside}
 
 -- whether the text from m to n is cut into the tokens, and the mode after them
@@ -78,4 +77,4 @@ module _ (delimiters : List DelimiterText) (s : List ℕ) (kind : Delimiter) (n 
 pub no_tree_past : (delimiters : List DelimiterText) (s : List ℕ) (lexemes : List Lexeme) (n k : ℕ) → HasTexts delimiters → steps_test delimiters s outside 0 n lexemes ≡ true → stands_test (λ kind. not (may_follow (last_mode outside lexemes) kind)) delimiters s n k ≡ true → nat_lt n (length s) ≡ true → (tree : Statements) → HasTree delimiters s tree → ⊥
 no_tree_past delimiters s lexemes n k texts h there short tree has =
     let d = stands_tested (λ kind. not (may_follow (last_mode outside lexemes) kind)) delimiters s n k there in
-    no_cut delimiters s (last_mode outside lexemes) outside n (length s) lexemes has.lexemes texts (steps_tested delimiters s outside 0 n lexemes h) (stuck delimiters s d.0 n k d.1 (last_mode outside lexemes) (not_false _ d.2)) (ltb-true _ _ short) has.cut
+    no_cut delimiters s (last_mode outside lexemes) outside n (length s) lexemes has.lexemes texts (steps_tested delimiters s outside 0 n lexemes h) (stuck delimiters s d.0 n k d.1 (last_mode outside lexemes) (not-true _ d.2)) (ltb-true _ _ short) has.cut

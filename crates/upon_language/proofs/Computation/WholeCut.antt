@@ -1,5 +1,6 @@
 -- Whether a whole text is cut into given tokens, as a test that computes.
 use Rattle.std.proofs.Common.{◌≡◌, inl, inr, ℕ, ◌==◌, ◌&&◌, not, List, [], ◌∷◌, length, Bool, true, false, refl, if◌then◌else◌}
+use Rattle.std.proofs.lemmas.Bool.{not-true}
 use Rattle.upon_types.specs.declared.types.Delimiter.{Delimiter}
 use Rattle.upon_types.specs.declared.types.token.Token.{Token}
 use Rattle.upon_types.specs.declared.types.token.Token.TheVariants.{Raw, BeginExpr, BeginBlock, BeginComment, EndComment}
@@ -60,14 +61,10 @@ outside_tested delimiters s BeginBlock hyphen m n h = inr (block, refl, begins_t
 outside_tested delimiters s BeginComment hyphen m n h = inr (comment, refl, begins_tested delimiters s comment hyphen m n h)
 outside_tested delimiters s _ hyphen m n h = absurd cc
 
-no_hyphen : (b : Bool) → not b ≡ true → b ≡ false
-no_hyphen true h = absurd cc
-no_hyphen false h = refl
-
 in_tag_tested : (delimiters : List DelimiterText) (s : List ℕ) (sort : Sort) (in_path : Bool) (t : Token) (hyphen : Bool) (m n : ℕ) → in_tag_test delimiters s sort in_path t hyphen m n ≡ true → IsToken delimiters s (in_tag sort in_path) t hyphen m n
 in_tag_tested delimiters s sort in_path t hyphen m n h = elim (same_token t (end_token sort)) as (λ b. same_token t (end_token sort) ≡ b → (if b then stands_test (ends_by sort hyphen) delimiters s m n else (not hyphen && inner_test delimiters s in_path t m n)) ≡ true → IsToken delimiters s (in_tag sort in_path) t hyphen m n) [
   | true ↦ λ e k. inl (one_token _ _ e, ends_tested delimiters s sort hyphen m n k)
-  | false ↦ λ e k. inr (no_hyphen _ (left_true _ _ k), inner_tested delimiters s in_path t m n (right_true _ _ k))
+  | false ↦ λ e k. inr (not-true _ (left_true _ _ k), inner_tested delimiters s in_path t m n (right_true _ _ k))
 ] refl h
 
 in_comment_tested : (delimiters : List DelimiterText) (s : List ℕ) (t : Token) (hyphen : Bool) (m n : ℕ) → in_comment_test delimiters s t hyphen m n ≡ true → IsToken delimiters s in_comment t hyphen m n

@@ -109,7 +109,7 @@ both_ways : (b : Bool) (x y z : List Lexeme) → x ≡ z → y ≡ z → (if b t
 both_ways true x y z e f = e
 both_ways false x y z e f = f
 
-inner_from : (acc inner : List Lexeme) → EachInside inner → from_begin acc inner ≡ acc ++ inner
+pub inner_from : (acc inner : List Lexeme) → EachInside inner → from_begin acc inner ≡ acc ++ inner
 inner_from acc [] each = sym (append-nil acc)
 inner_from acc (l ∷ ls) each = other_step acc l ls (inside_is_no_begin l.token each.0) ∙ inner_from (acc ++ l ∷ []) ls each.1 ∙ append_assoc acc (l ∷ []) ls
 
@@ -135,3 +135,10 @@ open_tag_is front begin inner t each = split_from [] front begin inner t each
 
 pub before_tag_is : (front : List Lexeme) (begin : Lexeme) (inner : List Lexeme) → opens_tag begin.token ≡ true → EachInside inner → before_tag (front ++ (begin ∷ inner)) ≡ front
 before_tag_is front begin inner t each = split_closed [] [] front begin inner t each
+
+-- the same where the begin ends what comes first
+pub open_tag_more : (front : List Lexeme) (begin : Lexeme) (inner : List Lexeme) → opens_tag begin.token ≡ true → EachInside inner → open_tag ((front ++ begin ∷ []) ++ inner) ≡ begin ∷ inner
+open_tag_more front begin inner t each = ap open_tag (append_assoc front (begin ∷ []) inner) ∙ open_tag_is front begin inner t each
+
+pub before_tag_more : (front : List Lexeme) (begin : Lexeme) (inner : List Lexeme) → opens_tag begin.token ≡ true → EachInside inner → before_tag ((front ++ begin ∷ []) ++ inner) ≡ front
+before_tag_more front begin inner t each = ap before_tag (append_assoc front (begin ∷ []) inner) ∙ before_tag_is front begin inner t each

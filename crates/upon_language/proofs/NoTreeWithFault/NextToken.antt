@@ -1,12 +1,12 @@
 -- The token after an open tag, where the text has a tree: the tag's row goes on with it, and it ends the tag or is fine.
 use Rattle.std.proofs.Common.{◌≡◌, ◌⊎◌, inl, inr, ℕ, List, [], ◌∷◌, ◌++◌, length, Bool, true, false, Option, None, refl, sym, ap, ◌∙◌, subst, arith, if◌then◌else◌, ◌&&◌}
 use Rattle.upon_types.specs.declared.types.token.Token.{Token}
-use Rattle.upon_types.specs.declared.types.token.Token.TheVariants.{Raw, EndExpr, EndBlock, Whitespace}
+use Rattle.upon_types.specs.declared.types.token.Token.TheVariants.{EndExpr, EndBlock, Whitespace}
 use Rattle.upon_types.specs.Tree.{Statements}
 use Rattle.upon_language.specs.Search.{DelimiterText, HasTexts}
 use Rattle.upon_language.specs.Delimiters.{Sort, expression, block, comment, begin_token}
 use Rattle.upon_language.specs.Cut.{Lexeme, outside, in_tag, Cut, IsToken}
-use Rattle.upon_language.specs.Shown.{shown_lexeme, shown_lexemes, begin_trims, is_end}
+use Rattle.upon_language.specs.Shown.{shown_lexemes, begin_trims, is_end}
 use Rattle.upon_language.specs.Tokens.{is_space, begins_comment, is_raw, without_spaces, without_comments, comment_from, significant}
 use Rattle.upon_language.specs.Reading.{open_tag, open_brackets, brackets_after, brackets_from}
 use Rattle.upon_language.specs.Grammar.{AreStatements, HasTree}
@@ -15,17 +15,13 @@ use Rattle.upon_language.specs.Faults.{tag_tokens, tag_row, lexeme_at}
 use Rattle.upon_language.proofs.NoTreeWithFault.Fine.{TokenFine, Fine}
 use Rattle.upon_language.proofs.NoTreeWithFault.FineAt.{last_or}
 use Rattle.upon_language.proofs.NoTreeWithFault.TagShapes.{begins_a_tag, ends_a_tag}
-use Rattle.upon_language.proofs.NoTreeWithFault.InsideTag.{is_inside, EachInside}
+use Rattle.upon_language.proofs.NoTreeWithFault.InsideTag.{is_inside, EachInside, shown_same}
 use Rattle.upon_language.proofs.NoTreeWithFault.SplitInTag.{InTag, split_in_tag}
 use Rattle.upon_language.proofs.OneCut.Token.{one_step, step_ends}
 use Rattle.upon_language.proofs.OneCut.Cut.{cut_on}
 use Rattle.upon_language.proofs.NoTreeWithFault.OpenTagFine.{NoEnds, next_token, row_begins}
 
 -- ---- tokens that are kept
-shown_keeps : (s : List ℕ) (a b : Bool) (t : Token) (l : Lexeme) → is_raw t ≡ false → shown_lexeme s a b t l ≡ l
-shown_keeps s a b Raw l h = absurd cc
-shown_keeps s a b t l h = refl
-
 kept_without : (b : Bool) (l : Lexeme) (ls ks : List Lexeme) → b ≡ false → (if b then ks else (l ∷ ls)) ≡ l ∷ ls
 kept_without true l ls ks h = absurd cc
 kept_without false l ls ks h = refl
@@ -34,7 +30,7 @@ kept_without false l ls ks h = refl
 first_kept : (s : List ℕ) (a : Bool) (l : Lexeme) (ls : List Lexeme) → is_raw l.token ≡ false → is_space l.token ≡ false → begins_comment l.token ≡ false → (back : List Lexeme) × (significant (shown_lexemes s a (l ∷ ls)) ≡ l ∷ back)
 first_kept s a l ls raw space comments =
     let others = shown_lexemes s (is_end l.token && l.hyphen) ls in
-    let shown : shown_lexemes s a (l ∷ ls) ≡ l ∷ others = ap (λ x. x ∷ others) (shown_keeps s a (begin_trims ls) l.token l raw) in
+    let shown : shown_lexemes s a (l ∷ ls) ≡ l ∷ others = ap (λ x. x ∷ others) (shown_same s a (begin_trims ls) l.token l raw) in
     let spaced : without_spaces (l ∷ others) ≡ l ∷ without_spaces others = kept_without (is_space l.token) l (without_spaces others) (without_spaces others) space in
     (without_comments (without_spaces others), ap significant shown ∙ ap without_comments spaced ∙ kept_without (begins_comment l.token) l (without_comments (without_spaces others)) (comment_from l (without_spaces others)) comments)
 

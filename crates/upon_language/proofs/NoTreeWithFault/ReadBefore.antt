@@ -38,7 +38,7 @@ end_begins_nothing expression = refl
 end_begins_nothing block = refl
 end_begins_nothing comment = refl
 
-inside_begins_nothing : (t : Token) → is_inside t ≡ true → begins_block t ≡ false
+pub inside_begins_nothing : (t : Token) → is_inside t ≡ true → begins_block t ≡ false
 inside_begins_nothing BeginBlock h = absurd cc
 inside_begins_nothing t h = refl
 

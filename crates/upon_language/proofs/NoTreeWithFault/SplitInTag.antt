@@ -52,7 +52,7 @@ pub last_is : (l : Lexeme) (ls : List Lexeme) → last_of (l ∷ ls) ≡ last_or
 last_is l [] = refl
 last_is l (k ∷ ls) = last_is k ls
 
-last_or_none : (ls : List Lexeme) → last_of ls ≡ last_or None ls
+pub last_or_none : (ls : List Lexeme) → last_of ls ≡ last_or None ls
 last_or_none [] = refl
 last_or_none (l ∷ ls) = last_is l ls
 

@@ -3,7 +3,8 @@ use Rattle.std.proofs.Common.{◌≡◌, ℕ, ◌<◌, ◌≤◌, inl, inr, Bool
 use Rattle.upon_types.specs.declared.types.token.Token.{Token}
 use Rattle.upon_language.specs.Search.{DelimiterText, HasTexts}
 use Rattle.upon_language.specs.Delimiters.{Sort, comment, begin_sort, has_hyphen, begin_token}
-use Rattle.upon_language.specs.Cut.{Mode, outside, in_tag, in_comment, IsRawToken, IsBegin, IsEnd, IsToken}
+use Rattle.upon_language.specs.Cut.{Mode, outside, in_tag, in_comment, IsRawToken, IsBegin, IsEnd, Ends, IsToken}
+use Rattle.upon_language.specs.Raw.{IsRaw}
 use Rattle.upon_language.proofs.OneCut.Delimiter.{one_stands, not_bare, stands_ends}
 use Rattle.upon_language.proofs.OneCut.Raw.{one_raw, raw_is_no_delimiter}
 use Rattle.upon_language.proofs.OneCut.Inside.{one_inner, inner_ends}
@@ -44,6 +45,10 @@ module _ (delimiters : List DelimiterText) (s : List ℕ) where
   one_step in_comment t u hyphen other m n k (inl a) (inr b) = absurd (raw_is_no_delimiter delimiters s b.1.kind m n k a.2 b.1.occurs)
   one_step in_comment t u hyphen other m n k (inr a) (inl b) = absurd (raw_is_no_delimiter delimiters s a.1.kind m k n b.2 a.1.occurs)
   one_step in_comment t u hyphen other m n k (inr a) (inr b) = one_end comment t u hyphen other m n k a b
+
+  -- where a raw part of a comment begins, the comment does not end
+  pub raw_is_no_end : (m n k : ℕ) (hyphen : Bool) → IsRaw delimiters s m n → Ends delimiters s comment hyphen m k → ⊥
+  raw_is_no_end m n k hyphen is ends = raw_is_no_delimiter delimiters s ends.kind m n k is ends.occurs
 
   -- a token takes at least a byte, and lies in the text
   pub step_ends : (mode : Mode) (t : Token) (hyphen : Bool) (m n : ℕ) → HasTexts delimiters → IsToken delimiters s mode t hyphen m n → (m < n) × (n ≤ length s)

@@ -156,7 +156,8 @@ outermost_lies s (x ∷ y ∷ stack) o h e = outermost_lies s (y ∷ stack) o h.
 abbrev told_as : Span → List ℕ → Report
 told_as place reason = record { span = place; reason = reason }
 
-told_place : (a b : Report) → Some a ≡ Some b → a.span ≡ b.span
+-- equal reports are at one span
+pub told_place : (a b : Report) → Some a ≡ Some b → a.span ≡ b.span
 told_place a b e = let same : a ≡ b = cc in ap (λ (x : Report). x.span) same
 
 -- ---- one character, and a line

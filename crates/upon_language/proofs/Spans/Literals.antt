@@ -106,7 +106,7 @@ digit_in_number minus text i e =
     omega (arith, found.1, short)
 
 -- ---- the character of an escape
-rest_after : (s : List ℕ) (p : ℕ) (d rest : List ℕ) → drop p s ≡ d ++ rest → drop (p + length d) s ≡ rest
+pub rest_after : (s : List ℕ) (p : ℕ) (d rest : List ℕ) → drop p s ≡ d ++ rest → drop (p + length d) s ≡ rest
 rest_after s p d rest e = sym (drop-drop (length d) p s) ∙ ap (drop (length d)) e ∙ drop_at d rest (length d) refl
 
 between_after : (s : List ℕ) (text : IsUtf8 s) (p : ℕ) (d : List ℕ) (c : ℕ) → d ≡ encode_utf8 c → IsCharBoundary s p → Occurs s p (encode_utf8 c) → IsCharBoundary s (p + length (encode_utf8 c))

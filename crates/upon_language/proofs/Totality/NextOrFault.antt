@@ -69,7 +69,7 @@ begin_fits expression brackets = tt
 begin_fits block brackets = tt
 begin_fits comment brackets = tt
 
-end_fits : (sort : Sort) (brackets : List Lexeme) → brackets ≡ [] → BracketsFit brackets (end_token sort)
+pub end_fits : (sort : Sort) (brackets : List Lexeme) → brackets ≡ [] → BracketsFit brackets (end_token sort)
 end_fits expression brackets e = e
 end_fits block brackets e = e
 end_fits comment brackets e = e

@@ -22,10 +22,10 @@ use Rattle.upon_language.specs.Wanted.{expected_found}
 use Rattle.upon_language.specs.LaterFaults.{is_comment_begin, comment_wants}
 use Rattle.upon_language.specs.FirstFault.{SyntaxFault, Holds}
 use Rattle.upon_language.specs.CutFaults.{ends_cutting}
-use Rattle.upon_language.proofs.OneCut.Token.{one_step, step_ends}
+use Rattle.upon_language.proofs.OneCut.Token.{step_ends, raw_is_no_end}
 use Rattle.upon_language.proofs.OneCut.Cut.{cut_ends, cut_joined}
 use Rattle.upon_language.specs.LexStep.{Fits as BracketsFit}
-use Rattle.upon_language.proofs.NoTreeWithFault.BeforeTag.{open_tag_is, before_tag_is}
+use Rattle.upon_language.proofs.NoTreeWithFault.BeforeTag.{open_tag_is, open_tag_more, before_tag_more}
 use Rattle.upon_language.proofs.NoTreeWithFault.ReadBefore.{Ended, read_before}
 use Rattle.upon_language.specs.Blocks.{OpenBlock, Closer, closer_of, takes, open_blocks}
 use Rattle.upon_language.proofs.NoTreeWithFault.TagBlocks.{AllTaken, Walks, walks_nothing, walks_one}
@@ -189,10 +189,10 @@ module _ (delimiters : List DelimiterText) (s : List ℕ) (texts : HasTexts deli
     so_far_is = append_assoc ls (l ∷ []) r.inner
 
     tokens_are : tag_tokens so_far ≡ without_spaces tag
-    tokens_are = ap without_spaces (ap open_tag so_far_is ∙ open_tag_is ls l r.inner opens r.each)
+    tokens_are = ap without_spaces (open_tag_more ls l r.inner opens r.each)
 
     before_is : before_tag so_far ≡ ls
-    before_is = ap before_tag so_far_is ∙ before_tag_is ls l r.inner opens r.each
+    before_is = before_tag_more ls l r.inner opens r.each
 
     is_whole : IsTag s all []
     is_whole = let F : List Lexeme → Type 0 = λ x. IsTag s (x ++ end ∷ []) [] in subst F tokens_are (ended_tag delimiters s texts utf8 text sort so_far r.path' r.q r.end ends_tag)
@@ -286,9 +286,6 @@ module _ (delimiters : List DelimiterText) (s : List ℕ) (texts : HasTexts deli
       let reason = expected_found (comment_wants (is_comment_begin (last_of cs))) (codes "EOF") in
       (span_of q q, reason, comment_eof_is_first delimiters s texts cs in_comment q at refl eof (span_of q q) reason (record { lexemes = cs; reads = at.reads; eof = eof; at = refl; words = refl }))
 
-  raw_is_no_end : (q n k : ℕ) (hyphen : Bool) → IsRaw delimiters s q n → Ends delimiters s comment hyphen q k → ⊥
-  raw_is_no_end q n k hyphen is ends = let same = (one_step delimiters s in_comment Raw EndComment false hyphen q n k (inl (refl, refl, is)) (inr (refl, ends))).0 in cc
-
   module _ (hyphen : Bool) (to : ℕ) (begins : Begins delimiters s comment hyphen p to) where
     abbrev b : Lexeme
     b = lexeme_at BeginComment hyphen p to
@@ -325,7 +322,7 @@ module _ (delimiters : List DelimiterText) (s : List ℕ) (texts : HasTexts deli
         cs = (ls ++ b ∷ []) ++ lexeme_at Raw false to n ∷ []
 
         at : Stage delimiters s cs in_comment n
-        at = on delimiters s texts (ls ++ b ∷ []) in_comment to at_begin Raw false n (inl (refl, refl, is)) tt (comment_is_clear delimiters s texts (ls ++ b ∷ []) in_comment to at_begin refl (omega (arith, is.some, is.within)) (λ h other k ends. raw_is_no_end to n k other is ends))
+        at = on delimiters s texts (ls ++ b ∷ []) in_comment to at_begin Raw false n (inl (refl, refl, is)) tt (comment_is_clear delimiters s texts (ls ++ b ∷ []) in_comment to at_begin refl (omega (arith, is.some, is.within)) (λ h other k ends. raw_is_no_end delimiters s to n k other is ends))
 
         begun : first_span (open_tag cs) ≡ Some (span_of p to)
         begun = ap first_span (from_more [] (ls ++ b ∷ []) (lexeme_at Raw false to n) refl) ∙ first_stays (open_tag (ls ++ b ∷ [])) (lexeme_at Raw false to n ∷ []) (span_of p to) (ap first_span opened)

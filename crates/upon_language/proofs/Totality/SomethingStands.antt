@@ -28,6 +28,10 @@ use Rattle.upon_language.proofs.Offsets.KindsBy.{proper_kind}
 use Rattle.upon_language.proofs.Offsets.Unexpected.{no_token, no_question}
 
 -- ---- delimiters
+-- a decimal digit goes on with a number
+pub digit_continues : (c : ℕ) → is_ascii_digit c ≡ true → continues_number c ≡ true
+digit_continues c h = grind (arith, nat_tests)
+
 module _ (delimiters : List DelimiterText) (s : List ℕ) (p : ℕ) where
   abbrev Best : ℕ → Type 0
   Best n = NoneBelow n delimiters s p ⊎ ((i : ℕ) × IsBestBelow n delimiters s p i)
@@ -190,9 +194,6 @@ module _ (s : List ℕ) where
     word : (k : ℕ) → token_kind in_path c ≡ Some Ident → IsRun is_xid_continue s m k → (b : Bool) → is_keyword (slice s (record { m = m; n = k })) ≡ b → InnerOr
     word k e run true h = inl (Keyword, k, record { first = c; occurs = stands; of_kind = e; extent = (run, h) })
     word k e run false h = inl (Ident, k, record { first = c; occurs = stands; of_kind = e; extent = (run, h) })
-
-    digit_continues : (d : ℕ) → is_ascii_digit d ≡ true → continues_number d ≡ true
-    digit_continues d h = grind (arith, nat_tests)
 
     string : token_kind in_path c ≡ Some String → Occurs s m (34 ∷ []) → StringOr m → InnerOr
     string e o (inl q) = inl (String, q.0, record { first = c; occurs = stands; of_kind = e; extent = q.1 })

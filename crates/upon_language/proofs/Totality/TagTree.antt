@@ -1,5 +1,6 @@
 -- A row of fine tokens that leads from a tag's start to its end is a whole tag.
 use Rattle.std.proofs.Common.{◌≡◌, ℕ, ℤ, List, [], ◌∷◌, ◌++◌, Bool, true, false, Option, Some, None, refl, sym, ap, ◌∙◌, subst}
+use Rattle.std.proofs.lemmas.Bool.{false_from_ne_true}
 use Rattle.upon_types.specs.declared.types.token.Token.{Token}
 use Rattle.upon_types.specs.declared.types.token.Token.TheVariants.{Raw, BeginExpr, EndExpr, BeginBlock, EndBlock, BeginComment, EndComment, OpenBracket, CloseBracket, OpenBrace, CloseBrace, OpenParen, CloseParen, Dot, QuestionDot, Pipe, Comma, Colon, Plus, Minus, Whitespace, Keyword, Ident, Index, Number, String}
 use Rattle.upon_types.specs.Span.{slice}
@@ -78,13 +79,9 @@ is_minus b t h = absurd cc
 abbrev pub Signed : Option Lexeme → List Part → Type 0
 Signed before ps = minus_before before ≡ true → first_is_magnitude ps ≡ true
 
-not_true : (b : Bool) → (b ≡ true → ⊥) → b ≡ false
-not_true true h = absurd (h refl)
-not_true false h = refl
-
 module _ (s : List ℕ) where
   unsigned : (before : Option Lexeme) (ps : List Part) → Signed before ps → first_is_magnitude ps ≡ false → minus_before before ≡ false
-  unsigned before ps h e = not_true (minus_before before) (λ m. let x = h m in cc)
+  unsigned before ps h e = false_from_ne_true (minus_before before) (λ m. let x = h m in cc)
 
   pub signed_on : (l : Lexeme) (ps next : List Part) → after_symbol ps (symbol_of s l) ≡ Some next → Signed (Some l) next
   signed_on l ps next h minus =

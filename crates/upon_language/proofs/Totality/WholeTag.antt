@@ -14,12 +14,12 @@ use Rattle.upon_language.specs.Inside.{IsInside, in_path_after}
 use Rattle.upon_language.proofs.NoTreeWithFault.InsideTag.{is_inside, EachInside, extent_is_inside, end_is_no_space, inside_stays, inside_is_no_begin, space_step, no_space_step}
 use Rattle.upon_language.specs.Tokens.{is_space}
 use Rattle.upon_language.proofs.NoTreeWithFault.TagShapes.{ends_a_tag}
-use Rattle.upon_language.specs.Reading.{last_of, open_tag, first_span}
+use Rattle.upon_language.specs.Reading.{open_tag, first_span}
 use Rattle.upon_language.specs.Tags.{IsTag, Symbol, symbol_of, symbols_of, word_of}
 use Rattle.upon_language.specs.Faults.{span_of, lexeme_at, tag_tokens, tag_row}
 use Rattle.upon_language.specs.Wanted.{reason_for, wanted_at_end, expected_found}
 use Rattle.upon_language.proofs.NoTreeWithFault.FineAt.{last_or}
-use Rattle.upon_language.proofs.NoTreeWithFault.SplitInTag.{last_is}
+use Rattle.upon_language.proofs.NoTreeWithFault.SplitInTag.{last_or_none}
 use Rattle.upon_language.proofs.OneCut.Token.{step_ends}
 use Rattle.upon_language.proofs.OneCut.Cut.{cut_ends}
 use Rattle.upon_language.specs.LexStep.{Fits as BracketsFit}
@@ -40,10 +40,6 @@ use Rattle.upon_language.proofs.NoTreeWithFault.NextToken.{inside_ends_nothing}
 each_snoc : (s : List ℕ) (before : Option Lexeme) (xs : List Lexeme) (l : Lexeme) → EachStands s before xs → StandsFor s (last_or before xs) l.token l → EachStands s before (xs ++ l ∷ [])
 each_snoc s before [] l each h = (h, tt)
 each_snoc s before (x ∷ xs) l each h = (each.0, each_snoc s (Some x) xs l each.1 h)
-
-last_from : (xs : List Lexeme) → last_of xs ≡ last_or None xs
-last_from [] = refl
-last_from (x ∷ xs) = last_is x xs
 
 pub first_stays : (xs ys : List Lexeme) (at : Span) → first_span xs ≡ Some at → first_span (xs ++ ys) ≡ Some at
 first_stays [] ys at h = absurd cc
@@ -178,7 +174,7 @@ module _ (delimiters : List DelimiterText) (s : List ℕ) (texts : HasTexts deli
               ps = next;
               occurs = subst F (sym row) (path_one (tag_row s ls) (tag_start ∷ []) at.ps next (symbol_of s (lexeme_at t false p to)) at.occurs leads);
               still = open_on at.ps next t (key_of (word_of s t (span_of p to))) at.still (inside_ends_nothing t inside) leads;
-              each = subst G (sym tokens) (each_snoc s None (tag_tokens ls) (lexeme_at t false p to) at.each (subst H (last_from (tag_tokens ls)) fine.value));
+              each = subst G (sym tokens) (each_snoc s None (tag_tokens ls) (lexeme_at t false p to) at.each (subst H (last_or_none (tag_tokens ls)) fine.value));
               begin = at.begin;
               opening = ap first_span more ∙ first_stays (open_tag ls) (lexeme_at t false p to ∷ []) at.begin at.opening;
             };

@@ -17,6 +17,11 @@ use Rattle.upon_language.specs.Parts.{Part, a_base, after_name, after_member, a_
 use Rattle.upon_language.specs.PartTails.{Tail, no_tail, member_tail, name_tail, tail_parts, Begun, TakesBase}
 use Rattle.upon_language.specs.PartLeads.{Leads}
 
+-- where a Base may come, a path may begin with a member
+pub op_takes : (from ps : List Part) → TakesBase from ps → (op : AccessOp) (k : Key) → after from (op_token op) k ≡ Some (a_member ∷ ps)
+op_takes from ps takes Direct k = takes Dot k
+op_takes from ps takes Optional k = takes QuestionDot k
+
 module _ (s : List ℕ) where
   path_then : (read more : List Lexeme) (a b c : List Part) → Path a (symbols_of s read) b → Path b (symbols_of s more) c → Path a (symbols_of s (read ++ more)) c
   path_then [] more a b c p q = subst (λ x. Path x (symbols_of s more) c) (sym p) q
@@ -211,10 +216,6 @@ module _ (s : List ℕ) where
       let (tail, leads) = more_leads others mid us more in
       (tail, λ from ps takes. leads_then s (leads_token (name.span, g.0) (λ k. takes Ident k)) (leads ps))
   var_leads first others ts us (mid, inr g, more) = (member_tail, λ from ps takes. leads_then s (step_leads ps first ts mid g (op_takes from ps takes first.op)) (steps_leads ps others mid us more))
-    where
-      op_takes : (from ps : List Part) → TakesBase from ps → (op : AccessOp) (k : Key) → after from (op_token op) k ≡ Some (a_member ∷ ps)
-      op_takes from ps takes Direct k = takes Dot k
-      op_takes from ps takes Optional k = takes QuestionDot k
 
   pub literal_leads : (v : Val) (span : Span) (ts us : List Lexeme) → IsLiteral s v span ts us → BaseLeads ts us
   literal_leads (bool_val true) span ts us g = (no_tail, λ from ps takes. leads_key s (codes "true") g (takes Keyword key_true))

@@ -20,7 +20,8 @@ use Rattle.upon_language.proofs.Wanted.ExpressionsLead.{leads_then, leads_nowher
 abbrev TakesComma : List Part → Type 0
 TakesComma ps = (k : Key) → after ps Comma k ≡ Some (a_base ∷ ps)
 
-tail_joins : (tail : Tail) (ps : List Part) → tail_parts tail ++ (more_args ∷ ps) ≡ (tail_parts tail ++ more_args ∷ []) ++ ps
+-- the parts of a tail before others
+pub tail_joins : (tail : Tail) (ps : List Part) → tail_parts tail ++ (more_args ∷ ps) ≡ (tail_parts tail ++ more_args ∷ []) ++ ps
 tail_joins no_tail ps = refl
 tail_joins member_tail ps = refl
 tail_joins name_tail ps = refl

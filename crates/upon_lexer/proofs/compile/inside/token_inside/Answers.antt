@@ -1,7 +1,6 @@
-use Rattle.std.proofs.Common.{◌≡◌, ◌+◌, ℕ, true, rules, inl, Some, arith, refl, sym, ap, ◌∙◌, subst}
+use Rattle.std.proofs.Common.{◌+◌, rules, inl, Some, arith, refl, sym, ap, ◌∙◌, subst}
 use Rattle.std.specs.Char.{is_ascii_digit}
 use Rattle.std.specs.Str.{IsCharBoundary}
-use Rattle.std.proofs.lemmas.Bool.Decides.{nat_tests}
 use Rattle.std.proofs.lemmas.Str.{length-encode}
 use Rattle.upon_types.specs.Span.{LiesIn}
 use Rattle.upon_types.specs.declared.types.token.Token.TheVariants.{Whitespace, Index, Number}
@@ -12,6 +11,7 @@ use Rattle.upon_language.proofs.SpansLieIn.Token.{char_between, low_between}
 use Rattle.upon_language.proofs.Offsets.KindsBy.{proper_kind, single}
 use Rattle.upon_language.proofs.Offsets.Runs.{some_run}
 use Rattle.upon_language.proofs.Offsets.Unexpected.{no_token, same_span}
+use Rattle.upon_language.proofs.Totality.SomethingStands.{digit_continues}
 use Rattle.upon_lexer.proofs.compile.inside.token_inside.Goals as goal
 
 pub returns-in-Some-Whitespace-clause-token : goal.returns-in-Some-Whitespace-clause-token
@@ -31,9 +31,6 @@ returns-in-Some-Index-clause-token c =
     let read = c.run_end-in-Some-Index in
     let passes = proper_kind first c.args.in_path Index kind in
     record { first = first; occurs = c.requires.occurs; of_kind = kind; extent = some_run is_ascii_digit c.args.source.now c.args.at read.result read.ensures.run read.ensures.longest first c.requires.occurs passes }
-
-digit_continues : (c : ℕ) → is_ascii_digit c ≡ true → continues_number c ≡ true
-digit_continues c h = grind (arith, nat_tests)
 
 pub returns-in-Some-Number-clause-token : goal.returns-in-Some-Number-clause-token
 returns-in-Some-Number-clause-token c =

@@ -5,13 +5,14 @@ use Rattle.upon_types.specs.declared.types.token.Token.TheVariants.{BeginBlock}
 use Rattle.upon_types.specs.Span.{LiesIn}
 use Rattle.upon_language.specs.Blocks.{closer_words}
 use Rattle.upon_language.specs.Wanted.{in_quotes}
+use Rattle.upon_language.proofs.SpansLieIn.Characters.{had_utf8}
 use Rattle.upon_lexer.specs.Lexers.{lexer_text}
 use Rattle.upon_syntax.specs.declared.compile.parse.open_blocks.Closing.{Closing}
 use Rattle.upon_syntax.specs.OpenBlocks.{closer_of, stack_of}
 use Rattle.upon_syntax.specs.PieceReading.{pieces_text, pieces_delimiters, pieces_blocks, token_lexeme}
 use Rattle.upon_tags.specs.BlockTags.{tag_of}
 use Rattle.upon_syntax.specs.TagReading.{IsSyntaxError}
-use Rattle.upon_syntax.proofs.BlockFaults.{had_utf8, first_lies_in}
+use Rattle.upon_syntax.proofs.BlockFaults.{first_lies_in}
 use Rattle.upon_syntax.proofs.NextTokens.{handed_on, said_at}
 use Rattle.upon_syntax.proofs.TagEnds.{after_begin_block, block_step, untaken_first}
 use Rattle.upon_syntax.proofs.compile.parse.piece_reader.PieceReader.read_block.Goals as goal
