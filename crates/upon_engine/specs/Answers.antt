@@ -2,7 +2,7 @@
 use Rattle.std.specs.Prelude.{◌≡◌, ◌⊎◌, ℕ, Some, Result, Ok, Err, String, string_bytes}
 use Rattle.std.specs.declared.alloc.Global.{Global}
 use Rattle.upon_types.specs.Error.{fault_of}
-use Rattle.upon_types.specs.Fault.{io, fault_of_kind, out_of_memory}
+use Rattle.upon_types.specs.Fault.{out_of_memory}
 use Rattle.upon_types.specs.declared.error.Error.{Error}
 use Rattle.upon_meaning.specs.Alone.{fault_of_end}
 use Rattle.upon_meaning.specs.Outcome.{good, Outcome}
@@ -11,9 +11,3 @@ use Rattle.upon_meaning.specs.Outcome.{good, Outcome}
 abbrev pub AnswersText : {Q : Type 0} → ℕ → Outcome Q → Result (String Global) Error → Type 0
 AnswersText limit o (Ok text) = (o.end ≡ good) × (string_bytes text ≡ o.text)
 AnswersText limit o (Err e) = (fault_of_end limit o.end ≡ Some (fault_of e)) ⊎ (fault_of e ≡ out_of_memory)
-
--- the meaning ends well; or it is the fault of its end, or out of memory, or one of the writer
-abbrev pub AnswersEnd : {Q : Type 0} → ℕ → Outcome Q → Result (Unit {0}) Error → Type 0
-AnswersEnd limit o (Ok u) = o.end ≡ good
-AnswersEnd limit o (Err e) = (fault_of_end limit o.end ≡ Some (fault_of e))
-    ⊎ ((fault_of e ≡ out_of_memory) ⊎ (fault_of e ≡ fault_of_kind io))

@@ -4,7 +4,7 @@ ghost use Rattle.upon_types.specs.View.{view};
 ghost use Rattle.upon_renderer.specs.Reports.{Writes};
 ghost use Rattle.upon_renderer.specs.Runs.{Rendered};
 ghost use Rattle.upon_engine.specs.Template.{template_of};
-ghost use Rattle.upon_engine.specs.Answers.{AnswersEnd, AnswersText};
+ghost use Rattle.upon_engine.specs.Answers.{AnswersText};
 ghost use Rattle.upon_engine.specs.Calls.{call_of, outcome, engine_in, values_in, templates_in, template_in, name_in, limit_in};
 ghost use Rattle.upon_engine.specs.Engine.{engine_depth};
 ghost use Rattle.upon_engine.specs.Kept.{Kept};
@@ -17,7 +17,7 @@ use crate::values::{Context, SourceValues, Values};
 use std::alloc::Global;
 use std::io;
 use upon_calls::callables::Callables;
-use upon_fmt::output::{Output, Writer};
+use upon_fmt::output::{LentWriter, Output};
 use upon_render::source::ValueSource;
 use upon_renderer::failure::Failure;
 use upon_renderer::machine::Running;
@@ -157,15 +157,16 @@ impl<'r, E: Callables + Drop, V: Values<'r, T>, T: TemplateSource<'r>> Renderer<
     }
 
     /// Writes the text that the template means, up to its fault. Where the output does not receive a text whole, the fault is
-    /// its error, of the kind `Io`, or says that memory is out.
+    /// its error, of the kind `Io`, or says that memory is out. The kind is `Io` only where a write has failed.
     pub fn to_output<O: Output>(self, out: &mut O) -> error::Result<()>
         ensures means { Writes
             (limit_in self.entry)
-            true
+            (O.failed out.new)
             result
             (O.given out.old)
             (O.given out.new)
             (outcome (call_of E.callables E.default_formatter V.asks V.root V.values_state T.resolve T.template_state self.entry)) }
+        ensures same { O.holds out.new ≡ O.holds out.old }
         ensures laws { Kept (call_of E.callables E.default_formatter V.asks V.root V.values_state T.resolve T.template_state self.entry) }
     {
         let alloc = self.alloc;
@@ -176,19 +177,23 @@ impl<'r, E: Callables + Drop, V: Values<'r, T>, T: TemplateSource<'r>> Renderer<
 
     /// The same to a writer. Where a write fails or takes nothing, the fault is of the kind `Io`.
     pub fn to_writer<W: io::Write>(self, writer: &mut W) -> error::Result<()>
-        ensures ends { AnswersEnd
+        ensures means { Writes
             (limit_in self.entry)
-            (outcome (call_of E.callables E.default_formatter V.asks V.root V.values_state T.resolve T.template_state self.entry))
-            result }
+            true
+            result
+            (W.contents writer.old)
+            (W.contents writer.new)
+            (outcome (call_of E.callables E.default_formatter V.asks V.root V.values_state T.resolve T.template_state self.entry)) }
         ensures laws { Kept (call_of E.callables E.default_formatter V.asks V.root V.values_state T.resolve T.template_state self.entry) }
     {
-        let mut out = Writer::new(writer);
+        let mut out = LentWriter::new(writer);
         self.to_output(&mut out)
     }
 
     // Runs the template's program into an output.
     fn run<O: Output>(self, out: &mut O) -> Result<Ending, Failure>
-        ensures { Rendered
+        ensures same { O.holds out.new ≡ O.holds out.old }
+        ensures rendered { Rendered
             result
             (O.given out.old)
             (O.given out.new)

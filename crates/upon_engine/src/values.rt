@@ -45,7 +45,8 @@ pub trait Values<'r, T: TemplateSource<'r>>: Drop {
         out: &mut W,
     ) -> Result<Ending, Failure>
         requires { (t : Template) × IsProgramOf running.program t × TreeLiesIn t.source t.tree }
-        ensures { (t : Template) → IsProgramOf running.entry.program t → Rendered
+        ensures same { W.holds out.new ≡ W.holds out.old }
+        ensures rendered { (t : Template) → IsProgramOf running.entry.program t → Rendered
             result
             (W.given out.old)
             (W.given out.new)

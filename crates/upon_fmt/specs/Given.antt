@@ -17,3 +17,8 @@ abbrev pub Gave : {E : Type 0} → Option (List ℕ) → Option (List ℕ) → B
     → List ℕ → Type 0
 Gave old new failed failed' waits (Ok u) text = Appends old new text × (failed' ≡ failed)
 Gave old new failed failed' waits (Err e) text = Short old new text × (waits ≡ failed')
+
+-- all of the text was received; or something of it was not
+abbrev pub Wrote : {E : Type 0} → Option (List ℕ) → Option (List ℕ) → Result (Unit {0}) E → List ℕ → Type 0
+Wrote old new (Ok u) text = Appends old new text
+Wrote old new (Err e) text = Short old new text

@@ -3,7 +3,7 @@ use std::alloc::{AllocError, Global};
 use std::io;
 use std::process::Abort;
 use std::test::Fail;
-use upon_fmt::output::{Output, Writer};
+use upon_fmt::output::{LentWriter, Output, Writer};
 
 // Takes at most two bytes a call; at a call of a given number it fails, or takes nothing.
 #[derive(Drop)]
@@ -85,6 +85,25 @@ fn failures(rt: HostRuntime) -> Result<(), Fail> {
         failure(&rt, alloc, 2, true)?,
         (io::ErrorKind::WriteZero, 4)
     );
+    Ok(())
+}
+
+#[test]
+fn a_writer_that_is_lent(rt: HostRuntime) -> Result<(), Fail> {
+    let mut slow = Slow {
+        taken: Vec::new(rt.alloc()),
+        calls_left: 2,
+        takes_nothing: false,
+    };
+    let mut output = LentWriter::new(&mut slow);
+    assert!(rt; output.give("abc").is_ok());
+    assert!(rt; output.take_err().is_none());
+    assert!(rt; output.give("de").is_err());
+    let kind = output.take_err().ok_or("no error")?.kind();
+    assert_eq!(rt; kind, io::ErrorKind::Interrupted);
+    assert!(rt; output.take_err().is_none());
+    drop(output);
+    assert_eq!(rt; slow.taken.as_slice(), b"abc".as_slice());
     Ok(())
 }
 

@@ -40,7 +40,8 @@ pub fn render<'r, V: ValueSource, T: ProgramSource<'r>, C: Callables, W: Output>
     requires program { (t : Template) × IsProgramOf running.program t × TreeLiesIn t.source t.tree }
     requires state { HasState V.State (root_of stack) }
     requires frames { frames_of stack ≡ [] }
-    ensures { (t : Template) (ask : Source V.State) (q : V.State) → IsProgramOf running.entry.program t → Asks V.ask (root_of stack.entry) ask → Rendered
+    ensures same { W.holds out.new ≡ W.holds out.old }
+    ensures rendered { (t : Template) (ask : Source V.State) (q : V.State) → IsProgramOf running.entry.program t → Asks V.ask (root_of stack.entry) ask → Rendered
         result
         (W.given out.old)
         (W.given out.new)

@@ -21,6 +21,7 @@ pub fn reported<W: Output>(
     limit: usize,
     out: &mut W,
 ) -> error::Result<()>
+    ensures same { W.holds out.new ≡ W.holds out.old }
     ensures report { IsReport limit ended (W.waits out.old) result }
     ensures given { W.given out.new ≡ W.given out.old }
     ensures failed { W.failed out.new ≡ W.failed out.old }
@@ -53,6 +54,7 @@ fn depth_reached(alloc: Global, limit: usize) -> Error
 
 // The fault of a failure.
 fn failure_reported<W: Output>(failure: Failure, out: &mut W) -> Error
+    ensures same { W.holds out.new ≡ W.holds out.old }
     ensures report { FailureReport failure (W.waits out.old) result }
     ensures given { W.given out.new ≡ W.given out.old }
     ensures failed { W.failed out.new ≡ W.failed out.old }
@@ -65,6 +67,7 @@ fn failure_reported<W: Output>(failure: Failure, out: &mut W) -> Error
 
 // The error that the output has, or that memory is out.
 fn output_reported<W: Output>(out: &mut W) -> Error
+    ensures same { W.holds out.new ≡ W.holds out.old }
     ensures report { OutputReport (W.waits out.old) result }
     ensures given { W.given out.new ≡ W.given out.old }
     ensures failed { W.failed out.new ≡ W.failed out.old }

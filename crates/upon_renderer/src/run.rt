@@ -42,7 +42,8 @@ pub(crate) fn run<'r, V: ValueSource, T: ProgramSource<'r>, C: Callables, W: Out
     out: &mut W,
 ) -> Result<Ending, Failure>
     requires starts { (known : Known V.State T.State) × Starts V.ask V.value_state T.template_state (T.resolve machine.old.templates) (C.callables callables.now) (C.default_formatter callables.now) known machine.old }
-    ensures { (known : Known V.State T.State) → Starts V.ask V.value_state T.template_state (T.resolve machine.old.templates) (C.callables callables.now) (C.default_formatter callables.now) known machine.old → Ran
+    ensures same { W.holds out.new ≡ W.holds out.old }
+    ensures ran { (known : Known V.State T.State) → Starts V.ask V.value_state T.template_state (T.resolve machine.old.templates) (C.callables callables.now) (C.default_formatter callables.now) known machine.old → Ran
         result
         (W.given out.old)
         (W.given out.new)

@@ -23,8 +23,8 @@ run-requires g c κs =
       ),
     )
 
-pub returns : goal.returns
-returns g c t ask q program asks =
+pub returns-clause-rendered : goal.returns-clause-rendered
+returns-clause-rendered g c t ask q program asks =
     let ask_of = g.V.ValueSource.ask in
     let value_state = g.V.ValueSource.value_state in
     let template_state = g.T.ProgramSource.template_state in
@@ -34,4 +34,4 @@ returns g c t ask q program asks =
     let m = machine_of c.args.running c.new.result c.new-2.result c.args.stack c.args.templates in
     let known = known_of ask_of value_state template_state resolve callables default m c.new.ensures.items refl c.new-2.ensures c.requires.frames t ask q in
     let from = starts ask_of value_state template_state resolve callables default m c.new.ensures.items refl c.new-2.ensures c.requires.frames c.requires.program t ask q program asks in
-    rendered c.run.result (g.W.Output.given c.args.out.now) (g.W.Output.given c.run.new.out) known.outcome _ (c.run.ensures known from)
+    rendered c.run.result (g.W.Output.given c.args.out.now) (g.W.Output.given c.run.new.out) known.outcome _ (c.run.ensures.ran known from)

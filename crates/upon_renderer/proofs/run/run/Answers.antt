@@ -5,31 +5,34 @@ use Rattle.upon_renderer.proofs.run.run.Goals as goal
 
 pub step-requires : goal.step-requires
 step-requires g c κs =
-    let h = c.steps.invariant c.requires.starts.0 c.requires.starts.1 in
+    let h = c.steps.invariant.going c.requires.starts.0 c.requires.starts.1 in
     ((refl, tt), (h.running.lies.active, (h.unbounded, way_frames h)))
 
 pub stopped-requires : goal.stopped-requires
 stopped-requires g c =
     let known = c.requires.starts.0 in
-    let h = c.steps.invariant known c.requires.starts.1 in
+    let h = c.steps.invariant.going known c.requires.starts.1 in
     let did = c.in-Err.ensures.did known.values known.ask (way_asks h) in
     let next = state_of g.V.ValueSource.value_state g.T.ProgramSource.template_state known.values c.step.new.machine in
     way_stop h c.in-Err.stop (g.W.Output.given c.step.new.out) next did
 
-pub returns-in-Err : goal.returns-in-Err
-returns-in-Err g c known starts =
-    let h = c.steps.invariant known starts in
+pub returns-in-Err-clause-ran : goal.returns-in-Err-clause-ran
+returns-in-Err-clause-ran g c known starts =
+    let h = c.steps.invariant.going known starts in
     let did = c.in-Err.ensures.did known.values known.ask (way_asks h) in
     way_failed h c.in-Err.stop c.stopped.result (g.W.Output.given c.step.new.out) c.step.new.machine did c.stopped.ensures
 
-pub returns-in-Some : goal.returns-in-Some
-returns-in-Some g c known starts =
-    let h = c.steps.invariant known starts in
+pub returns-in-Some-clause-ran : goal.returns-in-Some-clause-ran
+returns-in-Some-clause-ran g c known starts =
+    let h = c.steps.invariant.going known starts in
     let did = c.in-Ok.ensures.did known.values known.ask (way_asks h) in
     way_ended h c.in-Ok.flow c.in-Some.end (g.W.Output.given c.step.new.out) c.step.new.machine (sym c.end_of.ensures ∙ c.in-Some.is) did
 
 pub steps-preserved : goal.steps-preserved
-steps-preserved g c known starts =
-    let h = c.steps.invariant known starts in
-    let did = c.in-Ok.ensures.did known.values known.ask (way_asks h) in
-    way_on h c.in-Ok.flow (g.W.Output.given c.step.new.out) c.step.new.machine (sym c.end_of.ensures ∙ c.in_default.is) did c.in-Ok.ensures.kept
+steps-preserved g c = record {
+  same = c.in-Ok.ensures.same ∙ c.steps.invariant.same;
+  going = λ known starts.
+      let h = c.steps.invariant.going known starts in
+      let did = c.in-Ok.ensures.did known.values known.ask (way_asks h) in
+      way_on h c.in-Ok.flow (g.W.Output.given c.step.new.out) c.step.new.machine (sym c.end_of.ensures ∙ c.in_default.is) did c.in-Ok.ensures.kept;
+}

@@ -14,8 +14,8 @@ render-requires g c =
     let has : (x : Template) × IsProgramOf c.program_of.result x × TreeLiesIn x.source x.tree = (template_of c.args.self.template.now, c.program_of.ensures, template_lies c.args.self.template.now) in
     search rules
 
-pub returns : goal.returns
-returns g c =
+pub returns-clause-rendered : goal.returns-clause-rendered
+returns-clause-rendered g c =
     let call = call_of g.E.Callables.callables g.E.Callables.default_formatter g.V.Values.asks g.V.Values.root g.V.Values.values_state g.T.TemplateSource.resolve g.T.TemplateSource.template_state c.args.self in
     let F : ℕ → Type 0 = λ left. Rendered c.render.result (g.O.Output.given c.args.out.now) (g.O.Output.given c.render.new.out) (alone_within call.rendering.calls call.rendering.resolve left call.template call.name call.root call.from) in
-    subst F (ap (λ n. n - 1) c.max.ensures) (c.render.ensures (template_of c.args.self.template.now) c.program_of.ensures)
+    subst F (ap (λ n. n - 1) c.max.ensures) (c.render.ensures.rendered (template_of c.args.self.template.now) c.program_of.ensures)

@@ -1,9 +1,9 @@
-use Rattle.std.proofs.Common.{List, ℕ, Option, true, sym, subst}
+use Rattle.std.proofs.Common.{◌≡◌, ◌∙◌, List, ℕ, Option, true, sym, subst}
 use Rattle.upon_renderer.specs.Reports.{Writes}
 use Rattle.upon_renderer.proofs.Writes.{writes}
 use Rattle.upon_engine.specs.Calls.{call_of, outcome}
 use Rattle.upon_engine.proofs.Laws.{kept}
-use Rattle.upon_engine.proofs.Texts.{maybe_waits}
+use Rattle.upon_engine.proofs.Texts.{waits_where}
 use Rattle.upon_engine.proofs.renderer.Renderer.to_output.Goals as goal
 
 pub returns-clause-means : goal.returns-clause-means
@@ -13,9 +13,11 @@ returns-clause-means g c =
     let mid = g.O.Output.given c.run-ended.new.out in
     let limit = c.args.self.limit in
     let waits = g.O.Output.waits c.run-ended.new.out in
-    let all = writes limit waits old mid o c.run-ended.result c.reported.result c.run-ended.ensures c.reported.ensures.report in
-    let F : Option (List ℕ) → Type 0 = λ new. Writes limit true c.reported.result old new o in
-    subst F (sym c.reported.ensures.given) (maybe_waits limit o waits c.reported.result old mid all)
+    let all = writes limit waits old mid o c.run-ended.result c.reported.result c.run-ended.ensures.rendered c.reported.ensures.report in
+    let failed = g.O.Output.failed c.reported.new.out in
+    let marked : waits ≡ true → failed ≡ true = λ is. c.reported.ensures.failed ∙ g.O.Output.error_marked c.run-ended.new.out is in
+    let F : Option (List ℕ) → Type 0 = λ new. Writes limit failed c.reported.result old new o in
+    subst F (sym c.reported.ensures.given) (waits_where limit o waits failed marked c.reported.result old mid all)
 
 pub returns-clause-laws : goal.returns-clause-laws
 returns-clause-laws g c = kept _

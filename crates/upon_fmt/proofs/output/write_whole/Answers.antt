@@ -3,7 +3,7 @@ use Rattle.std.proofs.KnownBytes.{Appends-kept, Appends-trans}
 use Rattle.std.proofs.lemmas.List.{take-take, drop-take, take-append-drop, length-drop}
 use Rattle.std.proofs.lemmas.Grind.{common_steps}
 use Rattle.std.specs.Io.KnownBytes.{Appends}
-use Rattle.upon_fmt.proofs.output.WriterOutput.give.Goals as goal
+use Rattle.upon_fmt.proofs.output.write_whole.Goals as goal
 
 -- a beginning, and then more of what is left
 beginning-longer : (sent more : ℕ) (text : List ℕ) → take sent text ++ take more (drop sent text) ≡ take (sent + more) text
@@ -28,7 +28,6 @@ loop-sent-preserved g c =
     record {
       within = grind arith;
       received = subst (Appends _ _) joined (Appends-trans _ _ _ _ _ c.loop-sent.invariant.received c.in-Ok.ensures.bytes);
-      mark = c.loop-sent.invariant.mark;
     }
 
 pub returns-in-Err : goal.returns-in-Err
@@ -37,4 +36,4 @@ returns-in-Err g c =
     let sent = c.loop-sent.sent in
     let rest : 0 < length (drop sent text) =
     omega (arith, length-drop sent text, c.loop-sent-test.true, c.as_bytes-bytes.ensures.len, ap length c.as_bytes-bytes.ensures.value) in
-    ((take sent text, drop sent text, sym (take-append-drop sent text), rest, Appends-kept _ _ _ (take sent text) c.loop-sent.invariant.received c.in-Err.ensures.bytes), refl)
+    (take sent text, drop sent text, sym (take-append-drop sent text), rest, Appends-kept _ _ _ (take sent text) c.loop-sent.invariant.received c.in-Err.ensures.bytes)
