@@ -1,26 +1,44 @@
 -- What each call of rendering keeps, by the laws of what templates mean.
-use Rattle.std.proofs.Common.{◌≡◌, ◌≢◌, sym, ap, ◌∙◌, subst}
+use Rattle.std.proofs.Common.{◌≡◌, ◌≢◌, ◌≤◌, ◌<◌, ℕ, List, refl, sym, ap, ◌∙◌, subst}
 use Rattle.upon_types.specs.Val.{map_val}
 use Rattle.upon_render.specs.Environment.{context}
 use Rattle.upon_meaning.specs.Alone.{includes_left}
-use Rattle.upon_meaning.specs.Engine.{Resolver, from_table}
-use Rattle.upon_meaning.specs.Outcome.{too_deep}
+use Rattle.upon_meaning.specs.Engine.{Table, Resolver, from_table}
+use Rattle.upon_meaning.specs.GreaterDepth.{GoesOn}
+use Rattle.upon_meaning.specs.Includes.{Reaches, IsNumbered}
+use Rattle.upon_meaning.specs.Names.{AgreeOn}
+use Rattle.upon_meaning.specs.Outcome.{fails, too_deep}
 use Rattle.upon_meaning.proofs.DeeperMeaning.{greater_depth}
 use Rattle.upon_meaning.proofs.IncludedAlone.{included_of_depth}
 use Rattle.upon_meaning.proofs.NamesRead.{names_read, templates_reached}
+use Rattle.upon_meaning.proofs.NotTooDeep.{is_not_too_deep}
 use Rattle.upon_meaning.proofs.NumberedDepth.{numbered_over_table}
 use Rattle.upon_meaning.proofs.UnaskedMeaning.{values_stay}
-use Rattle.upon_engine.specs.Calls.{Call, outcome, answered_by, over_root}
+use Rattle.upon_engine.specs.Base.{Base, on_root, no_value}
+use Rattle.upon_engine.specs.Calls.{Call, outcome, at_depth, answered_by, on_base}
 use Rattle.upon_engine.specs.Kept.{DepthsAgree, NumbersSuffice, IncludesAlone, NamesSuffice, TemplatesSuffice, SourceStays, Kept}
 
 module _ {V T : Type 0} (c : Call V T) where
+  -- the laws that speak of each base
+  goes_on : (base : Base) (a b : ℕ) → a ≤ b → GoesOn (outcome (on_base base (at_depth a c))) (outcome (on_base base (at_depth b c)))
+  goes_on (on_root root) a b le = greater_depth c.rendering a b c.template c.name root c.from le
+  goes_on (no_value f) a b le = record { same = λ _. refl; begins = λ is. absurd (is_not_too_deep (fails f) tt is) }
+
+  never_too_deep : (base : Base) (table : Table) (number : List ℕ → ℕ) (k : ℕ) → IsNumbered table number c.template.tree k → k < c.rendering.limit → (outcome (on_base base (answered_by (from_table table) c))).end ≢ too_deep
+  never_too_deep (on_root root) table number k numbered below = numbered_over_table c.rendering.calls table c.rendering.limit number k c.template c.name root c.from numbered below
+  never_too_deep (no_value f) table number k numbered below = is_not_too_deep (fails f) tt
+
+  same_reached : (base : Base) (these those : Table) → AgreeOn (Reaches these c.template.tree) these those → outcome (on_base base (answered_by (from_table these) c)) ≡ outcome (on_base base (answered_by (from_table those) c))
+  same_reached (on_root root) these those agree = templates_reached c.rendering.calls c.template c.name c.rendering.limit these those root c.from agree
+  same_reached (no_value f) these those agree = refl
+
   depths_agree : DepthsAgree c
-  depths_agree a b le = greater_depth c.rendering a b c.template c.name c.root c.from le
+  depths_agree = goes_on c.base
 
   numbers_suffice : NumbersSuffice c
   numbers_suffice table number k resolves numbered below =
       let F : Resolver T → Type 0 = λ r. (outcome (answered_by r c)).end ≢ too_deep in
-      subst F (sym resolves) (numbered_over_table c.rendering.calls table c.rendering.limit number k c.template c.name c.root c.from numbered below)
+      subst F (sym resolves) (never_too_deep c.base table number k numbered below)
 
   includes_alone : IncludesAlone c
   includes_alone = included_of_depth c.rendering
@@ -31,17 +49,16 @@ module _ {V T : Type 0} (c : Call V T) where
   names_suffice : NamesSuffice c
   names_suffice table these those resolves is agree =
       by_table (from_table table) resolves ∙
-      ap (λ root. outcome (over_root root (answered_by (from_table table) c))) is ∙
+      ap (λ base. outcome (on_base base (answered_by (from_table table) c))) is ∙
       names_read c.rendering.calls c.template c.name c.rendering.limit table these those c.from agree ∙
-      ap (λ r. outcome (over_root (context (map_val those)) (answered_by r c))) (sym resolves)
+      ap (λ r. outcome (on_base (on_root (context (map_val those))) (answered_by r c))) (sym resolves)
 
   templates_suffice : TemplatesSuffice c
-  templates_suffice these those resolves agree =
-      by_table (from_table these) resolves ∙ templates_reached c.rendering.calls c.template c.name c.rendering.limit these those c.root c.from agree
+  templates_suffice these those resolves agree = by_table (from_table these) resolves ∙ same_reached c.base these those agree
 
   source_stays : SourceStays c
   source_stays v is =
-      ap (λ root. (outcome (over_root root c)).next.values) is ∙
+      ap (λ base. (outcome (on_base base c)).next.values) is ∙
       values_stay c.rendering.calls c.rendering.resolve (includes_left c.rendering.limit) c.template c.name v c.from
 
   pub kept : Kept c

@@ -6,12 +6,12 @@ use Rattle.upon_types.specs.Answers.{Formatter, Function}
 use Rattle.upon_types.specs.Val.{Val}
 use Rattle.upon_types.specs.declared.error.Error.{Error}
 use Rattle.upon_render.specs.Asked.{never}
-use Rattle.upon_render.specs.Environment.{Root, context, value_source}
+use Rattle.upon_render.specs.Environment.{context, value_source}
 use Rattle.upon_render.specs.Source.{Source}
-use Rattle.upon_meaning.specs.Alone.{alone}
 use Rattle.upon_meaning.specs.Engine.{Template, calls_of, from_table}
 use Rattle.upon_meaning.specs.Outcome.{states}
 use Rattle.upon_engine.specs.Answers.{AnswersText}
+use Rattle.upon_engine.specs.Base.{Base, on_root, outcome_over}
 use Rattle.upon_engine.specs.Calls.{engine_in, values_in, templates_in, template_in, name_in, limit_in}
 use Rattle.upon_engine.specs.Engine.{engine_of}
 use Rattle.upon_engine.specs.Sources.{engine_of_templates, source_in, value_in}
@@ -22,18 +22,22 @@ use Rattle.upon_engine.specs.declared.values.Context.{Context}
 use Rattle.upon_engine.specs.declared.values.SourceValues.{SourceValues}
 
 module _ {X Y : Type 0} {P : X → Type 0} {Q : Y → Type 0} (formats : DynBox X Global P → Formatter) (answers : DynBox Y Global Q → Function) where
-  -- with the engine's templates, by what is below the bindings and the source's state
-  abbrev pub Gives : {S : Type 0} → Result (String Global) Error → Source S → Root → S → Held X Y P Q → Held X Y P Q → Template → Option (List ℕ) → ℕ → Type 0
-  Gives x ask root s e behind t name limit = AnswersText limit (alone (record { calls = calls_of (engine_of formats answers e) ask; resolve = from_table (engine_of formats answers behind).templates; limit = limit }) t name root (states s (tt {0}))) x
+  -- with the engine's templates, by what it is over and the source's state
+  abbrev pub Gives : {S : Type 0} → Result (String Global) Error → Source S → Base → S → Held X Y P Q → Held X Y P Q → Template → Option (List ℕ) → ℕ → Type 0
+  Gives x ask base s e behind t name limit = AnswersText limit (outcome_over (record { calls = calls_of (engine_of formats answers e) ask; resolve = from_table (engine_of formats answers behind).templates; limit = limit }) t name base (states s (tt {0}))) x
 
-  moved : {S : Type 0} (x : Result (String Global) Error) (ask : Source S) (root : Root) (s : S) (e e' f f' : Held X Y P Q) (t t' : Template) (n n' : Option (List ℕ)) (d d' : ℕ) → e ≡ e' → f ≡ f' → t ≡ t' → n ≡ n' → d ≡ d' → Gives x ask root s e f t n d → Gives x ask root s e' f' t' n' d'
-  moved x ask root s e e' f f' t t' n n' d d' ee ff tt' nn dd h =
-      subst (λ z. Gives x ask root s e' f' t' n' z) dd (subst (λ z. Gives x ask root s e' f' t' z d) nn (subst (λ z. Gives x ask root s e' f' z n d) tt' (subst (λ z. Gives x ask root s e' z t n d) ff (subst (λ z. Gives x ask root s z f t n d) ee h))))
+  moved : {S : Type 0} (x : Result (String Global) Error) (ask : Source S) (base : Base) (s : S) (e e' f f' : Held X Y P Q) (t t' : Template) (n n' : Option (List ℕ)) (d d' : ℕ) → e ≡ e' → f ≡ f' → t ≡ t' → n ≡ n' → d ≡ d' → Gives x ask base s e f t n d → Gives x ask base s e' f' t' n' d'
+  moved x ask base s e e' f f' t t' n n' d d' ee ff tt' nn dd h =
+      subst (λ z. Gives x ask base s e' f' t' n' z) dd (subst (λ z. Gives x ask base s e' f' t' z d) nn (subst (λ z. Gives x ask base s e' f' z n d) tt' (subst (λ z. Gives x ask base s e' z t n d) ff (subst (λ z. Gives x ask base s z f t n d) ee h))))
 
   -- on a value
-  pub on_value : (x : Result (String Global) Error) (r : Renderer (Bor (Held X Y P Q)) Context (EngineTemplates X Y P Q)) (e : Held X Y P Q) (t : Template) (name : Option (List ℕ)) (v : Val) (limit : ℕ) → (engine_in r).now ≡ e → engine_of_templates (templates_in r) ≡ e → template_in r ≡ t → name_in r ≡ name → limit_in r ≡ limit → value_in (values_in r) ≡ v → Gives x never (context (value_in (values_in r))) (tt {0}) (engine_in r).now (engine_of_templates (templates_in r)) (template_in r) (name_in r) (limit_in r) → Gives x never (context v) (tt {0}) e e t name limit
-  on_value x r e t name v limit ee ff tt' nn dd vv h = subst (λ z. Gives x never (context z) (tt {0}) e e t name limit) vv (moved x never (context (value_in (values_in r))) (tt {0}) _ _ _ _ _ _ _ _ _ _ ee ff tt' nn dd h)
+  pub on_value : (x : Result (String Global) Error) (r : Renderer (Bor (Held X Y P Q)) Context (EngineTemplates X Y P Q)) (e : Held X Y P Q) (t : Template) (name : Option (List ℕ)) (v : Val) (limit : ℕ) → (engine_in r).now ≡ e → engine_of_templates (templates_in r) ≡ e → template_in r ≡ t → name_in r ≡ name → limit_in r ≡ limit → value_in (values_in r) ≡ v → Gives x never (on_root (context (value_in (values_in r)))) (tt {0}) (engine_in r).now (engine_of_templates (templates_in r)) (template_in r) (name_in r) (limit_in r) → Gives x never (on_root (context v)) (tt {0}) e e t name limit
+  on_value x r e t name v limit ee ff tt' nn dd vv h = subst (λ z. Gives x never (on_root (context z)) (tt {0}) e e t name limit) vv (moved x never (on_root (context (value_in (values_in r)))) (tt {0}) _ _ _ _ _ _ _ _ _ _ ee ff tt' nn dd h)
 
   -- on a source of values
-  pub on_source : {Z S : Type 0} (ask : Z → Source S) (state : Z → S) (x : Result (String Global) Error) (r : Renderer (Bor (Held X Y P Q)) (SourceValues Z) (EngineTemplates X Y P Q)) (e : Held X Y P Q) (t : Template) (name : Option (List ℕ)) (z : Z) (limit : ℕ) → (engine_in r).now ≡ e → engine_of_templates (templates_in r) ≡ e → template_in r ≡ t → name_in r ≡ name → limit_in r ≡ limit → source_in (values_in r) ≡ z → Gives x (ask (source_in (values_in r))) value_source (state (source_in (values_in r))) (engine_in r).now (engine_of_templates (templates_in r)) (template_in r) (name_in r) (limit_in r) → Gives x (ask z) value_source (state z) e e t name limit
-  on_source ask state x r e t name z limit ee ff tt' nn dd zz h = subst (λ z. Gives x (ask z) value_source (state z) e e t name limit) zz (moved x (ask (source_in (values_in r))) value_source (state (source_in (values_in r))) _ _ _ _ _ _ _ _ _ _ ee ff tt' nn dd h)
+  pub on_source : {Z S : Type 0} (ask : Z → Source S) (state : Z → S) (x : Result (String Global) Error) (r : Renderer (Bor (Held X Y P Q)) (SourceValues Z) (EngineTemplates X Y P Q)) (e : Held X Y P Q) (t : Template) (name : Option (List ℕ)) (z : Z) (limit : ℕ) → (engine_in r).now ≡ e → engine_of_templates (templates_in r) ≡ e → template_in r ≡ t → name_in r ≡ name → limit_in r ≡ limit → source_in (values_in r) ≡ z → Gives x (ask (source_in (values_in r))) (on_root value_source) (state (source_in (values_in r))) (engine_in r).now (engine_of_templates (templates_in r)) (template_in r) (name_in r) (limit_in r) → Gives x (ask z) (on_root value_source) (state z) e e t name limit
+  on_source ask state x r e t name z limit ee ff tt' nn dd zz h = subst (λ z. Gives x (ask z) (on_root value_source) (state z) e e t name limit) zz (moved x (ask (source_in (values_in r))) (on_root value_source) (state (source_in (values_in r))) _ _ _ _ _ _ _ _ _ _ ee ff tt' nn dd h)
+
+  -- whatever it is over
+  pub on_base : {V : Type 0} (x : Result (String Global) Error) (r : Renderer (Bor (Held X Y P Q)) V (EngineTemplates X Y P Q)) (base : Base) (e : Held X Y P Q) (t : Template) (name : Option (List ℕ)) (limit : ℕ) → (engine_in r).now ≡ e → engine_of_templates (templates_in r) ≡ e → template_in r ≡ t → name_in r ≡ name → limit_in r ≡ limit → Gives x never base (tt {0}) (engine_in r).now (engine_of_templates (templates_in r)) (template_in r) (name_in r) (limit_in r) → Gives x never base (tt {0}) e e t name limit
+  on_base x r base e t name limit ee ff tt' nn dd h = moved x never base (tt {0}) _ _ _ _ _ _ _ _ _ _ ee ff tt' nn dd h

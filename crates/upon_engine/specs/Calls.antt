@@ -1,33 +1,32 @@
 -- What a rendering is made of, and what its template means so.
 use Rattle.std.specs.Prelude.{ℕ, List, Option, option_map}
 use Rattle.upon_types.specs.Answers.{Callable, Formatter}
-use Rattle.upon_render.specs.Environment.{Root}
 use Rattle.upon_render.specs.Source.{Source}
-use Rattle.upon_meaning.specs.Alone.{alone}
 use Rattle.upon_meaning.specs.Engine.{Template, Resolver, Rendering}
 use Rattle.upon_meaning.specs.Outcome.{Outcome, States, states}
+use Rattle.upon_engine.specs.Base.{Base, outcome_over}
 use Rattle.upon_engine.specs.Template.{template_of}
 use Rattle.upon_engine.specs.declared.renderer.Renderer.{Renderer}
 
--- what it is on, the template with its name, what lies under the bindings, and the states of the sources
+-- what it is on, the template with its name, what it is over, and the states of the sources
 pub record Call (V T : Type 0) : Type 0 where
   pub rendering : Rendering V T
   pub template : Template
   pub name : Option (List ℕ)
-  pub root : Root
+  pub base : Base
   pub from : States V T
 
 -- what the template means by itself
 abbrev pub outcome : {V T : Type 0} → Call V T → Outcome (States V T)
-outcome c = alone c.rendering c.template c.name c.root c.from
+outcome c = outcome_over c.rendering c.template c.name c.base c.from
 
 -- the same call with another depth
 abbrev pub at_depth : {V T : Type 0} → ℕ → Call V T → Call V T
 at_depth limit c = record c { rendering = record c.rendering { limit = limit } }
 
--- over another root
-abbrev pub over_root : {V T : Type 0} → Root → Call V T → Call V T
-over_root root c = record c { root = root }
+-- over another base
+abbrev pub on_base : {V T : Type 0} → Base → Call V T → Call V T
+on_base base c = record c { base = base }
 
 -- with another source of templates
 abbrev pub answered_by : {V T : Type 0} → Resolver T → Call V T → Call V T
@@ -58,9 +57,9 @@ abbrev pub limit_in : {E V T : Type 0} → Renderer E V T → ℕ
 limit_in r = r.limit
 
 -- what a renderer denotes, by the ghost members of what it holds
-abbrev pub call_of : {E V T P Q : Type 0} → (E → List ℕ → Option Callable) → (E → Formatter) → (V → Source P) → (V → Root)
+abbrev pub call_of : {E V T P Q : Type 0} → (E → List ℕ → Option Callable) → (E → Formatter) → (V → Source P) → (V → Base)
     → (V → P) → (T → Resolver Q) → (T → Q) → Renderer E V T → Call P Q
-call_of callables default_formatter asks root values_state resolve template_state r = record {
+call_of callables default_formatter asks base values_state resolve template_state r = record {
   rendering = record {
     calls = record { callables = callables r.engine; default_formatter = default_formatter r.engine; ask = asks r.values };
     resolve = resolve r.templates;
@@ -68,6 +67,6 @@ call_of callables default_formatter asks root values_state resolve template_stat
   };
   template = template_in r;
   name = name_in r;
-  root = root r.values;
+  base = base r.values;
   from = states (values_state r.values) (template_state r.templates);
 }

@@ -13,7 +13,8 @@ use Rattle.upon_meaning.specs.Includes.{Reaches, IsNumbered}
 use Rattle.upon_meaning.specs.Meaning.{RunningTemplate, statement_means}
 use Rattle.upon_meaning.specs.Names.{Reads, AgreeOn}
 use Rattle.upon_meaning.specs.Outcome.{States, too_deep}
-use Rattle.upon_engine.specs.Calls.{Call, outcome, at_depth, over_root, answered_by}
+use Rattle.upon_engine.specs.Base.{on_root}
+use Rattle.upon_engine.specs.Calls.{Call, outcome, at_depth, on_base, answered_by}
 
 -- a greater depth changes nothing but where includes were too deep
 abbrev pub DepthsAgree : {V T : Type 0} → Call V T → Type 0
@@ -36,9 +37,9 @@ IncludesAlone {V} {T} c =
 -- with the templates of a table: maps that agree on the names that are read give the same, and tables that agree on those reached
 abbrev pub NamesSuffice : {V T : Type 0} → Call V T → Type 0
 NamesSuffice c =
-    (table : Table) (these those : Entries) → c.rendering.resolve ≡ from_table table → c.root ≡ context (map_val these) →
+    (table : Table) (these those : Entries) → c.rendering.resolve ≡ from_table table → c.base ≡ on_root (context (map_val these)) →
     AgreeOn (Reads table c.template.tree) (λ n. entry_at n these) (λ n. entry_at n those) →
-    outcome c ≡ outcome (over_root (context (map_val those)) c)
+    outcome c ≡ outcome (on_base (on_root (context (map_val those))) c)
 
 abbrev pub TemplatesSuffice : {V T : Type 0} → Call V T → Type 0
 TemplatesSuffice c =
@@ -48,7 +49,7 @@ TemplatesSuffice c =
 
 -- over a context the value source is not asked
 abbrev pub SourceStays : {V T : Type 0} → Call V T → Type 0
-SourceStays c = (v : Val) → c.root ≡ context v → (outcome c).next.values ≡ c.from.values
+SourceStays c = (v : Val) → c.base ≡ on_root (context v) → (outcome c).next.values ≡ c.from.values
 
 -- all of these
 pub record Kept {V T : Type 0} (c : Call V T) : Type 0 where

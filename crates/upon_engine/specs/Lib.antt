@@ -1,6 +1,7 @@
 pub mod Template
 pub mod Faults
 pub mod Engine
+pub mod Base
 pub mod Sources
 pub mod TemplateRef
 pub mod Calls

@@ -10,12 +10,14 @@ use Rattle.upon_meaning.specs.Engine.{from_table}
 use Rattle.upon_meaning.specs.RenderFaults.{TemplatesLie}
 use Rattle.upon_compiled.proofs.CompiledTree.{spans}
 use Rattle.upon_compiled.proofs.Templates.{map_lies}
+use Rattle.upon_engine.specs.Base.{Base, base_of}
 use Rattle.upon_engine.specs.Engine.{engine_of}
 use Rattle.upon_engine.specs.Template.{template_of, template_source, template_syntax, template_tree}
 use Rattle.upon_engine.specs.declared.template.Template.{Template}
 use Rattle.upon_engine.specs.declared.engine.Engine.{Engine as Held}
 use Rattle.upon_engine.specs.declared.sources.EngineTemplates.{EngineTemplates}
 use Rattle.upon_engine.specs.declared.values.Context.{Context}
+use Rattle.upon_engine.specs.declared.values.SerdeContext.{SerdeContext}
 use Rattle.upon_engine.specs.declared.values.SourceValues.{SourceValues}
 
 -- the spans in the tree of a template lie in its text
@@ -38,3 +40,7 @@ value_in c = view c.value.now
 -- the source of values
 abbrev pub source_in : {S : Type 0} → SourceValues S → S
 source_in v = v.source
+
+-- what a rendering is over, whose context was made of what serde writes
+abbrev pub base_in : SerdeContext → Base
+base_in c = base_of c.value

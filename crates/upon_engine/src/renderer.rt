@@ -5,15 +5,17 @@ ghost use Rattle.upon_renderer.specs.Reports.{Writes};
 ghost use Rattle.upon_renderer.specs.Runs.{Rendered};
 ghost use Rattle.upon_engine.specs.Template.{template_of};
 ghost use Rattle.upon_engine.specs.Answers.{AnswersText};
+ghost use Rattle.upon_engine.specs.Base.{IsContextOf};
 ghost use Rattle.upon_engine.specs.Calls.{call_of, outcome, engine_in, values_in, templates_in, template_in, name_in, limit_in};
 ghost use Rattle.upon_engine.specs.Engine.{engine_depth};
 ghost use Rattle.upon_engine.specs.Kept.{Kept};
-ghost use Rattle.upon_engine.specs.Sources.{engine_of_templates, source_in, value_in};
+ghost use Rattle.upon_engine.specs.Sources.{base_in, engine_of_templates, source_in, value_in};
 
 use crate::engine::Engine;
 use crate::sources::{EngineTemplates, TemplateSource, program_of};
 use crate::template::Template;
-use crate::values::{Context, SourceValues, Values};
+use crate::values::{Context, SerdeContext, SourceValues, Values};
+use serde::Serialize;
 use std::alloc::Global;
 use std::io;
 use upon_calls::callables::Callables;
@@ -23,6 +25,7 @@ use upon_renderer::failure::Failure;
 use upon_renderer::machine::Running;
 use upon_renderer::report::reported;
 use upon_renderer::run::Ending;
+use upon_serde::to_value;
 use upon_types::error;
 use upon_types::value::Value;
 
@@ -40,6 +43,34 @@ pub struct Renderer<'r, E, V, T> {
 }
 
 impl<'s> Template<'s> {
+    /// A rendering on what serde writes of the context, with the engine's callables, templates and depth. It is not made
+    /// yet; a context that is no value is reported in place of a text, before anything is written.
+    pub fn render<'r, 'e, S: Serialize + Drop>(
+        &'r self,
+        engine: &'r Engine<'e>,
+        context: S,
+    ) -> Renderer<'r, &'r Engine<'e>, SerdeContext, EngineTemplates<'r, 'e>>
+        ensures template { template_in result ≡ template_of self.now }
+        ensures name { name_in result ≡ None }
+        ensures engine { (engine_in result).now ≡ engine.now }
+        ensures templates { engine_of_templates (templates_in result) ≡ engine.now }
+        ensures context { IsContextOf (λ old new. S.writes context old new) (base_in (values_in result)) }
+        ensures limit { limit_in result ≡ engine_depth engine.now }
+    {
+        let (alloc, limit) = (engine.alloc(), engine.depth());
+        Renderer {
+            alloc,
+            engine,
+            template: self.lent(),
+            name: None,
+            values: SerdeContext {
+                value: to_value(alloc, context),
+            },
+            templates: EngineTemplates { engine },
+            limit,
+        }
+    }
+
     /// A rendering on a value, with the engine's callables, templates and depth. It is not made yet.
     pub fn render_from<'r, 'e>(
         &'r self,

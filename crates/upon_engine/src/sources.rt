@@ -8,6 +8,7 @@ ghost use Rattle.upon_engine.specs.Template.{template_of};
 
 use crate::engine::Engine;
 use crate::template::Template;
+use std::marker::PhantomData;
 use upon_render::source::SourceError;
 use upon_renderer::source::{Program, ProgramSource};
 
@@ -122,6 +123,41 @@ impl<'r, C: CallName<'r>> TemplateSource<'r> for TemplateFn<C> {
 
     fn template(&mut self, name: &str) -> Result<&'r Template<'r>, SourceError> {
         self.callable.call(name)
+    }
+}
+
+/// A source of templates that lends them for a shorter time.
+#[derive(Drop)]
+pub(crate) struct ShorterLoans<'r, T> {
+    templates: T,
+    longer: PhantomData<&'r ()>,
+}
+
+impl<'r, T: TemplateSource<'r>> ShorterLoans<'r, T> {
+    pub(crate) fn new(templates: T) -> Self
+        ensures { result.templates ≡ templates }
+    {
+        ShorterLoans {
+            templates,
+            longer: PhantomData,
+        }
+    }
+}
+
+impl<'s, 'r: 's, T: TemplateSource<'r>> TemplateSource<'s> for ShorterLoans<'r, T> {
+    ghost State = { T.State };
+
+    ghost template_state = { λ s. T.template_state s.templates };
+
+    ghost resolve = { λ s. T.resolve s.templates };
+
+    ghost templates_lie = { λ s. T.templates_lie s.templates };
+
+    fn template(&mut self, name: &str) -> Result<&'s Template<'s>, SourceError> {
+        match self.templates.template(name) {
+            Ok(template) => Ok(template.lent()),
+            Err(error) => Err(error),
+        }
     }
 }
 

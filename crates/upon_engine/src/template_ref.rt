@@ -1,9 +1,10 @@
 // A template of an engine, with its name.
 ghost use Rattle.std.specs.Prelude.{◌≡◌, Some, IfSome, IsSome, option_map};
 ghost use Rattle.upon_types.specs.View.{view};
+ghost use Rattle.upon_engine.specs.Base.{IsContextOf};
 ghost use Rattle.upon_engine.specs.Calls.{engine_in, values_in, templates_in, template_in, name_in, limit_in};
 ghost use Rattle.upon_engine.specs.Engine.{engine_depth, engine_of};
-ghost use Rattle.upon_engine.specs.Sources.{engine_of_templates, source_in, value_in};
+ghost use Rattle.upon_engine.specs.Sources.{base_in, engine_of_templates, source_in, value_in};
 ghost use Rattle.upon_engine.specs.Template.{template_of};
 ghost use Rattle.upon_engine.specs.TemplateRef.{ref_engine, ref_name, ref_template};
 
@@ -11,7 +12,8 @@ use crate::engine::Engine;
 use crate::renderer::Renderer;
 use crate::sources::EngineTemplates;
 use crate::template::Template;
-use crate::values::{Context, SourceValues};
+use crate::values::{Context, SerdeContext, SourceValues};
+use serde::Serialize;
 use upon_render::source::ValueSource;
 use upon_types::value::Value;
 
@@ -64,6 +66,25 @@ impl<'r, 'e> TemplateRef<'r, 'e> {
         ensures { result.now ≡ (ref_template self.entry).source }
     {
         self.template.source()
+    }
+
+    /// A rendering on what serde writes of the context, with the engine's callables, templates and depth. It is not made
+    /// yet; a context that is no value is reported in place of a text, before anything is written.
+    pub fn render<S: Serialize + Drop>(
+        self,
+        context: S,
+    ) -> Renderer<'r, &'r Engine<'e>, SerdeContext, EngineTemplates<'r, 'e>>
+        ensures template { template_in result ≡ ref_template self.entry }
+        ensures name { name_in result ≡ Some (ref_name self.entry) }
+        ensures engine { (engine_in result).now ≡ ref_engine self.entry }
+        ensures templates { engine_of_templates (templates_in result) ≡ ref_engine self.entry }
+        ensures context { IsContextOf (λ old new. S.writes context old new) (base_in (values_in result)) }
+        ensures limit { limit_in result ≡ engine_depth (ref_engine self.entry) }
+    {
+        Renderer {
+            name: Some(self.name),
+            ..self.template.render(self.engine, context)
+        }
     }
 
     /// A rendering on a value, with the engine's callables, templates and depth. It is not made yet.

@@ -1,16 +1,15 @@
-// What a template is rendered on: a value that is lent, or a source of values.
+// What a template is rendered on: a value that is lent or owned, or a source of values.
 ghost use Rattle.std.specs.Prelude.{◌≡◌, option_map};
 ghost use Rattle.upon_types.specs.TreeSpans.{TreeLiesIn};
-ghost use Rattle.upon_render.specs.Environment.{Root};
 ghost use Rattle.upon_render.specs.Source.{Source};
-ghost use Rattle.upon_meaning.specs.Alone.{alone_within};
 ghost use Rattle.upon_meaning.specs.Engine.{Template};
 ghost use Rattle.upon_meaning.specs.Outcome.{states};
 ghost use Rattle.upon_renderer.specs.Acts.{calls_of};
 ghost use Rattle.upon_renderer.specs.Program.{IsProgramOf};
 ghost use Rattle.upon_renderer.specs.Runs.{Rendered};
+ghost use Rattle.upon_engine.specs.Base.{Base, outcome_within};
 
-use crate::sources::{Programs, TemplateSource};
+use crate::sources::{Programs, ShorterLoans, TemplateSource};
 use std::alloc::Global;
 use upon_calls::callables::Callables;
 use upon_fmt::output::Output;
@@ -20,6 +19,7 @@ use upon_renderer::failure::Failure;
 use upon_renderer::machine::Running;
 use upon_renderer::render::render;
 use upon_renderer::run::Ending;
+use upon_types::error;
 use upon_types::value::Value;
 
 /// What a template is rendered on.
@@ -32,8 +32,8 @@ pub trait Values<'r, T: TemplateSource<'r>>: Drop {
     // What its source answers.
     ghost asks: { Self → Source State };
 
-    // What lies under the bindings.
-    ghost root: { Self → Root };
+    // What lies under the bindings, or why it is no value.
+    ghost root: { Self → Base };
 
     /// Renders a program on it.
     fn render<C: Callables, W: Output>(
@@ -50,7 +50,7 @@ pub trait Values<'r, T: TemplateSource<'r>>: Drop {
             result
             (W.given out.old)
             (W.given out.new)
-            (alone_within (calls_of (C.callables callables.now) (C.default_formatter callables.now) (asks self)) (T.resolve templates) running.entry.left t (option_map (λ name. name.now) running.entry.name) (root self) (states (values_state self) (T.template_state templates))) };
+            (outcome_within (calls_of (C.callables callables.now) (C.default_formatter callables.now) (asks self)) (T.resolve templates) running.entry.left t (option_map (λ name. name.now) running.entry.name) (root self) (states (values_state self) (T.template_state templates))) };
 }
 
 /// A value that is lent: the context.
@@ -63,6 +63,7 @@ impl<'r, T: TemplateSource<'r>> Values<'r, T> for Context<'r> {
     ghost use Rattle.upon_types.specs.View.{view};
     ghost use Rattle.upon_render.specs.Asked.{never};
     ghost use Rattle.upon_render.specs.Environment.{context};
+    ghost use Rattle.upon_engine.specs.Base.{on_root};
 
     ghost State = { Unit {0} };
 
@@ -70,7 +71,7 @@ impl<'r, T: TemplateSource<'r>> Values<'r, T> for Context<'r> {
 
     ghost asks = { λ _. never };
 
-    ghost root = { λ c. context (view c.value.now) };
+    ghost root = { λ c. on_root (context (view c.value.now)) };
 
     fn render<C: Callables, W: Output>(
         self,
@@ -92,6 +93,42 @@ impl<'r, T: TemplateSource<'r>> Values<'r, T> for Context<'r> {
     }
 }
 
+/// A value that was made of what serde writes, or why there is none.
+#[derive(Drop)]
+pub struct SerdeContext {
+    pub(crate) value: error::Result<Value>,
+}
+
+impl<'r, T: TemplateSource<'r>> Values<'r, T> for SerdeContext {
+    ghost use Rattle.upon_render.specs.Asked.{never};
+    ghost use Rattle.upon_engine.specs.Sources.{base_in};
+
+    ghost State = { Unit {0} };
+
+    ghost values_state = { λ _. tt };
+
+    ghost asks = { λ _. never };
+
+    ghost root = { λ c. base_in c };
+
+    fn render<C: Callables, W: Output>(
+        self,
+        alloc: Global,
+        callables: &C,
+        running: Running<'r>,
+        templates: T,
+        out: &mut W,
+    ) -> Result<Ending, Failure> {
+        match self.value {
+            Ok(value) => {
+                let context = Context { value: &value };
+                context.render(alloc, callables, running, ShorterLoans::new(templates), out)
+            }
+            Err(error) => Err(Failure::Error(error)),
+        }
+    }
+}
+
 /// A source of values.
 #[derive(Drop)]
 pub struct SourceValues<S> {
@@ -100,6 +137,7 @@ pub struct SourceValues<S> {
 
 impl<'r, S: ValueSource, T: TemplateSource<'r>> Values<'r, T> for SourceValues<S> {
     ghost use Rattle.upon_render.specs.Environment.{value_source};
+    ghost use Rattle.upon_engine.specs.Base.{on_root};
 
     ghost State = { S.State };
 
@@ -107,7 +145,7 @@ impl<'r, S: ValueSource, T: TemplateSource<'r>> Values<'r, T> for SourceValues<S
 
     ghost asks = { λ v. S.ask v.source };
 
-    ghost root = { λ _. value_source };
+    ghost root = { λ _. on_root value_source };
 
     fn render<C: Callables, W: Output>(
         self,

@@ -1,9 +1,9 @@
 use Rattle.std.proofs.Common.{rules, ℕ, ◌-◌, ap, subst}
-use Rattle.upon_meaning.specs.Alone.{alone_within}
 use Rattle.upon_types.specs.TreeSpans.{TreeLiesIn}
 use Rattle.upon_meaning.specs.Engine.{Template}
 use Rattle.upon_renderer.specs.Program.{IsProgramOf}
 use Rattle.upon_renderer.specs.Runs.{Rendered}
+use Rattle.upon_engine.specs.Base.{outcome_within}
 use Rattle.upon_engine.specs.Calls.{call_of}
 use Rattle.upon_engine.specs.Sources.{template_lies}
 use Rattle.upon_engine.specs.Template.{template_of}
@@ -17,5 +17,5 @@ render-requires g c =
 pub returns-clause-rendered : goal.returns-clause-rendered
 returns-clause-rendered g c =
     let call = call_of g.E.Callables.callables g.E.Callables.default_formatter g.V.Values.asks g.V.Values.root g.V.Values.values_state g.T.TemplateSource.resolve g.T.TemplateSource.template_state c.args.self in
-    let F : ℕ → Type 0 = λ left. Rendered c.render.result (g.O.Output.given c.args.out.now) (g.O.Output.given c.render.new.out) (alone_within call.rendering.calls call.rendering.resolve left call.template call.name call.root call.from) in
+    let F : ℕ → Type 0 = λ left. Rendered c.render.result (g.O.Output.given c.args.out.now) (g.O.Output.given c.render.new.out) (outcome_within call.rendering.calls call.rendering.resolve left call.template call.name call.base call.from) in
     subst F (ap (λ n. n - 1) c.max.ensures) (c.render.ensures.rendered (template_of c.args.self.template.now) c.program_of.ensures)
