@@ -17,4 +17,5 @@ after_tests tests i vs answer = answer
 
 -- what an adapter with these tests answers, of a callable with this meaning
 abbrev pub adapter_answer : List Test → (List Val → Outcome) → List Val → Answer
-adapter_answer tests meaning vs = if length vs == length tests then after_tests tests 0 vs (answer_of (meaning vs)) else wrong_number (length tests)
+adapter_answer tests meaning vs =
+    if length vs == length tests then after_tests tests 0 vs (answer_of (meaning vs)) else wrong_number (length tests)

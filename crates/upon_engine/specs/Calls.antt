@@ -57,11 +57,13 @@ abbrev pub limit_in : {E V T : Type 0} → Renderer E V T → ℕ
 limit_in r = r.limit
 
 -- what a renderer denotes, by the ghost members of what it holds
-abbrev pub call_of : {E V T P Q : Type 0} → (E → List ℕ → Option Callable) → (E → Formatter) → (V → Source P) → (V → Base)
+abbrev pub call_of : {E V T P Q : Type 0} → (E → List ℕ → Option Callable) → (E → Formatter) → (V → Source P)
+    → (V → Base)
     → (V → P) → (T → Resolver Q) → (T → Q) → Renderer E V T → Call P Q
 call_of callables default_formatter asks base values_state resolve template_state r = record {
   rendering = record {
-    calls = record { callables = callables r.engine; default_formatter = default_formatter r.engine; ask = asks r.values };
+    calls =
+        record { callables = callables r.engine; default_formatter = default_formatter r.engine; ask = asks r.values };
     resolve = resolve r.templates;
     limit = r.limit;
   };

@@ -1,4 +1,5 @@
--- What each call of rendering keeps: what a depth changes, what an include with a value gives, what a template depends on.
+-- What each call of rendering keeps: what a depth changes, what an include with a value gives, what a template depends
+-- on.
 use Rattle.std.specs.Prelude.{◌≡◌, ◌≢◌, ℕ, suc, ◌≤◌, ◌<◌, List, Some}
 use Rattle.upon_types.specs.Expression.{Expression}
 use Rattle.upon_types.specs.Path.{Ident}
@@ -23,21 +24,26 @@ DepthsAgree c = (a b : ℕ) → a ≤ b → GoesOn (outcome (at_depth a c)) (out
 -- includes whose numbers fall, from one below the depth, are never too deep
 abbrev pub NumbersSuffice : {V T : Type 0} → Call V T → Type 0
 NumbersSuffice c =
-    (table : Table) (number : List ℕ → ℕ) (k : ℕ) → c.rendering.resolve ≡ from_table table → IsNumbered table number c.template.tree k → k < c.rendering.limit →
+    (table : Table) (number : List ℕ → ℕ) (k : ℕ) → c.rendering.resolve ≡ from_table table
+    → IsNumbered table number c.template.tree k → k < c.rendering.limit →
     (outcome c).end ≢ too_deep
 
 -- an include with a value, anywhere in this rendering, gives what its template gives alone on the value
 abbrev pub IncludesAlone : {V T : Type 0} → Call V T → Type 0
 IncludesAlone {V} {T} c =
-    (running : RunningTemplate) (left : ℕ) (word : Ident) (e : Expression) (env : Environment) (s : States V T) (v : Val) (t : Template) (next : States V T) →
+    (running : RunningTemplate) (left : ℕ) (word : Ident) (e : Expression) (env : Environment) (s : States V T)
+    (v : Val) (t : Template) (next : States V T) →
     IncludeFinds c.rendering.calls c.rendering.resolve word e env s v t next →
-    statement_means c.rendering.calls (included c.rendering.calls c.rendering.resolve (suc left)) running (include word (Some e)) env s ≡
+    statement_means c.rendering.calls (included c.rendering.calls c.rendering.resolve (suc left)) running
+    (include word (Some e)) env s ≡
     alone (record c.rendering { limit = suc left }) t (Some word.text) (context v) next
 
--- with the templates of a table: maps that agree on the names that are read give the same, and tables that agree on those reached
+-- with the templates of a table: maps that agree on the names that are read give the same, and tables that agree on
+-- those reached
 abbrev pub NamesSuffice : {V T : Type 0} → Call V T → Type 0
 NamesSuffice c =
-    (table : Table) (these those : Entries) → c.rendering.resolve ≡ from_table table → c.base ≡ on_root (context (map_val these)) →
+    (table : Table) (these those : Entries) → c.rendering.resolve ≡ from_table table
+    → c.base ≡ on_root (context (map_val these)) →
     AgreeOn (Reads table c.template.tree) (λ n. entry_at n these) (λ n. entry_at n those) →
     outcome c ≡ outcome (on_base (on_root (context (map_val those))) c)
 

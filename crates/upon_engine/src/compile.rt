@@ -41,7 +41,7 @@ pub fn template<'s>(alloc: Global, syntax: &Syntax, source: CowStr<'s>) -> Resul
 }
 
 /// The same over the delimiters of a searcher.
-pub fn with_searcher<'s>(
+pub(crate) fn with_searcher<'s>(
     alloc: Global,
     searcher: &Searcher,
     source: CowStr<'s>,
@@ -66,7 +66,7 @@ pub fn with_searcher<'s>(
 }
 
 /// The same for the template of a name, which its fault has.
-pub fn with_name<'s>(
+pub(crate) fn with_name<'s>(
     alloc: Global,
     searcher: &Searcher,
     name: &str,

@@ -123,11 +123,11 @@ impl<'s> Template<'s> {
 
 impl<'r, E: Drop, V: Drop, T: Drop> Renderer<'r, E, V, T> {
     /// The same with a source of templates in place of the engine's.
-    pub fn with_template_fn<S: TemplateSource<'r>>(self, templates: S) -> Renderer<'r, E, V, S>
+    pub fn with_template_fn<S: TemplateSource<'r>>(self, source: S) -> Renderer<'r, E, V, S>
         ensures template { template_in result ≡ template_in self.entry }
         ensures name { name_in result ≡ name_in self.entry }
         ensures engine { engine_in result ≡ engine_in self.entry }
-        ensures templates { templates_in result ≡ templates }
+        ensures templates { templates_in result ≡ source }
         ensures values { values_in result ≡ values_in self.entry }
         ensures limit { limit_in result ≡ limit_in self.entry }
     {
@@ -146,7 +146,7 @@ impl<'r, E: Drop, V: Drop, T: Drop> Renderer<'r, E, V, T> {
             template,
             name,
             values,
-            templates,
+            templates: source,
             limit,
         }
     }

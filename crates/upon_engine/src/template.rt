@@ -4,6 +4,9 @@ ghost use Rattle.std.specs.Cow.{cow_str_bytes};
 ghost use Rattle.upon_lexer.specs.Syntax.{syntax_delimiters};
 ghost use Rattle.upon_compiled.specs.Compiled.{HasProgram};
 
+#[cfg(test)]
+mod parts;
+
 use std::borrow::CowStr;
 use upon_instructions::types::program::Instr;
 use upon_syntax::types::syntax::Syntax;
@@ -45,7 +48,7 @@ impl<'s> Template<'s> {
     }
 
     /// Its instructions.
-    pub fn instrs(&self) -> &[Instr]
+    pub(crate) fn instrs(&self) -> &[Instr]
         ensures { program_view result.now ≡ program_of (template_tree self.now) }
     {
         self.instrs.as_slice()

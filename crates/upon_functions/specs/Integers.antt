@@ -45,7 +45,11 @@ i64_range = record { word = codes "i64"; least = negsuc 9223372036854775807; gre
 
 -- the range of `i128`
 abbrev pub i128_range : Range
-i128_range = record { word = codes "i128"; least = negsuc 170141183460469231731687303715884105727; greatest = pos 170141183460469231731687303715884105727 }
+i128_range = record {
+  word = codes "i128";
+  least = negsuc 170141183460469231731687303715884105727;
+  greatest = pos 170141183460469231731687303715884105727;
+}
 
 -- the range of `isize`
 abbrev pub isize_range : Range

@@ -13,11 +13,21 @@ use Rattle.upon_types.specs.Bytes.{line_feed, carriage_return, quote, open_paren
 -- `Ident` denotes keywords too.
 abbrev pub token_kind : Bool → ℕ → Option Token
 token_kind in_path c =
-    if is_tag_space c then Some Whitespace else (if c == dot then Some Dot else (if c == question_mark then Some QuestionDot
-    else (if c == bar then Some Pipe else (if c == comma then Some Comma else (if c == colon then Some Colon
-    else (if c == plus then Some Plus else (if c == hyphen then Some Minus else (if c == open_bracket then Some OpenBracket
-    else (if c == close_bracket then Some CloseBracket else (if c == open_brace then Some OpenBrace else (if c == close_brace then Some CloseBrace
-    else (if c == open_paren then Some OpenParen else (if c == close_paren then Some CloseParen else (if c == quote then Some String
+    if is_tag_space c then Some Whitespace
+    else (if c == dot then Some Dot
+    else (if c == question_mark then Some QuestionDot
+    else (if c == bar then Some Pipe
+    else (if c == comma then Some Comma
+    else (if c == colon then Some Colon
+    else (if c == plus then Some Plus
+    else (if c == hyphen then Some Minus
+    else (if c == open_bracket then Some OpenBracket
+    else (if c == close_bracket then Some CloseBracket
+    else (if c == open_brace then Some OpenBrace
+    else (if c == close_brace then Some CloseBrace
+    else (if c == open_paren then Some OpenParen
+    else (if c == close_paren then Some CloseParen
+    else (if c == quote then Some String
     else (if is_ascii_digit c then Some (if in_path then Index else Number)
     else (if begins_name c then Some Ident else None))))))))))))))))
 

@@ -18,7 +18,8 @@ digit_then base d others = if nat_lt d base then option_map (λ ds. d ∷ ds) ot
 -- the digits of a base, underscores left out, where there are no other characters
 abbrev pub digits_in : ℕ → List ℕ → Option (List ℕ)
 digits_in base [] = Some []
-digits_in base (b ∷ bs) = if b == underscore then digits_in base bs else digit_then base (digit_value b) (digits_in base bs)
+digits_in base (b ∷ bs) =
+    if b == underscore then digits_in base bs else digit_then base (digit_value b) (digits_in base bs)
 
 -- a number's base and what is after its prefix: `0b`, `0o`, `0x`, else none
 abbrev pub base_by : ℕ → List ℕ → ℕ × List ℕ

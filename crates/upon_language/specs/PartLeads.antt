@@ -5,7 +5,8 @@ use Rattle.upon_language.specs.Tags.{symbols_of}
 use Rattle.upon_language.specs.Parts.{Part, Path}
 
 -- the tokens before the rest lead from these parts to those
-pub record Leads (s : List ℕ) (from : List Part) (before : List Lexeme) (to : List Part) (rest : List Lexeme) : Type 0 where
+pub record Leads (s : List ℕ) (from : List Part) (before : List Lexeme) (to : List Part)
+    (rest : List Lexeme) : Type 0 where
   pub read : List Lexeme
   pub splits : before ≡ read ++ rest
   pub path : Path from (symbols_of s read) to

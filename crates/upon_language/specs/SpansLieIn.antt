@@ -18,7 +18,8 @@ abbrev mutual
   -- the spans of an expression and of what it is made of
   pub ExpressionLiesIn : List ℕ → Expression → Type 0
   ExpressionLiesIn s (base b) = BaseLiesIn s b
-  ExpressionLiesIn s (filtered e name args span) = ExpressionLiesIn s e × LiesIn s name.span × ArgumentsLieIn s args × LiesIn s span
+  ExpressionLiesIn s (filtered e name args span) =
+      ExpressionLiesIn s e × LiesIn s name.span × ArgumentsLieIn s args × LiesIn s span
 
   -- those of an expression without a filter
   pub BaseLiesIn : List ℕ → Base → Type 0

@@ -53,4 +53,5 @@ not_formatted message at = bare_fault format message (Some at)
 
 -- of includes that are too deep inside each other: the depth as it was set, and no span
 abbrev pub depth_reached : ℕ → Fault
-depth_reached limit = bare_fault render (Some (codes "reached maximum include depth (" ++ (decimal limit ++ codes ")"))) None
+depth_reached limit =
+    bare_fault render (Some (codes "reached maximum include depth (" ++ (decimal limit ++ codes ")"))) None

@@ -50,7 +50,11 @@ from_table table q name = reply (table_answer (table name)) q
 
 -- what expressions are on, with an engine and a value source
 abbrev pub calls_of : {V : Type 0} → Engine → Source V → Calls V
-calls_of engine ask = record { callables = engine.callables; default_formatter = formatter_or_default engine.default_formatter; ask = ask }
+calls_of engine ask = record {
+  callables = engine.callables;
+  default_formatter = formatter_or_default engine.default_formatter;
+  ask = ask;
+}
 
 -- the limit of a rendering: its own, or else the engine's
 abbrev pub limit_of : Option ℕ → Engine → ℕ
@@ -59,8 +63,10 @@ limit_of (Some depth) engine = depth
 
 -- a rendering with the engine's templates, and a depth of its own where one is given
 abbrev pub rendering_of : {V T : Type 0} → Engine → Source V → Option ℕ → Rendering V T
-rendering_of engine ask depth = record { calls = calls_of engine ask; resolve = from_table engine.templates; limit = limit_of depth engine }
+rendering_of engine ask depth =
+    record { calls = calls_of engine ask; resolve = from_table engine.templates; limit = limit_of depth engine }
 
 -- a rendering with a template source: the engine's templates are not asked
 abbrev pub rendering_by : {V T : Type 0} → Engine → Source V → Resolver T → Option ℕ → Rendering V T
-rendering_by engine ask resolve depth = record { calls = calls_of engine ask; resolve = resolve; limit = limit_of depth engine }
+rendering_by engine ask resolve depth =
+    record { calls = calls_of engine ask; resolve = resolve; limit = limit_of depth engine }

@@ -67,7 +67,8 @@ abbrev pub as_map : {V : Type 0} → Reply V (Finding Entries) → Span → Repl
 as_map r at = with_found r (λ es q. reply (found (operand (map_val es) at)) q)
 
 -- a filter or a call: it is where `whole` says
-abbrev pub application : {V : Type 0} → Calls V → Ident → Span → Reply V (Finding (List Operand)) → Reply V (Finding Operand)
+abbrev pub application : {V : Type 0} → Calls V → Ident → Span → Reply V (Finding (List Operand))
+    → Reply V (Finding Operand)
 application calls name whole r = with_found r (λ os q. with_span
     (reply (call_value name whole os (calls.callables name.text)) q) whole)
 

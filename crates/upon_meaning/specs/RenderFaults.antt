@@ -73,7 +73,8 @@ pub data IsStated {V T : Type 0} (calls : Calls V) (resolve : Resolver T) : Kind
       → IsStated calls resolve render (Some text)
 
 -- the templates that run: the one that is rendered, and those that answer the names of includes
-pub data Runs {T : Type 0} (resolve : Resolver T) (t : Template) (name : Option (List ℕ)) : RunningTemplate → Type 0 where
+pub data Runs {T : Type 0} (resolve : Resolver T) (t : Template) (name : Option (List ℕ)) : RunningTemplate
+    → Type 0 where
   itself : Runs resolve t name (running t name)
   included : (q : T) (word : List ℕ) (u : Template) → (resolve q word).answer ≡ says u
       → Runs resolve t name (running u (Some word))

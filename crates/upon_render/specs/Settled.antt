@@ -31,12 +31,15 @@ pub record Known : Type 0 where
 
 -- what is known of a path in an environment, before the source is asked
 abbrev pub known : Environment → Bool → Member → List Member → Known
-known env lent first rest = record { settled = or_root_settles (bindings_walk env.bindings first rest) env.root first rest; is_lent = lent }
+known env lent first rest =
+    record { settled = or_root_settles (bindings_walk env.bindings first rest) env.root first rest; is_lent = lent }
 
 -- the result is what is known
 abbrev pub Settles : List ℕ → Known → Result ValueCow Error → Type 0
 Settles source k result =
-    (outcome : Finding Val) × ((k.settled ≡ Some outcome) × Answers cow_view source outcome result × (k.is_lent ≡ true → Lends IsLent outcome result))
+    (outcome : Finding Val) ×
+    ((k.settled ≡ Some outcome) × Answers cow_view source outcome result
+    × (k.is_lent ≡ true → Lends IsLent outcome result))
 
 -- the result is what is known with these frames; where they bind nothing, the same is known without them
 abbrev pub Finds : List ℕ → Known → Known → Result (Option ValueCow) Error → Type 0

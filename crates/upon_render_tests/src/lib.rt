@@ -7,5 +7,4 @@ mod lent_loops;
 mod sources;
 #[cfg(test)]
 mod stack;
-#[cfg(test)]
-mod starved;
+pub mod starved;

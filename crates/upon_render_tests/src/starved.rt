@@ -1,18 +1,18 @@
-// A process that is out of memory, for tests of calls that take none.
+// A process that is out of memory, for tests of calls that take none or little.
 use std::alloc::{AllocError, Global};
 
 // How many pieces are taken at most, which is enough for the address space.
 const PIECES: usize = 60_000;
 
-// The memory that the process could get. While it is held, each growth is refused.
+/// The memory that the process could get. While it is held, each growth is refused.
 #[derive(Drop)]
 pub struct Hoard {
     pieces: Vec<Vec<u8>>,
 }
 
 impl Hoard {
-    // `None` where memory is not used up, as under the checkers of `rt try`: 512 GiB are granted at once, or the pieces
-    // do not end.
+    /// `None` where memory is not used up, as under the checkers of `rt try`: 512 GiB are granted at once, or the pieces
+    /// do not end. An error where the list of pieces finds no memory.
     pub fn new(alloc: Global) -> Result<Option<Hoard>, AllocError> {
         let pieces = Vec::with_capacity(alloc, PIECES)?;
         let mut hoard = Hoard { pieces };
@@ -31,6 +31,15 @@ impl Hoard {
         Ok(Some(hoard))
     }
 
+    /// The same, with room for so many bytes, and no more.
+    pub fn with_room(alloc: Global, room: usize) -> Result<Option<Hoard>, AllocError> {
+        let mut kept: Vec<Vec<u8>> = Vec::with_capacity(alloc, 1)?;
+        kept.push(Vec::with_capacity(alloc, room)?)?;
+        let hoard = Hoard::new(alloc)?;
+        drop(kept);
+        Ok(hoard)
+    }
+
     // Takes pieces of this size until one is refused.
     fn take_all(&mut self, alloc: Global, size: usize) {
         for _ in self.pieces.len()..PIECES {
@@ -45,9 +54,9 @@ impl Hoard {
         }
     }
 
-    // Whether a growth by a byte is refused. A piece that is got is kept, so that the compiler leaves the growth in.
-    fn is_whole(&mut self, alloc: Global) -> bool {
-        match Vec::with_capacity(alloc, 1) {
+    // Whether a growth by so many bytes is refused. A piece that is got is kept, so that the compiler leaves the growth in.
+    fn refuses(&mut self, alloc: Global, size: usize) -> bool {
+        match Vec::with_capacity(alloc, size) {
             Ok(piece) => {
                 drop(self.pieces.push(piece));
                 false
@@ -57,10 +66,15 @@ impl Hoard {
     }
 }
 
-// Whether each growth is refused, where memory could be used up.
+/// Whether each growth is refused, where memory could be used up.
 pub fn is_starved(alloc: Global, hoard: &mut Option<Hoard>) -> bool {
+    refuses(alloc, hoard, 1)
+}
+
+/// Whether a growth by so many bytes is refused, where memory could be used up.
+pub fn refuses(alloc: Global, hoard: &mut Option<Hoard>, size: usize) -> bool {
     match hoard {
-        Some(hoard) => hoard.is_whole(alloc),
+        Some(hoard) => hoard.refuses(alloc, size),
         None => true,
     }
 }

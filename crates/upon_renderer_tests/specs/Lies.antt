@@ -21,7 +21,8 @@ fits s i = eqb i (length s) || (ltb i (length s) && ltb (get_or s i 0) 128)
 abbrev span_fits : List ℕ → ℕ → ℕ → Bool
 span_fits s m n = leb m n && (fits s m && fits s n)
 
-boundary_by : (s : List ℕ) (i : ℕ) (at_end here : Bool) → eqb i (length s) ≡ at_end → (ltb i (length s) && ltb (get_or s i 0) 128) ≡ here → (at_end || here) ≡ true → IsCharBoundary s i
+boundary_by : (s : List ℕ) (i : ℕ) (at_end here : Bool) → eqb i (length s) ≡ at_end
+    → (ltb i (length s) && ltb (get_or s i 0) 128) ≡ here → (at_end || here) ≡ true → IsCharBoundary s i
 boundary_by s i true here e h is = subst (IsCharBoundary s) (sym (eqb-true i (length s) e)) (IsCharBoundary-end s)
 boundary_by s i false true e h is =
     let both = and_parts (ltb i (length s)) (ltb (get_or s i 0) 128) h in
@@ -40,7 +41,8 @@ lies s m n is =
 name_lies : (s : List ℕ) (m n : ℕ) → span_fits s m n ≡ true → (LiesIn s (span m n) × LiesIn s (span m n)) × Unit {0}
 name_lies s m n is = ((lies s m n is, lies s m n is), tt)
 
-shows_lies : (s : List ℕ) (m n a b : ℕ) → span_fits s m n ≡ true → span_fits s a b ≡ true → ((LiesIn s (span m n) × LiesIn s (span m n)) × Unit {0}) × LiesIn s (span a b)
+shows_lies : (s : List ℕ) (m n a b : ℕ) → span_fits s m n ≡ true → span_fits s a b ≡ true
+    → ((LiesIn s (span m n) × LiesIn s (span m n)) × Unit {0}) × LiesIn s (span a b)
 shows_lies s m n a b is tag = (name_lies s m n is, lies s a b tag)
 
 -- each tree
@@ -66,8 +68,14 @@ tree_lies Names =
     let s = source_of Names in
     ((name_lies s 8 9 refl, lies s 13 14 refl, (shows_lies s 20 21 17 24 refl refl, tt)), tt)
 tree_lies Calls =
-    let s = source_of Calls in
-    (((lies s 3 4 refl, ((((lies s 5 6 refl, lies s 5 6 refl), tt), tt), lies s 4 7 refl), lies s 3 7 refl), lies s 0 10 refl), tt)
+    let s = source_of Calls in (
+      (
+        (lies s 3 4 refl, ((((lies s 5 6 refl, lies s 5 6 refl), tt), tt), lies s 4 7 refl), lies s 3 7 refl),
+        lies s 0
+            10 refl,
+      ),
+      tt,
+    )
 tree_lies Includes = ((lies (source_of Includes) 11 17 refl, tt), tt)
 tree_lies IncludesWith =
     let s = source_of IncludesWith in

@@ -25,8 +25,10 @@ abbrev pub table : Table
 table name = pick (bytes_eq name (codes "part")) (bytes_eq name (codes "loop"))
 
 picked_lies : (a b : Bool) (t : Template) → table_answer (pick a b) ≡ says t → TreeLiesIn t.source t.tree
-picked_lies true b t is = let same : template_of Part ≡ t = cc in subst (λ t. TreeLiesIn t.source t.tree) same (tree_lies Part)
-picked_lies false true t is = let same : template_of Endless ≡ t = cc in subst (λ t. TreeLiesIn t.source t.tree) same (tree_lies Endless)
+picked_lies true b t is =
+    let same : template_of Part ≡ t = cc in subst (λ t. TreeLiesIn t.source t.tree) same (tree_lies Part)
+picked_lies false true t is =
+    let same : template_of Endless ≡ t = cc in subst (λ t. TreeLiesIn t.source t.tree) same (tree_lies Endless)
 picked_lies false false t is = absurd cc
 
 -- each lies in its text

@@ -65,7 +65,8 @@ tree_of Names =
     (only (shows_name (codes "y") (span 20 21) (span 17 24))))
 tree_of Calls =
     only (inline_expr
-    (base (call (word (codes "f") (span 3 4)) (arguments (base_then (var (member (codes "x") (span 5 6)) []) no_bases) (span 4 7)) (span 3 7)))
+    (base (call (word (codes "f") (span 3 4))
+    (arguments (base_then (var (member (codes "x") (span 5 6)) []) no_bases) (span 4 7)) (span 3 7)))
     (span 0 10))
 tree_of Includes = only (include (word (codes "part") (span 11 17)) None)
 tree_of IncludesWith =

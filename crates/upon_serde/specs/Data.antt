@@ -24,8 +24,8 @@ pub data Key : Type 0 where
   unit_variant_key : List ℕ → Case → Key
 
 mutual
-  -- what a type writes: a unit (which is also no option), a truth value, a number, a character, a text, bytes, a variant
-  -- without data, a sequence or a map (which is also a struct, or the one entry that a variant with data is)
+  -- what a type writes: a unit (which is also no option), a truth value, a number, a character, a text, bytes, a
+  -- variant without data, a sequence or a map (which is also a struct, or the one entry that a variant with data is)
   pub data Datum : Type 0 where
     unit : Datum
     truth : Bool → Datum
@@ -85,7 +85,8 @@ abbrev mutual
   pub member_events : Members → List Event → List Event
   member_events no_members after = event.map_ends ∷ after
   member_events (member_then key d ms) after = key_events key (events d (member_events ms after))
-  member_events (flattened_then length inner ms) after = event.flattens ∷ event.map_begins length ∷ member_events inner (member_events ms after)
+  member_events (flattened_then length inner ms) after =
+      event.flattens ∷ event.map_begins length ∷ member_events inner (member_events ms after)
   member_events (flattened_unit_then ms) after = event.flattens ∷ event.nothing ∷ member_events ms after
 
 -- ---- which value it is

@@ -23,7 +23,8 @@ ReadsMembers before after old new = (ms : Members) × (before ≡ member_events 
 -- a map that is flattened into another, or a unit in its place
 abbrev pub ReadsFlattened : List Event → List Event → Pairs → Pairs → Type 0
 ReadsFlattened before after old new =
-    ((length : Option ℕ) × (inside : List Event) × (before ≡ event.map_begins length ∷ inside) × ReadsMembers inside after old new)
+    ((length : Option ℕ) × (inside : List Event) × (before ≡ event.map_begins length ∷ inside)
+    × ReadsMembers inside after old new)
     ⊎ ((before ≡ event.nothing ∷ after) × (old ≡ new))
 
 -- a key, which is this text

@@ -28,6 +28,8 @@ mod readme;
 #[cfg(test)]
 mod rendering;
 #[cfg(test)]
+mod skipped;
+#[cfg(test)]
 mod sources;
 pub mod users;
 #[cfg(test)]

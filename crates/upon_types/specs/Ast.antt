@@ -48,23 +48,33 @@ with_level w = with (expression_of w.expr) (ident_of w.name) w.body
 
 -- the whole of each type
 abbrev pub statement_of : Stmt → Statement
-statement_of = fold-Stmt Statement Statement Statement Statements Statement statement_level for_level if_level scope_level with_level
+statement_of =
+    fold-Stmt Statement Statement Statement Statements Statement statement_level for_level if_level scope_level
+    with_level
 
 -- a loop
 abbrev pub for_of : ForLoop → Statement
-for_of = fold-ForLoop Statement Statement Statement Statements Statement statement_level for_level if_level scope_level with_level
+for_of =
+    fold-ForLoop Statement Statement Statement Statements Statement statement_level for_level if_level scope_level
+    with_level
 
 -- an `if`
 abbrev pub if_of : IfElse → Statement
-if_of = fold-IfElse Statement Statement Statement Statements Statement statement_level for_level if_level scope_level with_level
+if_of =
+    fold-IfElse Statement Statement Statement Statements Statement statement_level for_level if_level scope_level
+    with_level
 
 -- statements
 abbrev pub scope_of : Scope → Statements
-scope_of = fold-Scope Statement Statement Statement Statements Statement statement_level for_level if_level scope_level with_level
+scope_of =
+    fold-Scope Statement Statement Statement Statements Statement statement_level for_level if_level scope_level
+    with_level
 
 -- a `with`
 abbrev pub with_of : With → Statement
-with_of = fold-With Statement Statement Statement Statements Statement statement_level for_level if_level scope_level with_level
+with_of =
+    fold-With Statement Statement Statement Statements Statement statement_level for_level if_level scope_level
+    with_level
 
 -- the tree of a template
 abbrev pub tree_of : Template → Statements

@@ -69,35 +69,51 @@ paren_level p = paren p.expr.value p.span
 
 -- the whole of each type
 abbrev pub base_of : BaseExpr → Base
-base_of = fold-BaseExpr Base Expression Arguments Base Expression Base Base Base base_level expression_level arguments_level call_level filter_level list_level map_level paren_level
+base_of =
+    fold-BaseExpr Base Expression Arguments Base Expression Base Base Base base_level expression_level arguments_level
+    call_level filter_level list_level map_level paren_level
 
 -- an expression with filters
 abbrev pub expression_of : Expr → Expression
-expression_of = fold-Expr Base Expression Arguments Base Expression Base Base Base base_level expression_level arguments_level call_level filter_level list_level map_level paren_level
+expression_of =
+    fold-Expr Base Expression Arguments Base Expression Base Base Base base_level expression_level arguments_level
+    call_level filter_level list_level map_level paren_level
 
 -- arguments
 abbrev pub arguments_of : Args → Arguments
-arguments_of = fold-Args Base Expression Arguments Base Expression Base Base Base base_level expression_level arguments_level call_level filter_level list_level map_level paren_level
+arguments_of =
+    fold-Args Base Expression Arguments Base Expression Base Base Base base_level expression_level arguments_level
+    call_level filter_level list_level map_level paren_level
 
 -- a call
 abbrev pub call_of : Call → Base
-call_of = fold-Call Base Expression Arguments Base Expression Base Base Base base_level expression_level arguments_level call_level filter_level list_level map_level paren_level
+call_of =
+    fold-Call Base Expression Arguments Base Expression Base Base Base base_level expression_level arguments_level
+    call_level filter_level list_level map_level paren_level
 
 -- a filter
 abbrev pub filter_of : Filter → Expression
-filter_of = fold-Filter Base Expression Arguments Base Expression Base Base Base base_level expression_level arguments_level call_level filter_level list_level map_level paren_level
+filter_of =
+    fold-Filter Base Expression Arguments Base Expression Base Base Base base_level expression_level arguments_level
+    call_level filter_level list_level map_level paren_level
 
 -- a list
 abbrev pub list_of : ListExpr → Base
-list_of = fold-List Base Expression Arguments Base Expression Base Base Base base_level expression_level arguments_level call_level filter_level list_level map_level paren_level
+list_of =
+    fold-List Base Expression Arguments Base Expression Base Base Base base_level expression_level arguments_level
+    call_level filter_level list_level map_level paren_level
 
 -- a map
 abbrev pub map_of : MapExpr → Base
-map_of = fold-Map Base Expression Arguments Base Expression Base Base Base base_level expression_level arguments_level call_level filter_level list_level map_level paren_level
+map_of =
+    fold-Map Base Expression Arguments Base Expression Base Base Base base_level expression_level arguments_level
+    call_level filter_level list_level map_level paren_level
 
 -- parentheses
 abbrev pub paren_of : Paren → Base
-paren_of = fold-Paren Base Expression Arguments Base Expression Base Base Base base_level expression_level arguments_level call_level filter_level list_level map_level paren_level
+paren_of =
+    fold-Paren Base Expression Arguments Base Expression Base Base Base base_level expression_level arguments_level
+    call_level filter_level list_level map_level paren_level
 
 -- arguments, where there may be none
 abbrev pub maybe_arguments_of : Option Args → Arguments
