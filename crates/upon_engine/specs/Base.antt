@@ -27,7 +27,8 @@ outcome_within calls resolve left t name (no_value f) s = fault_outcome f s
 -- the same in a rendering, under a name or none; the template itself counts as one of the depth
 abbrev pub outcome_over : {V T : Type 0} → Rendering V T → Template → Option (List ℕ) → Base → States V T
     → Outcome (States V T)
-outcome_over rendering t name base s = outcome_within rendering.calls rendering.resolve (includes_left rendering.limit) t
+outcome_over rendering t name base s =
+    outcome_within rendering.calls rendering.resolve (includes_left rendering.limit) t
     name base s
 
 -- the value as a context; or its fault

@@ -1,6 +1,6 @@
 -- What a writer as an output holds.
-use Rattle.std.proofs.Common.{refl}
-use Rattle.std.specs.Prelude.{◌≡◌, Bool, true, false, is_some}
+use Rattle.std.specs.Prelude.{Bool, true, false, Option, None, is_some, ◌&&◌}
+use Rattle.std.specs.declared.io.Error.{Error as IoError}
 use denote.MutBor.{MutBor}
 use Rattle.upon_fmt.specs.declared.output.LentWriter.{LentWriter}
 use Rattle.upon_fmt.specs.declared.output.Mark.{Mark}
@@ -12,15 +12,14 @@ abbrev pub is_set : Mark → Bool
 is_set Clear = false
 is_set (Set error) = true
 
--- whether an error waits to be taken
-abbrev pub error_waits : Mark → Bool
-error_waits Clear = false
-error_waits (Set error) = is_some error
+-- the error that a mark holds
+abbrev pub error_in : Mark → Option IoError
+error_in Clear = None
+error_in (Set error) = error
 
--- an error waits only where the mark is set
-pub marked_error : (m : Mark) → error_waits m ≡ true → is_set m ≡ true
-marked_error Clear waits = absurd cc
-marked_error (Set error) waits = refl
+-- whether an error waits to be taken: the mark is set, and holds one
+abbrev pub error_waits : Mark → Bool
+error_waits mark = is_set mark && is_some (error_in mark)
 
 -- the writer
 abbrev pub writer_of : {W : Type 0} → Writer W → W

@@ -134,7 +134,9 @@ impl<W: io::Write> Writer<W> {
 }
 
 impl<W: io::Write> Output for Writer<W> {
-    ghost use Rattle.upon_fmt.specs.Writer.{writer_of, has_failed, has_error, marked_error};
+    ghost use Rattle.upon_fmt.specs.Writer.{writer_of, has_failed, has_error, is_set, error_in};
+    ghost use Rattle.std.specs.Prelude.{is_some};
+    ghost use Rattle.std.proofs.lemmas.Bool.{and_parts};
 
     ghost given = { λ w. W.contents (writer_of w) };
 
@@ -142,7 +144,7 @@ impl<W: io::Write> Output for Writer<W> {
 
     ghost waits = { λ w. has_error w };
 
-    ghost error_marked = { λ w. marked_error w.mark };
+    ghost error_marked = { λ w waits. (and_parts (is_set w.mark) (is_some (error_in w.mark)) waits).0 };
 
     ghost holds = { λ _. [] };
 
@@ -178,7 +180,9 @@ impl<'w, W: io::Write> LentWriter<'w, W> {
 
 impl<'w, W: io::Write> Output for LentWriter<'w, W> {
     ghost use Rattle.std.specs.Prelude.{◌∷◌};
-    ghost use Rattle.upon_fmt.specs.Writer.{lent_writer_of, lent_has_failed, lent_has_error, marked_error};
+    ghost use Rattle.upon_fmt.specs.Writer.{lent_writer_of, lent_has_failed, lent_has_error, is_set, error_in};
+    ghost use Rattle.std.specs.Prelude.{is_some};
+    ghost use Rattle.std.proofs.lemmas.Bool.{and_parts};
 
     ghost given = { λ w. W.contents (lent_writer_of w).now };
 
@@ -186,7 +190,7 @@ impl<'w, W: io::Write> Output for LentWriter<'w, W> {
 
     ghost waits = { λ w. lent_has_error w };
 
-    ghost error_marked = { λ w. marked_error w.mark };
+    ghost error_marked = { λ w waits. (and_parts (is_set w.mark) (is_some (error_in w.mark)) waits).0 };
 
     ghost holds = { λ w. (lent_writer_of w).ghost_name ∷ [] };
 

@@ -52,7 +52,8 @@ pub record Range : Type 0 where
 
 -- an integer argument takes an integer in its type's range
 abbrev pub integer_misfit : Range → Test
-integer_misfit range (int_val z) = if int_le range.least z && int_le z range.greatest then None else Some (out_of_range range.word)
+integer_misfit range (int_val z) =
+    if int_le range.least z && int_le z range.greatest then None else Some (out_of_range range.word)
 integer_misfit range v = Some (wrong_type range.word)
 
 -- only an integer is out of range
