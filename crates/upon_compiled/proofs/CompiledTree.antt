@@ -1,21 +1,21 @@
 -- The tree of a compiled template, out of the fact that there is one.
 use Rattle.std.proofs.Common.{◌≡◌, ℕ, List, [], ◌++◌, length, sym, ap, ◌∙◌, subst}
 use Rattle.std.specs.Str.{IsUtf8}
-use Rattle.std.proofs.lemmas.Str.{IsUtf8-had}
 use Rattle.std.proofs.Math.Logic.{∥∥₁_elim, ∥∥₁_map}
 use Rattle.upon_types.specs.Tree.{Statements}
 use Rattle.upon_types.specs.TreeSpans.{TreeLiesIn}
 use Rattle.upon_types.proofs.Sets.{Statements-one_path}
 use Rattle.upon_language.specs.Grammar.{HasTree}
 use Rattle.upon_language.specs.LiesIn.{HasUtf8}
-use Rattle.upon_language.specs.Search.{DelimiterText, HasTexts, text_at}
+use Rattle.upon_language.specs.Search.{DelimiterText, HasTexts}
 use Rattle.upon_language.proofs.Spans.Trees.{tree_lies_in}
+use Rattle.upon_language.proofs.SpansLieIn.Characters.{had_utf8}
 use Rattle.upon_machine.specs.Instr.{Instr as PureInstr}
 use Rattle.upon_machine.specs.Code.{program_of, statements_code}
 use Rattle.upon_instructions.specs.Program.{program_view}
 use Rattle.upon_instructions.specs.declared.types.program.Instr.{Instr}
 use Rattle.upon_compiled.specs.Compiled.{HasProgram, the_tree}
-use Rattle.upon_compiled.proofs.Sets.{Instrs-one_path}
+use Rattle.upon_machine.proofs.Sets.{Instrs-one_path}
 use Rattle.upon_compiled.proofs.TreeSpans.{TreeLiesIn-prop, tree_spans}
 
 module _ (delimiters : List DelimiterText) (s : List ℕ) (instrs : List Instr) (h : HasProgram delimiters s instrs) where
@@ -47,9 +47,6 @@ module _ (delimiters : List DelimiterText) (s : List ℕ) (instrs : List Instr) 
 -- the text's only tree
 abbrev OnlyTree : List DelimiterText → List ℕ → Statements → Type 0
 OnlyTree delimiters s tree = HasTree delimiters s tree × ((other : Statements) → HasTree delimiters s other → other ≡ tree)
-
-had_utf8 : (delimiters : List DelimiterText) → ∥ HasUtf8 delimiters ∥₁ → HasUtf8 delimiters
-had_utf8 delimiters h = λ i below. IsUtf8-had (text_at delimiters i) (∥∥₁_map h (λ each. each i below))
 
 module _ (d e : List DelimiterText) (same : d ≡ e) where
   -- the fact of a template, from its text's only tree and that tree's program

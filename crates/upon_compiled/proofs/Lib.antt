@@ -1,4 +1,3 @@
-pub mod Sets
 pub mod TreeSpans
 pub mod CompiledTree
 pub mod Templates

@@ -1,9 +1,9 @@
 -- What a compiled template keeps: its text has one tree, and the instructions are that tree's program.
 use Rattle.std.specs.Prelude.{◌≡◌, ℕ, List}
-use Rattle.std.proofs.Math.Logic.{∥∥₁_elim, ∥∥₁_prop}
-use mathlib.Core.HLevel.{Σ_prop_path}
+use Rattle.std.proofs.Math.Logic.{∥∥₁_elim}
 use Rattle.upon_types.specs.Tree.{Statements}
 use Rattle.upon_types.specs.TreeSpans.{TreeLiesIn}
+use Rattle.upon_types.proofs.OnlyOne.{only_one}
 use Rattle.upon_types.proofs.Sets.{Statements-one_path}
 use Rattle.upon_language.specs.Grammar.{HasTree}
 use Rattle.upon_language.specs.Search.{DelimiterText}
@@ -26,12 +26,9 @@ HasProgram delimiters s instrs = ∥ ((tree : Statements) × IsCompiled delimite
 abbrev pub CompiledTree : List DelimiterText → List ℕ → List Instr → Type 0
 CompiledTree delimiters s instrs = (tree : Statements) × ∥ IsCompiled delimiters s instrs tree ∥₁
 
--- there is one at most
-pub CompiledTree-prop : (delimiters : List DelimiterText) (s : List ℕ) (instrs : List Instr) (a b : CompiledTree delimiters s instrs) → a ≡ b
-CompiledTree-prop delimiters s instrs a b =
-    Σ_prop_path (λ (tree : Statements). ∥∥₁_prop)
-    (∥∥₁_elim a.1 (Statements-one_path a.0 b.0) (λ k. ∥∥₁_elim b.1 (Statements-one_path a.0 b.0) (λ l. l.only_tree a.0 k.has_tree)))
-
--- the tree, out of the fact that there is one
+-- the tree, out of the fact that there is one: there is one at most
 abbrev pub the_tree : (delimiters : List DelimiterText) (s : List ℕ) (instrs : List Instr) → HasProgram delimiters s instrs → CompiledTree delimiters s instrs
-the_tree delimiters s instrs h = ∥∥₁_elim h (CompiledTree-prop delimiters s instrs) (λ k. (k.0, ∣ k.1 ∣₁))
+the_tree delimiters s instrs h =
+    ∥∥₁_elim h
+    (only_one Statements-one_path (IsCompiled delimiters s instrs) (λ a b k l. l.only_tree a k.has_tree))
+    (λ k. (k.0, ∣ k.1 ∣₁))

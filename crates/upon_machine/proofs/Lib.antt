@@ -1,4 +1,5 @@
 pub mod FollowsTree
+pub mod Sets
 pub mod FaultsLie
 pub mod Midway
 pub mod JumpsWithin

@@ -7,6 +7,7 @@ use Rattle.upon_meaning.specs.Outcome.{End, Outcome, States, with_text_before}
 use Rattle.upon_machine.specs.Run.{on_next, run, count_next, steps, text_of, Midway}
 use Rattle.upon_machine.specs.State.{State}
 use Rattle.upon_machine.specs.Step.{Next, goes, stops, stuck, step}
+use Rattle.upon_machine.proofs.FollowsTree.Comes.{twice}
 
 module _ {V T : Type 0} (calls : Calls V) (resolve : Resolver T) (root : Root) where
   abbrev go : ℕ → State V T → Option (Outcome (States V T))
@@ -21,10 +22,6 @@ module _ {V T : Type 0} (calls : Calls V) (resolve : Resolver T) (root : Root) w
   some_of : (w : List ℕ) (x : Option (Outcome (States V T))) (o : Outcome (States V T)) → option_map (with_text_before w) x ≡ Some o → (p : Outcome (States V T)) × (x ≡ Some p)
   some_of w None o e = absurd cc
   some_of w (Some p) o e = (p, refl)
-
-  twice : (a b : List ℕ) (o : Option (Outcome (States V T))) → option_map (with_text_before a) (option_map (with_text_before b) o) ≡ option_map (with_text_before (a ++ b)) o
-  twice a b None = refl
-  twice a b (Some o) = ap (λ l. Some (record o { text = l })) (sym (append_assoc a b o.text))
 
   -- more steps change nothing
   longer_next : (n m : ℕ) (x : Next V T) (o : Outcome (States V T)) → ((s : State V T) (p : Outcome (States V T)) → go m s ≡ Some p → go n s ≡ Some p) → on m x ≡ Some o → on n x ≡ Some o

@@ -1,5 +1,5 @@
 -- A loop over a map goes over each entry once, in ascending order of the keys' bytes; and of a literal's equal keys the last counts.
-use Rattle.std.proofs.Common.{◌≡◌, inl, inr, ℕ, List, [], ◌∷◌, map, Bool, true, false, Option, Some, None, Less, Equal, Greater, nat_cmp, refl, sym, ap, ◌∙◌, subst, bytes_eq, if◌then◌else◌}
+use Rattle.std.proofs.Common.{◌≡◌, inl, inr, ℕ, List, [], ◌∷◌, map, Bool, true, false, Option, Some, None, Less, nat_cmp, refl, sym, ap, ◌∙◌, subst, bytes_eq, if◌then◌else◌}
 use Rattle.std.proofs.lemmas.Bool.{and_parts, false≢true}
 use Rattle.std.proofs.lemmas.Map.Text.{is_eq-slice_cmp}
 use Rattle.std.proofs.lemmas.Slice.Eq.{bytes_eq-Decides}
@@ -10,27 +10,23 @@ use Rattle.std.specs.List.{AllByRecursion}
 use Rattle.std.specs.List.Sorted.{IsStrictlySortedBy}
 use Rattle.std.specs.Map.{keys_of}
 use Rattle.std.specs.Ordering.{is_lt, is_eq}
-use Rattle.std.specs.declared.cmp.Ordering.{Ordering}
 use Rattle.upon_types.specs.declared.types.Span.{Span}
 use Rattle.upon_types.specs.Expression.{Items, no_items, item_then, mapping}
 use Rattle.upon_types.specs.Path.{Ident, key_value}
 use Rattle.upon_types.specs.Val.{Val, Entries, no_entries, entry_then, map_val, entry_at, key_of, entry_list, rises}
+use Rattle.upon_types.specs.Conversions.{or_else, last_at}
+use Rattle.upon_types.proofs.Copies.{is_less}
 use Rattle.upon_render.specs.Environment.{Environment}
 use Rattle.upon_render.specs.Finding.{Finding, found, at_fault, reply, on_found}
 use Rattle.upon_render.specs.Items.{items_of, entry_binds}
 use Rattle.upon_meaning.specs.Engine.{Calls}
 use Rattle.upon_meaning.specs.Entries.{with_entry}
 use Rattle.upon_meaning.specs.Evaluation.{Operand, operand, prepend, as_map, evaluate_base, evaluate_bases, evaluate_items}
-use Rattle.upon_meaning.specs.MapOrder.{IsAmong, GoesInOrder, item_bases, item_values, or_else, last_at}
+use Rattle.upon_meaning.specs.MapOrder.{IsAmong, GoesInOrder, item_bases, item_values}
 use Rattle.upon_meaning.proofs.MapLiterals.{literal_rises}
 use Rattle.upon_meaning.proofs.RisingEntries.{entry_more}
 
 -- ---- the keys ascend
-is_less : (o : Ordering) → is_lt o ≡ true → o ≡ Less
-is_less Less h = refl
-is_less Equal h = absurd (false≢true h)
-is_less Greater h = absurd (false≢true h)
-
 above_all : (k : List ℕ) (xs : List (List ℕ × Val)) → below_all (slice_cmp nat_cmp) k xs ≡ true → AllByRecursion (λ l. slice_cmp nat_cmp k l ≡ Less) (keys_of xs)
 above_all k [] h = tt
 above_all k (x ∷ xs) h =

@@ -1,5 +1,5 @@
 -- The order of a map's items in a loop, and what a map literal holds.
-use Rattle.std.specs.Prelude.{◌≡◌, ◌⊎◌, ◌↔◌, ℕ, List, [], ◌∷◌, map, Option, Some, None, bytes_eq, if◌then◌else◌}
+use Rattle.std.specs.Prelude.{◌≡◌, ◌⊎◌, ◌↔◌, ℕ, List, [], ◌∷◌, map, Some}
 use Rattle.std.specs.Cmp.Lexicographic.{slice_cmp}
 use Rattle.std.specs.List.Sorted.{IsStrictlySortedBy}
 use Rattle.std.specs.Map.{keys_of}
@@ -33,13 +33,3 @@ abbrev pub item_values : Items → List Operand → List (List ℕ × Val)
 item_values no_items os = []
 item_values (item_then key b items) [] = []
 item_values (item_then key b items) (o ∷ os) = (key.text, o.value) ∷ item_values items os
-
--- the first of two, where it is there
-abbrev pub or_else : {A : Type 0} → Option A → Option A → Option A
-or_else (Some a) other = Some a
-or_else None other = other
-
--- the value of the last of them that has this key
-abbrev pub last_at : List ℕ → List (List ℕ × Val) → Option Val
-last_at key [] = None
-last_at key (e ∷ es) = or_else (last_at key es) (if bytes_eq key e.0 then Some e.1 else None)

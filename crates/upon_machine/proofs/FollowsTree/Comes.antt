@@ -7,6 +7,11 @@ use Rattle.upon_machine.specs.Run.{on_next, run}
 use Rattle.upon_machine.specs.State.{State}
 use Rattle.upon_machine.specs.Step.{goes, stops, step}
 
+-- a text before an outcome, and one before that, are one text before it
+pub twice : {V T : Type 0} (a b : List ℕ) (o : Option (Outcome (States V T))) → option_map (with_text_before a) (option_map (with_text_before b) o) ≡ option_map (with_text_before (a ++ b)) o
+twice a b None = refl
+twice a b (Some o) = ap (λ l. Some (record o { text = l })) (sym (append_assoc a b o.text))
+
 module _ {V T : Type 0} (calls : Calls V) (resolve : Resolver T) (root : Root) where
   abbrev pub go : ℕ → State V T → Option (Outcome (States V T))
   go n s = run calls resolve root n s
@@ -27,10 +32,6 @@ module _ {V T : Type 0} (calls : Calls V) (resolve : Resolver T) (root : Root) w
   -- from s the run does what the outcome says, and is then at s'
   abbrev pub Follows : State V T → Outcome (States V T) → (States V T → State V T) → Type 0
   Follows s o s' = Reaches o.end s o.text o.next (s' o.next)
-
-  twice : (a b : List ℕ) (o : Option (Outcome (States V T))) → option_map (with_text_before a) (option_map (with_text_before b) o) ≡ option_map (with_text_before (a ++ b)) o
-  twice a b None = refl
-  twice a b (Some o) = ap (λ l. Some (record o { text = l })) (sym (append_assoc a b o.text))
 
   none : (o : Option (Outcome (States V T))) → o ≡ option_map (with_text_before []) o
   none None = refl

@@ -8,6 +8,7 @@ use Rattle.upon_types.specs.TreeSpans.{TreeLiesIn}
 use Rattle.upon_types.specs.Val.{Val, none_val, bool_val, int_val, text_val, list_val, map_val, kind_word}
 use Rattle.upon_types.proofs.CombinedSpans.{combined_lies_in}
 use Rattle.upon_render.specs.Environment.{Root}
+use Rattle.upon_render.specs.Finding.{reply}
 use Rattle.upon_render.specs.Source.{says, refuses}
 use Rattle.upon_meaning.specs.Alone.{alone_within, fault_of_end}
 use Rattle.upon_meaning.specs.CallFaults.{depth_reached}
@@ -56,3 +57,7 @@ table_says (Some u) t h e = let same : u ≡ t = cc in h t (ap Some same)
 
 pub table_lies : {T : Type 0} (table : Table) → ((name : List ℕ) (t : Template) → table name ≡ Some t → TreeLiesIn t.source t.tree) → TemplatesLie {T = T} (from_table table)
 table_lies table h q name t e = table_says (table name) t (h name) e
+
+-- the one template of a source, where the spans in its tree lie in its text
+pub one_lies : {T : Type 0} (t : Template) → TreeLiesIn t.source t.tree → TemplatesLie {T = T} (λ q name. reply (says t) q)
+one_lies t h q name u e = let same : t ≡ u = cc in let F : Template → Type 0 = λ u. TreeLiesIn u.source u.tree in subst F same h

@@ -1,6 +1,7 @@
 -- An outer variable makes no difference to a whole `with` or `for` that binds its name, where the expression does not read it.
-use Rattle.std.proofs.Common.{◌≡◌, ◌⊎◌, inl, inr, ℕ, ◌+◌, List, [], ◌∷◌, ◌++◌, length, map, Bool, true, false, refl, sym, ap, ◌∙◌, subst, codes, bytes_eq, append_assoc}
+use Rattle.std.proofs.Common.{◌≡◌, ◌⊎◌, inl, inr, ℕ, ◌+◌, List, [], ◌∷◌, ◌++◌, length, map, refl, sym, ap, ◌∙◌, subst, codes, bytes_eq, append_assoc}
 use Rattle.std.proofs.lemmas.Slice.Eq.{bytes_eq-Decides}
+use Rattle.std.proofs.lemmas.Bool.{false_from_ne_true}
 use Rattle.upon_types.specs.declared.types.Span.{Span}
 use Rattle.upon_types.specs.declared.types.ast.path.AccessOp.{AccessOp}
 use Rattle.upon_types.specs.Expression.{Expression, expression_span}
@@ -25,10 +26,6 @@ use Rattle.upon_meaning.proofs.SameIncludes.{alike_body}
 use Rattle.upon_meaning.proofs.SameLookups.{Known, FoundAlike, hides, binds_more, other_name}
 use Rattle.upon_meaning.proofs.SameMeaning.{same_value}
 
-is_false : (x : Bool) → (x ≡ true → ⊥) → x ≡ false
-is_false true h = absurd (h refl)
-is_false false h = refl
-
 -- names that are not the binding's are found as if it were not there
 module _ {V : Type 0} (ask : Source V) (b : Binding) (bs : List Binding) (env : Environment) where
   abbrev Others : List ℕ → Type 0
@@ -38,7 +35,7 @@ module _ {V : Type 0} (ask : Source V) (b : Binding) (bs : List Binding) (env : 
       lookup ask (bind_all bs (bind b env)) (record { op = op; access = selector; span = span }) rest q ≡ lookup ask (bind_all bs env) (record { op = op; access = selector; span = span }) rest q
   others_by (by_index n at) op span rest q known = refl
   others_by (by_key word) op span rest q known =
-      let other = is_false (bytes_eq word.text b.name) (λ e. known (sym ((bytes_eq-Decides word.text b.name).0 e))) in
+      let other = false_from_ne_true (bytes_eq word.text b.name) (λ e. known (sym ((bytes_eq-Decides word.text b.name).0 e))) in
       ap (λ x. or_root (maybe_bound x rest) ask env.root (record { op = op; access = by_key word; span = span }) rest q) (other_name b env.bindings word.text bs other)
 
   others_alike : FoundAlike ask Others (bind_all bs (bind b env)) (bind_all bs env)

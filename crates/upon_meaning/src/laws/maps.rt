@@ -1,6 +1,7 @@
 // The order of maps: that of their keys' bytes, whatever order they were written in.
 ghost use Rattle.std.specs.Prelude.{◌≡◌, ℕ, List, true, map, Some, bytes_eq, if◌then◌else◌};
 ghost use Rattle.upon_types.specs.declared.types.Span.{Span};
+ghost use Rattle.upon_types.specs.Conversions.{last_at};
 ghost use Rattle.upon_types.specs.Expression.{Items, mapping};
 ghost use Rattle.upon_types.specs.Path.{Ident, key_value};
 ghost use Rattle.upon_types.specs.Val.{Val, Entries, map_val, entry_at, key_of, entry_list, rises};
@@ -10,7 +11,7 @@ ghost use Rattle.upon_render.specs.Items.{items_of, entry_binds};
 ghost use Rattle.upon_meaning.specs.Engine.{Calls};
 ghost use Rattle.upon_meaning.specs.Entries.{with_entry};
 ghost use Rattle.upon_meaning.specs.Evaluation.{Operand, evaluate_base, evaluate_bases};
-ghost use Rattle.upon_meaning.specs.MapOrder.{GoesInOrder, item_bases, item_values, last_at};
+ghost use Rattle.upon_meaning.specs.MapOrder.{GoesInOrder, item_bases, item_values};
 
 /// A map literal gives a map whose entries are in ascending order of their keys' bytes.
 pub fn map_literal_rises<V>()
