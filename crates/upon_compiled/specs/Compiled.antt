@@ -12,7 +12,8 @@ use Rattle.upon_instructions.specs.Program.{program_view}
 use Rattle.upon_instructions.specs.declared.types.program.Instr.{Instr}
 
 -- the tree is the text's only one, the instructions are its program, and its spans lie in the text
-pub record IsCompiled (delimiters : List DelimiterText) (s : List ℕ) (instrs : List Instr) (tree : Statements) : Type 0 where
+pub record IsCompiled (delimiters : List DelimiterText) (s : List ℕ) (instrs : List Instr)
+    (tree : Statements) : Type 0 where
   pub has_tree : HasTree delimiters s tree
   pub only_tree : (other : Statements) → HasTree delimiters s other → other ≡ tree
   pub program : program_view instrs ≡ program_of tree
@@ -27,7 +28,8 @@ abbrev pub CompiledTree : List DelimiterText → List ℕ → List Instr → Typ
 CompiledTree delimiters s instrs = (tree : Statements) × ∥ IsCompiled delimiters s instrs tree ∥₁
 
 -- the tree, out of the fact that there is one: there is one at most
-abbrev pub the_tree : (delimiters : List DelimiterText) (s : List ℕ) (instrs : List Instr) → HasProgram delimiters s instrs → CompiledTree delimiters s instrs
+abbrev pub the_tree : (delimiters : List DelimiterText) (s : List ℕ) (instrs : List Instr)
+    → HasProgram delimiters s instrs → CompiledTree delimiters s instrs
 the_tree delimiters s instrs h =
     ∥∥₁_elim h
     (only_one Statements-one_path (IsCompiled delimiters s instrs) (λ a b k l. l.only_tree a k.has_tree))

@@ -42,7 +42,8 @@ LeavesOut waits e = (error_of e ≡ out_of_memory) ⊎ ((waits ≡ true) × (err
 
 -- The output received the whole text, and the fault of the outcome's end is reported where it has one; or it received a
 -- beginning of the text.
-abbrev pub Writes : {Q : Type 0} → ℕ → Bool → Result (Unit {0}) Error → Option (List ℕ) → Option (List ℕ) → Outcome Q → Type 0
+abbrev pub Writes : {Q : Type 0} → ℕ → Bool → Result (Unit {0}) Error → Option (List ℕ) → Option (List ℕ) → Outcome Q
+    → Type 0
 Writes limit waits (Ok u) old new o = (o.end ≡ good) × Appends old new o.text
 Writes limit waits (Err e) old new o =
     ((fault_of_end limit o.end ≡ Some (error_of e)) × Appends old new o.text)
