@@ -3,3 +3,4 @@ pub mod Laws
 pub mod Texts
 pub mod Roots
 pub mod Renderings
+pub mod TemplateSpans

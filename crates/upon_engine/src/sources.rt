@@ -56,7 +56,10 @@ pub struct EngineTemplates<'r, 'e> {
 impl<'r, 'e> TemplateSource<'r> for EngineTemplates<'r, 'e> {
     ghost use Rattle.upon_meaning.specs.Engine.{from_table};
     ghost use Rattle.upon_engine.specs.Engine.{engine_of};
-    ghost use Rattle.upon_engine.specs.Sources.{engine_lies};
+    ghost use Rattle.std.specs.BTreeMap.{get_by_text};
+    ghost use Rattle.upon_compiled.proofs.CompiledTree.{spans};
+    ghost use Rattle.upon_compiled.proofs.Templates.{map_lies};
+    ghost use Rattle.upon_engine.specs.Template.{template_source, template_syntax};
 
     ghost State = { Unit {0} };
 
@@ -64,7 +67,8 @@ impl<'r, 'e> TemplateSource<'r> for EngineTemplates<'r, 'e> {
 
     ghost resolve = { λ s. from_table (engine_of (λ f. (Format-box f).formats f.value) (λ f. (Function-box f).answers f.value) s.engine.now).templates };
 
-    ghost templates_lie = { λ s. engine_lies (λ f. (Format-box f).formats f.value) (λ f. (Function-box f).answers f.value) s.engine.now };
+    ghost templates_lie = { λ s. map_lies template_of (λ t. spans (template_syntax t) (template_source t) t.instrs.items t.is_compiled)
+        (get_by_text s.engine.now.templates) };
 
     fn template(&mut self, name: &str) -> Result<&'r Template<'r>, SourceError> {
         match self.engine.held(name) {

@@ -25,11 +25,12 @@ use Rattle.upon_language.proofs.NoTreeWithFault.InsideTag.{end_is_no_space}
 use Rattle.upon_language.proofs.NoTreeWithFault.TagShapes.{ends_a_tag}
 use Rattle.upon_language.proofs.Wanted.LiteralWords.{Decided, number_decided, string_decided, index_decided}
 use Rattle.upon_tags.specs.declared.compile.parse.literal.Lexed.{Lexed}
-use Rattle.upon_tags.specs.declared.compile.parse.literal.Refusal.{Refusal}
+use Rattle.upon_tags.specs.declared.compile.parse.literal_fault.Refusal.{Refusal}
 use Rattle.upon_tags.specs.declared.compile.parse.want.Want.{Want}
 use Rattle.upon_syntax.specs.declared.compile.parse.tag_tokens.Ended.{Ended}
 use Rattle.upon_syntax.specs.declared.compile.parse.tag_tokens.Ended.TheVariants.{End, Fault as CutFault, Literal, Eof}
-use Rattle.upon_tags.specs.Literals.{lexeme_of, report_of}
+use Rattle.upon_tags.specs.Literals.{lexeme_of}
+use Rattle.upon_tags.specs.LiteralReasons.{report_of, literal_reason}
 use Rattle.upon_tags.specs.TagTokens.{lexemes_of}
 use Rattle.upon_tags.specs.TagParsing.{Refuses}
 use Rattle.upon_syntax.specs.TagReading.{IsSyntaxError}
@@ -174,11 +175,11 @@ module _ (delimiters : List DelimiterText) (s : List ℕ) (want : Want) (tokens_
           let F : Option Wanted → Type 0 = λ o. Decided l.token o (after g.to l.token (key_of (word_of s l.token (span_of here l.span.n)))) in
           subst F g.wants (decided s (last_or None g.tokens) l.token l.span (report_of refusal) g.to (key_of (word_of s l.token (span_of here l.span.n))) wrong.wrong)
 
-      pub refused_literal : fits_word l.token (wanted_of want) ≡ true → OrMemory (syntax_fault s refusal.span refusal.reason.now) (fault_of e) → IsSyntaxError delimiters s e
+      pub refused_literal : fits_word l.token (wanted_of want) ≡ true → OrMemory (syntax_fault s refusal.span (literal_reason refusal.fault)) (fault_of e) → IsSyntaxError delimiters s e
       refused_literal fits fault =
           let next = rw fits at by_word in
           let F : Span → Type 0 = λ x. DenotesNothing s (last_or None g.tokens) l.token x (report_of refusal) in
-          told delimiters s refusal.span refusal.reason.now e (stuck_literal delimiters s g.sort g.ls g.from g.tokens g.after ended g.tag g.to leads_all l.token l.span.n (report_of refusal) next.0 wrong.inside (subst F placed wrong.wrong) next.1) fault
+          told delimiters s refusal.span (literal_reason refusal.fault) e (stuck_literal delimiters s g.sort g.ls g.from g.tokens g.after ended g.tag g.to leads_all l.token l.span.n (report_of refusal) next.0 wrong.inside (subst F placed wrong.wrong) next.1) fault
 
       pub refused_token : fits_word l.token (wanted_of want) ≡ false → OrMemory (token_fault s (wanted_of want) l) (fault_of e) → IsSyntaxError delimiters s e
       refused_token fits fault = at_token l false wrong.from (inr (refl, wrong.inside)) wrong.clear (no_literal_space s (last_or None g.tokens) l.token l.span (report_of refusal) wrong.wrong) (rw fits at by_word) e fault

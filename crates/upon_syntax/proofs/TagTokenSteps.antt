@@ -18,8 +18,9 @@ use Rattle.upon_language.proofs.NoTreeWithFault.InsideTag.{is_inside, EachInside
 use Rattle.upon_tags.specs.declared.compile.parse.literal.Lexed.{Lexed}
 use Rattle.upon_syntax.specs.declared.compile.parse.tag_tokens.Ended.{Ended}
 use Rattle.upon_syntax.specs.declared.compile.parse.tag_tokens.Ended.TheVariants.{End, Fault as CutFault, Literal, Eof}
-use Rattle.upon_tags.specs.declared.compile.parse.literal.Refusal.{Refusal}
-use Rattle.upon_tags.specs.Literals.{lexeme_of, report_of}
+use Rattle.upon_tags.specs.declared.compile.parse.literal_fault.Refusal.{Refusal}
+use Rattle.upon_tags.specs.Literals.{lexeme_of}
+use Rattle.upon_tags.specs.LiteralReasons.{report_of}
 use Rattle.upon_syntax.specs.TagEnds.{DenotesNothing, StopsAt, ReportsCut, ReadsOn, ReadsUpTo, EndsBy}
 use Rattle.upon_language.proofs.NoTreeWithFault.FineAt.{last_or}
 use Rattle.upon_tags.specs.TagTokens.{IsTagToken, EachTagToken}

@@ -1,3 +1,4 @@
+pub mod CommentReasons
 pub mod Pieces
 pub mod TagReading
 pub mod TagReaders

@@ -21,10 +21,10 @@ use Rattle.upon_language.specs.CutFaults.{ClearTo, IsFirstCutFault}
 use Rattle.upon_language.specs.Lexing.{LexerState, HasRead}
 use Rattle.upon_language.proofs.NoTreeWithFault.InsideTag.{is_inside, EachInside}
 use Rattle.upon_tags.specs.declared.compile.parse.literal.Lexed.{Lexed}
-use Rattle.upon_tags.specs.declared.compile.parse.literal.Refusal.{Refusal}
+use Rattle.upon_tags.specs.declared.compile.parse.literal_fault.Refusal.{Refusal}
+use Rattle.upon_tags.specs.LiteralReasons.{report_of}
 use Rattle.upon_syntax.specs.declared.compile.parse.tag_tokens.Ended.{Ended}
 use Rattle.upon_syntax.specs.declared.compile.parse.tag_tokens.Ended.TheVariants.{End, Fault as CutFault, Literal, Eof}
-use Rattle.upon_tags.specs.Literals.{report_of}
 
 -- the fault of a text that has no tree, with its span and its reason
 abbrev pub syntax_fault : List ℕ → Span → List ℕ → Fault

@@ -12,5 +12,4 @@ pub mod Filters
 pub mod Endings
 pub mod Tags
 pub mod Digits
-pub mod Reasons
 pub mod StringPieces

@@ -1,3 +1,4 @@
+pub mod LiteralReasons
 pub mod Literals
 pub mod Wants
 pub mod TagTokens

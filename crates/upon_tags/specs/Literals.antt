@@ -1,9 +1,7 @@
 -- What is wrong with a literal, as the code says it.
-use Rattle.std.specs.Prelude.{◌≡◌, ◌⊎◌, ℕ, Option, Some, None, false}
+use Rattle.std.specs.Prelude.{Option, Some, None, false}
 use Rattle.upon_language.specs.Cut.{Lexeme}
-use Rattle.upon_language.specs.LaterFaults.{Report}
 use Rattle.upon_tags.specs.declared.compile.parse.literal.Lexed.{Lexed}
-use Rattle.upon_tags.specs.declared.compile.parse.literal.Refusal.{Refusal}
 use Rattle.upon_language.specs.LiteralFaults.{NumberFault, bad_digit, too_large}
 use Rattle.upon_tags.specs.declared.compile.parse.literal.DigitFault.{DigitFault}
 use Rattle.upon_tags.specs.declared.compile.parse.literal.DigitFault.TheVariants.{BadDigit, TooLarge}
@@ -21,11 +19,3 @@ lexeme_of x = record { token = x.token; hyphen = false; span = x.span }
 abbrev pub before_of : Option Lexed → Option Lexeme
 before_of None = None
 before_of (Some x) = Some (lexeme_of x)
-
--- what a refusal reports
-abbrev pub report_of : Refusal → Report
-report_of refusal = record { span = refusal.span; reason = refusal.reason.now }
-
--- a base that numbers are written in
-abbrev pub IsBase : ℕ → Type 0
-IsBase base = (base ≡ 2) ⊎ ((base ≡ 8) ⊎ ((base ≡ 10) ⊎ (base ≡ 16)))

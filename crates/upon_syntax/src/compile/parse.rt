@@ -8,6 +8,7 @@ ghost use Rattle.upon_language.specs.Grammar.{HasTree};
 ghost use Rattle.upon_lexer.specs.Searcher.{searcher_delimiters};
 ghost use Rattle.upon_syntax.specs.TagReading.{IsSyntaxError};
 
+mod comment_fault;
 mod fault;
 pub mod open_blocks;
 pub mod piece;
@@ -21,7 +22,9 @@ use crate::compile::parse::piece::read_pieces;
 use crate::compile::parse::tree::tree_of_pieces;
 use std::alloc::Global;
 use upon_lexer::compile::search::Searcher;
-pub use upon_tags::compile::parse::{base, expression, list, literal, path, scalar, tag, want};
+pub use upon_tags::compile::parse::{
+    base, expression, list, literal, literal_fault, path, scalar, tag, want,
+};
 use upon_types::error::Result;
 use upon_types::types::ast::Template;
 

@@ -3,6 +3,7 @@ pub mod base;
 pub mod expression;
 pub mod list;
 pub mod literal;
+pub mod literal_fault;
 pub mod path;
 pub mod scalar;
 pub mod tag;

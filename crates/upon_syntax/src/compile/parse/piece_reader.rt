@@ -13,12 +13,14 @@ ghost use Rattle.upon_language.specs.Wanted.{in_quotes};
 ghost use Rattle.upon_lexer.specs.Lexers.{lexer_text};
 ghost use Rattle.upon_lexer.specs.Searcher.{searcher_delimiters};
 ghost use Rattle.upon_types.specs.AstExpression.{expression_of};
+ghost use Rattle.upon_syntax.specs.CommentReasons.{comment_reason};
 ghost use Rattle.upon_syntax.specs.OpenBlocks.{kind_of, closer_of};
 ghost use Rattle.upon_tags.specs.BlockTags.{tag_of};
 ghost use Rattle.upon_syntax.specs.Pieces.{inline_piece, block_piece};
 ghost use Rattle.upon_syntax.specs.TagEnds.{syntax_fault};
 ghost use Rattle.upon_syntax.specs.TagReaders.{reader_text};
 
+use crate::compile::parse::comment_fault::CommentFault;
 use crate::compile::parse::fault::syntax_error;
 use crate::compile::parse::open_blocks::{Closing, OpenBlock, OpenBlocks};
 use crate::compile::parse::piece::Piece;
@@ -27,7 +29,7 @@ use std::alloc::Global;
 use upon_lexer::compile::lex::Lexer;
 use upon_lexer::compile::search::Searcher;
 use upon_tags::compile::parse::tag::Tag;
-use upon_types::error::{Error, ErrorKind, Result};
+use upon_types::error::{Error, Result};
 use upon_types::types::ast::InlineExpr;
 use upon_types::types::{Span, Token};
 
@@ -162,10 +164,10 @@ impl<'a> PieceReader<'a> {
     {
         let inside = self.lexer.next()?;
         match inside {
-            None => Err(self.refusal("expected raw template, found EOF", self.end())),
+            None => Err(self.refusal(CommentFault::BeginAtEnd, self.end())),
             Some((token, span)) => {
                 if matches!(token, Token::EndComment) {
-                    return Err(self.refusal("expected raw template, found end comment", span));
+                    return Err(self.refusal(CommentFault::Empty, span));
                 }
                 self.pass_comment_end()
             }
@@ -186,7 +188,7 @@ impl<'a> PieceReader<'a> {
     {
         let end = self.lexer.next()?;
         match end {
-            None => Err(self.refusal("expected end comment, found EOF", self.end())),
+            None => Err(self.refusal(CommentFault::Unclosed, self.end())),
             Some(_) => Ok(()),
         }
     }
@@ -231,17 +233,12 @@ impl<'a> PieceReader<'a> {
         syntax_error(self.alloc, self.source, span, closer.reason(self.alloc))
     }
 
-    // The error that reports a fault at a span.
-    fn refusal(&self, reason: &str, span: Span) -> Error
+    // The error for a comment that the text does not go on with.
+    fn refusal(&self, fault: CommentFault, span: Span) -> Error
         requires { LiesIn (pieces_text self.now) span }
-        ensures { OrMemory (syntax_fault (pieces_text self.now) span reason.now) (fault_of result) }
+        ensures { OrMemory (syntax_fault (pieces_text self.now) span (comment_reason fault)) (fault_of result) }
     {
-        Error::from_parts(
-            self.alloc,
-            ErrorKind::Syntax,
-            Some(reason),
-            Some((self.source, span)),
-        )
+        syntax_error(self.alloc, self.source, span, fault.reason(self.alloc))
     }
 
     // The text's end.

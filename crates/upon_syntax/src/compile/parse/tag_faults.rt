@@ -7,6 +7,7 @@ ghost use Rattle.upon_language.specs.Search.{DelimiterText};
 ghost use Rattle.upon_language.specs.Faults.{span_of};
 ghost use Rattle.upon_language.specs.Wanted.{wanted_at_end, expected_found};
 ghost use Rattle.upon_language.specs.LiteralWords.{fits_word};
+ghost use Rattle.upon_tags.specs.LiteralReasons.{literal_reason};
 ghost use Rattle.upon_tags.specs.Wants.{wanted_of};
 ghost use Rattle.upon_syntax.specs.TagReading.{IsSyntaxError};
 ghost use Rattle.upon_syntax.specs.TagEnds.{syntax_fault, EndLies};
@@ -15,10 +16,11 @@ ghost use Rattle.upon_syntax.specs.TagFaults.{FirstLies, token_fault, GoesNoFurt
 use crate::compile::parse::fault::syntax_error;
 use crate::compile::parse::tag_tokens::Ended;
 use std::alloc::Global;
-use upon_tags::compile::parse::literal::{Lexed, Refusal};
+use upon_tags::compile::parse::literal::Lexed;
+use upon_tags::compile::parse::literal_fault::Refusal;
 use upon_tags::compile::parse::path::next_token;
 use upon_tags::compile::parse::want::Want;
-use upon_types::error::{Error, ErrorKind};
+use upon_types::error::Error;
 use upon_types::types::Span;
 
 /// The error where the tokens of a tag go no further, while this is wanted and these tokens are left.
@@ -62,17 +64,13 @@ fn refuse_literal(alloc: Global, source: &str, want: Want, found: Lexed, refusal
     requires span { LiesIn source.now found.span }
     requires refusal { LiesIn source.now refusal.span }
     ensures fits { fits_word found.token (wanted_of want) ≡ true
-        → OrMemory (syntax_fault source.now refusal.span refusal.reason.now) (fault_of result) }
+        → OrMemory (syntax_fault source.now refusal.span (literal_reason refusal.fault)) (fault_of result) }
     ensures other { fits_word found.token (wanted_of want) ≡ false
         → OrMemory (token_fault source.now (wanted_of want) found) (fault_of result) }
 {
     if want.takes_literal(found.token) {
-        Error::from_parts(
-            alloc,
-            ErrorKind::Syntax,
-            Some(refusal.reason),
-            Some((source, refusal.span)),
-        )
+        let reason = refusal.fault.reason(alloc);
+        syntax_error(alloc, source, refusal.span, reason)
     } else {
         refuse_token(alloc, source, want, found)
     }

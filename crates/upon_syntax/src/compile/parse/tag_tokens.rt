@@ -14,13 +14,15 @@ ghost use Rattle.upon_language.proofs.NoTreeWithFault.InsideTag.{is_inside};
 ghost use Rattle.upon_language.proofs.Totality.InsideClear.{FineLiteral};
 ghost use Rattle.upon_lexer.specs.Spelling.{IsSpelled};
 ghost use Rattle.upon_lexer.specs.Lexers.{lexer_text, lexer_delimiters, lexer_state, ReadSoFar};
-ghost use Rattle.upon_tags.specs.Literals.{lexeme_of, before_of, report_of};
+ghost use Rattle.upon_tags.specs.LiteralReasons.{report_of};
+ghost use Rattle.upon_tags.specs.Literals.{lexeme_of, before_of};
 ghost use Rattle.upon_tags.specs.TagTokens.{lexemes_of, IsTagToken, EachTagToken};
 ghost use Rattle.upon_syntax.specs.TagEnds.{DenotesNothing, SignLies, StopsAt, ReadsOn, ReadsUpTo, EndLies, tag_end};
 
 use std::alloc::AllocError;
 use upon_lexer::compile::lex::Lexer;
-use upon_tags::compile::parse::literal::{Lexed, Refusal, index, number_at, strange_escape};
+use upon_tags::compile::parse::literal::{Lexed, index, number_at, strange_escape};
+use upon_tags::compile::parse::literal_fault::{LiteralFault, Refusal};
 use upon_types::error::Error;
 use upon_types::types::{Span, Token, slice};
 
@@ -219,8 +221,8 @@ fn refuse_index(source: &str, span: Span) -> Option<Refusal>
     match index(slice(source, span)) {
         Some(_) => None,
         None => Some(Refusal {
+            fault: LiteralFault::IndexOutOfRange,
             span,
-            reason: "base 10 literal out of range for unsigned 64-bit integer",
         }),
     }
 }
@@ -238,8 +240,8 @@ fn refuse_string(source: &str, span: Span) -> Option<Refusal>
     match strange_escape(source, span) {
         None => None,
         Some(strange) => Some(Refusal {
+            fault: LiteralFault::UnknownEscape,
             span: strange,
-            reason: "unknown escape character",
         }),
     }
 }

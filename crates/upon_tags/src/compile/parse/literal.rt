@@ -1,6 +1,6 @@
 // What the text of a number or an index denotes, or what is wrong with it.
 ghost use Rattle.std.specs.Prelude.{◌≡◌, ℕ, ◌^◌, ◌≤◌, ◌<◌, List, length, drop, nat_lt, false, Some, IfOk, IfErr};
-ghost use Rattle.std.specs.Prelude.{MatchOption, codes, ◌++◌, ◌+◌, ◌-◌, string_bytes, encode_utf8, None, [], ◌∷◌};
+ghost use Rattle.std.specs.Prelude.{MatchOption, ◌+◌, ◌-◌, string_bytes, encode_utf8, None, [], ◌∷◌};
 ghost use Rattle.upon_language.specs.Literal.{IsText, escape_value, with_sign, sum_of_digits, digits_in};
 ghost use Rattle.upon_language.specs.Literal.{base_and_digits, IsInteger, IsIndex};
 ghost use Rattle.upon_language.specs.LiteralFaults.{magnitude_limit, digit_fault, number_fault, index_value, is_float};
@@ -8,9 +8,10 @@ ghost use Rattle.upon_language.specs.LiteralFaults.{escape_fault};
 ghost use Rattle.upon_language.specs.Inside.{IsQuoted};
 ghost use Rattle.upon_language.specs.LaterFaults.{minus_before, start_from, number_report};
 ghost use Rattle.upon_types.specs.Span.{LiesIn, slice};
-ghost use Rattle.std.specs.Fmt.{decimal};
-ghost use Rattle.upon_tags.specs.Literals.{fault_of_digits, before_of, report_of, IsBase};
+ghost use Rattle.upon_tags.specs.LiteralReasons.{report_of};
+ghost use Rattle.upon_tags.specs.Literals.{fault_of_digits, before_of};
 
+use crate::compile::parse::literal_fault::{LiteralFault, Refusal};
 use std::alloc::{AllocError, Global};
 use upon_lexer::compile::chars::char_at;
 use upon_types::types::{Span, Token, slice};
@@ -36,7 +37,8 @@ pub fn notation_of(text: &str) -> Notation
     ensures base { result.base ≡ (base_and_digits text.now).0 }
     ensures digits { drop result.start text.now ≡ (base_and_digits text.now).1 }
     ensures within { result.start ≤ length text.now }
-    ensures of_four { IsBase result.base }
+    ensures lower { 2 ≤ result.base }
+    ensures upper { result.base ≤ 36 }
 {
     match text.as_bytes() {
         [b'0', b'b', ..] => Notation { base: 2, start: 2 },
@@ -54,13 +56,6 @@ pub fn number(text: &str, minus: bool) -> Result<i64, DigitFault>
     let limit = if minus { 1 << 63 } else { (1 << 63) - 1 };
     let value = digits_value(text, notation_of(text), limit)?;
     Ok(signed(minus, value))
-}
-
-/// What is wrong with a template's text: the span, in bytes, and the reason.
-#[derive(Clone, Copy)]
-pub struct Refusal {
-    pub span: Span,
-    pub reason: &'static str,
 }
 
 /// A token, and where it is.
@@ -84,22 +79,22 @@ pub fn number_at(source: &str, before: Option<Lexed>, span: Span) -> Result<i64,
     };
     if is_float(text) {
         return Err(Refusal {
+            fault: LiteralFault::Float,
             span: whole,
-            reason: "invalid float literal",
         });
     }
     match number(text, is_minus(before)) {
         Ok(value) => Ok(value),
         Err(DigitFault::BadDigit(offset)) => Err(Refusal {
+            fault: LiteralFault::InvalidDigit(notation_of(text).base),
             span: Span {
                 m: span.m + offset,
                 n: span.m + offset + 1,
             },
-            reason: invalid_digit(notation_of(text).base),
         }),
         Err(DigitFault::TooLarge) => Err(Refusal {
+            fault: LiteralFault::NumberOutOfRange(notation_of(text).base),
             span: whole,
-            reason: out_of_range(notation_of(text).base),
         }),
     }
 }
@@ -213,32 +208,6 @@ fn start_of(before: Option<Lexed>, span: Span) -> usize
             },
         ) => sign.m,
         _ => span.m,
-    }
-}
-
-// The reason for a digit that is none of the base.
-fn invalid_digit(base: u32) -> &'static str
-    requires { IsBase base }
-    ensures { result.now ≡ codes "invalid digit for base " ++ (decimal base ++ codes " literal") }
-{
-    match base {
-        2 => "invalid digit for base 2 literal",
-        8 => "invalid digit for base 8 literal",
-        16 => "invalid digit for base 16 literal",
-        _ => "invalid digit for base 10 literal",
-    }
-}
-
-// The reason for an integer that is too large.
-fn out_of_range(base: u32) -> &'static str
-    requires { IsBase base }
-    ensures { result.now ≡ codes "base " ++ (decimal base ++ codes " literal out of range for 64-bit integer") }
-{
-    match base {
-        2 => "base 2 literal out of range for 64-bit integer",
-        8 => "base 8 literal out of range for 64-bit integer",
-        16 => "base 16 literal out of range for 64-bit integer",
-        _ => "base 10 literal out of range for 64-bit integer",
     }
 }
 

@@ -5,8 +5,8 @@ use Rattle.upon_renderer.specs.Program.{IsProgramOf}
 use Rattle.upon_renderer.specs.Runs.{Rendered}
 use Rattle.upon_engine.specs.Base.{outcome_within}
 use Rattle.upon_engine.specs.Calls.{call_of}
-use Rattle.upon_engine.specs.Sources.{template_lies}
 use Rattle.upon_engine.specs.Template.{template_of}
+use Rattle.upon_engine.proofs.TemplateSpans.{template_lies}
 use Rattle.upon_engine.proofs.renderer.Renderer.run.Goals as goal
 
 pub render-requires : goal.render-requires
