@@ -9,7 +9,8 @@ use Rattle.upon_engine.specs.declared.values.SerdeContext.{SerdeContext}
 use Rattle.upon_engine.specs.declared.values.SourceValues.{SourceValues}
 
 -- the engine whose templates are asked
-abbrev pub engine_of_templates : {X Y : Type 0} {P : X → Type 0} {Q : Y → Type 0} → EngineTemplates X Y P Q → Held X Y P Q
+abbrev pub engine_of_templates : {X Y : Type 0} {P : X → Type 0} {Q : Y → Type 0} → EngineTemplates X Y P Q
+    → Held X Y P Q
 engine_of_templates t = t.engine.now
 
 -- the value that is a context

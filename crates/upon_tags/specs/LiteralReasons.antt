@@ -10,7 +10,8 @@ use Rattle.upon_tags.specs.declared.compile.parse.literal_fault.Refusal.{Refusal
 abbrev pub literal_reason : LiteralFault → List ℕ
 literal_reason Float = codes "invalid float literal"
 literal_reason (InvalidDigit base) = codes "invalid digit for base " ++ (decimal base ++ codes " literal")
-literal_reason (NumberOutOfRange base) = codes "base " ++ (decimal base ++ codes " literal out of range for 64-bit integer")
+literal_reason (NumberOutOfRange base) =
+    codes "base " ++ (decimal base ++ codes " literal out of range for 64-bit integer")
 literal_reason IndexOutOfRange = codes "base 10 literal out of range for unsigned 64-bit integer"
 literal_reason UnknownEscape = codes "unknown escape character"
 
