@@ -1,5 +1,4 @@
 pub mod Updates
 pub mod Laws
-pub mod Texts
 pub mod Roots
 pub mod Renderings
