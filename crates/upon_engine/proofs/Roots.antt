@@ -1,5 +1,5 @@
 -- A rendering over a stack without frames, by what is below them.
-use Rattle.std.proofs.Common.{◌≡◌, ℕ, List, Option, Result, Bor, refl, subst}
+use Rattle.std.proofs.Common.{◌≡◌, ℕ, List, Option, Result, Bor, refl, sym, subst}
 use Rattle.upon_types.specs.View.{view}
 use Rattle.upon_types.specs.declared.value.Value.{Value as CodeValue}
 use Rattle.upon_render.specs.Environment.{context, value_source}
@@ -12,21 +12,31 @@ use Rattle.upon_meaning.specs.Engine.{Calls, Resolver, Template}
 use Rattle.upon_meaning.specs.Outcome.{states}
 use Rattle.upon_renderer.specs.Keeps.{Asks}
 use Rattle.upon_renderer.specs.Machine.{source_state}
-use Rattle.upon_renderer.specs.Runs.{Rendered}
+use Rattle.upon_renderer.specs.Runs.{Ran}
 use Rattle.upon_renderer.specs.declared.failure.Failure.{Failure}
 use Rattle.upon_renderer.specs.declared.run.Ending.{Ending}
 
 module _ {V Q P : Type 0} (ask_of : V → Asking Q) (state_of : V → Q) (result : Result Ending Failure) (old new : Option (List ℕ))
-    (calls : Asking Q → Calls Q) (resolve : Resolver P) (left : ℕ) (t : Template) (name : Option (List ℕ)) (templates : P) where
+    (calls : Asking Q → Calls Q) (resolve : Resolver P) (left : ℕ) (t : Template) (name : Option (List ℕ)) (templates next : P) where
   -- what is known of each source that is asked, and each state
-  abbrev pub Known : Root V → Type 0
-  Known root = (ask : Asking Q) (q : Q) → Asks ask_of root ask
-      → Rendered result old new (alone_within (calls ask) resolve left t name (pure_root root) (states (source_state state_of q root) templates))
+  abbrev pub Known : Root V → Root V → Type 0
+  Known root after = (ask : Asking Q) (q : Q) → Asks ask_of root ask
+      → Ran result old new (alone_within (calls ask) resolve left t name (pure_root root) (states (source_state state_of q root) templates))
+      (states (source_state state_of q after) next)
 
-  pub at_value : (ask : Asking Q) (q : Q) (root : Root V) (v : Bor CodeValue) → root ≡ Value v → Known root
-      → Rendered result old new (alone_within (calls ask) resolve left t name (context (view v.now)) (states q templates))
-  at_value ask q root v is known = subst Known is known ask q tt
+  pub at_value : (ask : Asking Q) (q : Q) (root after : Root V) (v : Bor CodeValue) → root ≡ Value v → ((s : V) → state_of s ≡ q) → Known root after
+      → Ran result old new (alone_within (calls ask) resolve left t name (context (view v.now)) (states q templates)) (states q next)
+  at_value ask q root (Value w) v is only known = subst (λ r. Known r (Value w)) is known ask q tt
+  at_value ask q root (Source s) v is only known =
+      subst (λ n. Ran result old new (alone_within (calls ask) resolve left t name (context (view v.now)) (states q templates)) (states n next)) (only s)
+      (subst (λ r. Known r (Source s)) is known ask q tt)
 
-  pub at_source : (root : Root V) (s : V) → root ≡ Source s → Known root
-      → Rendered result old new (alone_within (calls (ask_of s)) resolve left t name value_source (states (state_of s) templates))
-  at_source root s is known = subst Known is known (ask_of s) (state_of s) refl
+  pub at_source : (root after : Root V) (s u : V) → root ≡ Source s → after ≡ Source u → Known root after
+      → Ran result old new (alone_within (calls (ask_of s)) resolve left t name value_source (states (state_of s) templates)) (states (state_of u) next)
+  at_source root after s u is ends known = subst (λ a. Known (Source s) a) ends (subst (λ r. Known r after) is known) (ask_of s) (state_of s) refl
+
+-- a source that is asked as before
+pub asks_as_before : {V Q : Type 0} (ask_of : V → Asking Q) (root after : Root V) (s u : V) → root ≡ Source s → after ≡ Source u
+    → ((ask : Asking Q) → Asks ask_of root ask → Asks ask_of after ask) → ask_of u ≡ ask_of s
+asks_as_before ask_of root after s u is ends asks =
+    subst (λ a. Asks ask_of a (ask_of s)) ends (asks (ask_of s) (subst (λ r. Asks ask_of r (ask_of s)) (sym is) refl))

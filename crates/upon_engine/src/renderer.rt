@@ -1,11 +1,13 @@
 // The renderer: a rendering before it is made.
 ghost use Rattle.std.specs.Prelude.{◌≡◌, None, true};
 ghost use Rattle.upon_types.specs.View.{view};
-ghost use Rattle.upon_renderer.specs.Reports.{Writes};
-ghost use Rattle.upon_renderer.specs.Runs.{Rendered};
+ghost use Rattle.upon_renderer.specs.Reports.{Writes, WritesAndLeaves};
+ghost use Rattle.upon_renderer.specs.Runs.{Ran};
+ghost use Rattle.upon_meaning.specs.Outcome.{states};
 ghost use Rattle.upon_engine.specs.Template.{template_of};
 ghost use Rattle.upon_engine.specs.Answers.{AnswersText};
-ghost use Rattle.upon_engine.specs.Base.{IsContextOf};
+ghost use Rattle.upon_render.specs.Environment.{Root};
+ghost use Rattle.upon_engine.specs.Base.{IsContextOf, on_root};
 ghost use Rattle.upon_engine.specs.Calls.{call_of, outcome, engine_in, values_in, templates_in, template_in, name_in, limit_in};
 ghost use Rattle.upon_engine.specs.Engine.{engine_depth};
 ghost use Rattle.upon_engine.specs.Kept.{Kept};
@@ -180,7 +182,7 @@ impl<'r, E: Callables + Drop, V: Values<'r, T>, T: TemplateSource<'r>> Renderer<
         let alloc = self.alloc;
         let limit = self.limit;
         let mut text = String::new(alloc);
-        let ended = self.run(&mut text);
+        let (ended, _, _) = self.run(&mut text);
         match reported(alloc, ended, limit, &mut text) {
             Ok(()) => Ok(text),
             Err(error) => Err(error),
@@ -200,10 +202,8 @@ impl<'r, E: Callables + Drop, V: Values<'r, T>, T: TemplateSource<'r>> Renderer<
         ensures same { O.holds out.new ≡ O.holds out.old }
         ensures laws { Kept (call_of E.callables E.default_formatter V.asks V.root V.values_state T.resolve T.template_state self.entry) }
     {
-        let alloc = self.alloc;
-        let limit = self.limit;
-        let ended = self.run(out);
-        reported(alloc, ended, limit, out)
+        let (result, _, _) = self.to_output_and_sources(out);
+        result
     }
 
     /// The same to a writer. Where a write fails or takes nothing, the fault is of the kind `Io`.
@@ -221,14 +221,41 @@ impl<'r, E: Callables + Drop, V: Values<'r, T>, T: TemplateSource<'r>> Renderer<
         self.to_output(&mut out)
     }
 
-    // Runs the template's program into an output.
-    fn run<O: Output>(self, out: &mut O) -> Result<Ending, Failure>
-        ensures same { O.holds out.new ≡ O.holds out.old }
-        ensures rendered { Rendered
-            result
+    /// Writes like `to_output`, and gives back what it was rendered on and the source of templates, as the rendering leaves
+    /// them. Where it ended by itself, well or with a fault of the template, they are in the next states of the meaning.
+    pub fn to_output_and_sources<O: Output>(self, out: &mut O) -> (error::Result<()>, V, T)
+        ensures means { WritesAndLeaves
+            (limit_in self.entry)
+            (O.failed out.new)
+            result.0
             (O.given out.old)
             (O.given out.new)
-            (outcome (call_of E.callables E.default_formatter V.asks V.root V.values_state T.resolve T.template_state self.entry)) }
+            (outcome (call_of E.callables E.default_formatter V.asks V.root V.values_state T.resolve T.template_state self.entry))
+            (states (V.values_state result.1) (T.template_state result.2)) }
+        ensures same { O.holds out.new ≡ O.holds out.old }
+        ensures asks { V.asks result.1 ≡ V.asks (values_in self.entry) }
+        ensures root { (r : Root) → V.root (values_in self.entry) ≡ on_root r → V.root result.1 ≡ V.root (values_in self.entry) }
+        ensures resolve { T.resolve result.2 ≡ T.resolve (templates_in self.entry) }
+        ensures laws { Kept (call_of E.callables E.default_formatter V.asks V.root V.values_state T.resolve T.template_state self.entry) }
+    {
+        let alloc = self.alloc;
+        let limit = self.limit;
+        let (ended, values, templates) = self.run(out);
+        (reported(alloc, ended, limit, out), values, templates)
+    }
+
+    // Runs the template's program into an output.
+    fn run<O: Output>(self, out: &mut O) -> (Result<Ending, Failure>, V, T)
+        ensures same { O.holds out.new ≡ O.holds out.old }
+        ensures ran { Ran
+            result.0
+            (O.given out.old)
+            (O.given out.new)
+            (outcome (call_of E.callables E.default_formatter V.asks V.root V.values_state T.resolve T.template_state self.entry))
+            (states (V.values_state result.1) (T.template_state result.2)) }
+        ensures asks { V.asks result.1 ≡ V.asks (values_in self.entry) }
+        ensures root { (r : Root) → V.root (values_in self.entry) ≡ on_root r → V.root result.1 ≡ V.root (values_in self.entry) }
+        ensures resolve { T.resolve result.2 ≡ T.resolve (templates_in self.entry) }
     {
         let Renderer {
             alloc,

@@ -133,7 +133,7 @@ impl<'r, C: CallName<'r>> TemplateSource<'r> for TemplateFn<C> {
 /// A source of templates that lends them for a shorter time.
 #[derive(Drop)]
 pub(crate) struct ShorterLoans<'r, T> {
-    templates: T,
+    pub(crate) templates: T,
     longer: PhantomData<&'r ()>,
 }
 

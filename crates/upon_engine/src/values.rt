@@ -6,8 +6,9 @@ ghost use Rattle.upon_meaning.specs.Engine.{Template};
 ghost use Rattle.upon_meaning.specs.Outcome.{states};
 ghost use Rattle.upon_renderer.specs.Acts.{calls_of};
 ghost use Rattle.upon_renderer.specs.Program.{IsProgramOf};
-ghost use Rattle.upon_renderer.specs.Runs.{Rendered};
-ghost use Rattle.upon_engine.specs.Base.{Base, outcome_within};
+ghost use Rattle.upon_renderer.specs.Runs.{Ran};
+ghost use Rattle.upon_render.specs.Environment.{Root};
+ghost use Rattle.upon_engine.specs.Base.{Base, on_root, outcome_within};
 
 use crate::sources::{Programs, ShorterLoans, TemplateSource};
 use std::alloc::Global;
@@ -35,7 +36,8 @@ pub trait Values<'r, T: TemplateSource<'r>>: Drop {
     // What lies under the bindings, or why it is no value.
     ghost root: { Self → Base };
 
-    /// Renders a program on it.
+    /// Renders a program on it. It comes back, and the source of templates, as the run leaves them; what was no value
+    /// comes back as another.
     fn render<C: Callables, W: Output>(
         self,
         alloc: Global,
@@ -43,14 +45,18 @@ pub trait Values<'r, T: TemplateSource<'r>>: Drop {
         running: Running<'r>,
         templates: T,
         out: &mut W,
-    ) -> Result<Ending, Failure>
+    ) -> (Result<Ending, Failure>, Self, T)
         requires { (t : Template) × IsProgramOf running.program t × TreeLiesIn t.source t.tree }
         ensures same { W.holds out.new ≡ W.holds out.old }
-        ensures rendered { (t : Template) → IsProgramOf running.entry.program t → Rendered
-            result
+        ensures ran { (t : Template) → IsProgramOf running.entry.program t → Ran
+            result.0
             (W.given out.old)
             (W.given out.new)
-            (outcome_within (calls_of (C.callables callables.now) (C.default_formatter callables.now) (asks self)) (T.resolve templates) running.entry.left t (option_map (λ name. name.now) running.entry.name) (root self) (states (values_state self) (T.template_state templates))) };
+            (outcome_within (calls_of (C.callables callables.now) (C.default_formatter callables.now) (asks self)) (T.resolve templates) running.entry.left t (option_map (λ name. name.now) running.entry.name) (root self) (states (values_state self) (T.template_state templates)))
+            (states (values_state result.1) (T.template_state result.2)) }
+        ensures asks { asks result.1 ≡ asks self }
+        ensures root { (r : Root) → root self ≡ on_root r → root result.1 ≡ root self }
+        ensures resolve { T.resolve result.2 ≡ T.resolve templates };
 }
 
 /// A value that is lent: the context.
@@ -80,16 +86,11 @@ impl<'r, T: TemplateSource<'r>> Values<'r, T> for Context<'r> {
         running: Running<'r>,
         templates: T,
         out: &mut W,
-    ) -> Result<Ending, Failure> {
+    ) -> (Result<Ending, Failure>, Self, T) {
         let stack: Stack<'r, NoSource> = Stack::new(alloc, self.value);
-        render(
-            alloc,
-            callables,
-            running,
-            stack,
-            Programs { templates },
-            out,
-        )
+        let programs = Programs { templates };
+        let (ended, _, programs) = render(alloc, callables, running, stack, programs, out);
+        (ended, self, programs.templates)
     }
 }
 
@@ -118,14 +119,22 @@ impl<'r, T: TemplateSource<'r>> Values<'r, T> for SerdeContext {
         running: Running<'r>,
         templates: T,
         out: &mut W,
-    ) -> Result<Ending, Failure> {
-        match self.value {
-            Ok(value) => {
-                let context = Context { value: &value };
-                context.render(alloc, callables, running, ShorterLoans::new(templates), out)
+    ) -> (Result<Ending, Failure>, Self, T) {
+        let value = match self.value {
+            Ok(value) => value,
+            Err(error) => {
+                let value = Ok(Value::None);
+                return (
+                    Err(Failure::Error(error)),
+                    SerdeContext { value },
+                    templates,
+                );
             }
-            Err(error) => Err(Failure::Error(error)),
-        }
+        };
+        let context = Context { value: &value };
+        let lent = ShorterLoans::new(templates);
+        let (ended, _, lent) = context.render(alloc, callables, running, lent, out);
+        (ended, SerdeContext { value: Ok(value) }, lent.templates)
     }
 }
 
@@ -133,6 +142,17 @@ impl<'r, T: TemplateSource<'r>> Values<'r, T> for SerdeContext {
 #[derive(Drop)]
 pub struct SourceValues<S> {
     pub(crate) source: S,
+}
+
+impl<S> SourceValues<S> {
+    ghost use Rattle.upon_engine.specs.Sources.{source_in};
+
+    /// The source.
+    pub fn into_source(self) -> S
+        ensures { result ≡ source_in self }
+    {
+        self.source
+    }
 }
 
 impl<'r, S: ValueSource, T: TemplateSource<'r>> Values<'r, T> for SourceValues<S> {
@@ -154,15 +174,13 @@ impl<'r, S: ValueSource, T: TemplateSource<'r>> Values<'r, T> for SourceValues<S
         running: Running<'r>,
         templates: T,
         out: &mut W,
-    ) -> Result<Ending, Failure> {
+    ) -> (Result<Ending, Failure>, Self, T) {
         let stack: Stack<'r, S> = Stack::with_value_fn(alloc, self.source);
-        render(
-            alloc,
-            callables,
-            running,
-            stack,
-            Programs { templates },
-            out,
-        )
+        let programs = Programs { templates };
+        let (ended, stack, programs) = render(alloc, callables, running, stack, programs, out);
+        let Some(source) = stack.into_source() else {
+            unreachable!()
+        };
+        (ended, SourceValues { source }, programs.templates)
     }
 }

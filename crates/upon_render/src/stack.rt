@@ -1,5 +1,5 @@
 // The frames of a running template, and what a path finds in them.
-ghost use Rattle.std.specs.Prelude.{◌≡◌, ◌∷◌, [], ◌++◌, ◌<◌, List, Some, IsSome, OnOk, OnErr, true, Bool, length, map};
+ghost use Rattle.std.specs.Prelude.{◌≡◌, ◌≢◌, ◌∷◌, [], ◌++◌, ◌<◌, List, Some, IsSome, OnOk, OnErr, true, Bool, MatchOption, length, map};
 ghost use Rattle.upon_types.specs.AstPath.{member_of, first_member, rest_members, ident_of};
 ghost use Rattle.upon_types.specs.Cow.{cow_view};
 ghost use Rattle.upon_types.specs.Span.{LiesIn};
@@ -199,6 +199,20 @@ impl<'a, V: ValueSource> Stack<'a, V> {
             State::Scope(_) => unreachable!(),
             State::Var(_, _) => unreachable!(),
             State::Boundary => unreachable!(),
+        }
+    }
+
+    /// The source of values below the frames, or `None` over a context.
+    pub fn into_source(self) -> Option<V>
+        ensures { MatchOption
+            result
+            (pure_root (root_of self.entry) ≢ value_source)
+            (λ source. root_of self.entry ≡ Root.Source source) }
+    {
+        let Stack { root, frames: _ } = self;
+        match root {
+            Root::Value(_) => None,
+            Root::Source(values) => Some(values),
         }
     }
 

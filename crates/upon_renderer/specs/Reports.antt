@@ -36,15 +36,23 @@ IsReport limit (Ok end) waits r = EndReport limit end r
 IsReport limit (Err failure) waits (Ok u) = ⊥
 IsReport limit (Err failure) waits (Err e) = FailureReport failure waits e
 
--- the output left something out, or memory is out
+-- memory is out; or the error is the output's own, where it may have one
 abbrev pub LeavesOut : Bool → Error → Type 0
-LeavesOut waits e = (error_of e ≡ out_of_memory) ⊎ ((waits ≡ true) × (error_of e ≡ fault_of_kind io))
+LeavesOut may_fail e = (error_of e ≡ out_of_memory) ⊎ ((may_fail ≡ true) × (error_of e ≡ fault_of_kind io))
 
 -- The output received the whole text, and the fault of the outcome's end is reported where it has one; or it received a
 -- beginning of the text.
 abbrev pub Writes : {Q : Type 0} → ℕ → Bool → Result (Unit {0}) Error → Option (List ℕ) → Option (List ℕ) → Outcome Q
     → Type 0
-Writes limit waits (Ok u) old new o = (o.end ≡ good) × Appends old new o.text
-Writes limit waits (Err e) old new o =
+Writes limit may_fail (Ok u) old new o = (o.end ≡ good) × Appends old new o.text
+Writes limit may_fail (Err e) old new o =
     ((fault_of_end limit o.end ≡ Some (error_of e)) × Appends old new o.text)
-    ⊎ (LeavesOut waits e × Part old new o.text)
+    ⊎ (LeavesOut may_fail e × Part old new o.text)
+
+-- the same, and where the whole text was received, the sources are in the outcome's next states
+abbrev pub WritesAndLeaves : {Q : Type 0} → ℕ → Bool → Result (Unit {0}) Error → Option (List ℕ) → Option (List ℕ)
+    → Outcome Q → Q → Type 0
+WritesAndLeaves limit may_fail (Ok u) old new o next = (o.end ≡ good) × Appends old new o.text × (o.next ≡ next)
+WritesAndLeaves limit may_fail (Err e) old new o next =
+    ((fault_of_end limit o.end ≡ Some (error_of e)) × Appends old new o.text × (o.next ≡ next))
+    ⊎ (LeavesOut may_fail e × Part old new o.text)

@@ -11,7 +11,7 @@ ghost use Rattle.upon_renderer.specs.Acts.{calls_of};
 ghost use Rattle.upon_renderer.specs.Keeps.{Asks, HasState};
 ghost use Rattle.upon_renderer.specs.Machine.{source_state};
 ghost use Rattle.upon_renderer.specs.Program.{IsProgramOf};
-ghost use Rattle.upon_renderer.specs.Runs.{Rendered};
+ghost use Rattle.upon_renderer.specs.Runs.{Ran};
 
 use crate::failure::Failure;
 use crate::machine::{Machine, Running};
@@ -28,7 +28,7 @@ use upon_render::stack::Stack;
 ///
 /// A failure has the fault's kind, reason, span, picture and the name of the template that ran, or says that memory is
 /// out; or the output did not receive a text whole. The output then has a beginning of the text, and all of it up to a
-/// fault.
+/// fault. The stack and the source of templates come back as the run leaves them.
 pub fn render<'r, V: ValueSource, T: ProgramSource<'r>, C: Callables, W: Output>(
     alloc: Global,
     callables: &C,
@@ -36,16 +36,20 @@ pub fn render<'r, V: ValueSource, T: ProgramSource<'r>, C: Callables, W: Output>
     stack: Stack<'r, V>,
     templates: T,
     out: &mut W,
-) -> Result<Ending, Failure>
+) -> (Result<Ending, Failure>, Stack<'r, V>, T)
     requires program { (t : Template) × IsProgramOf running.program t × TreeLiesIn t.source t.tree }
     requires state { HasState V.State (root_of stack) }
     requires frames { frames_of stack ≡ [] }
     ensures same { W.holds out.new ≡ W.holds out.old }
-    ensures rendered { (t : Template) (ask : Source V.State) (q : V.State) → IsProgramOf running.entry.program t → Asks V.ask (root_of stack.entry) ask → Rendered
-        result
+    ensures ran { (t : Template) (ask : Source V.State) (q : V.State) → IsProgramOf running.entry.program t → Asks V.ask (root_of stack.entry) ask → Ran
+        result.0
         (W.given out.old)
         (W.given out.new)
-        (alone_within (calls_of (C.callables callables.now) (C.default_formatter callables.now) ask) (T.resolve templates) running.entry.left t (option_map (λ name. name.now) running.entry.name) (pure_root (root_of stack.entry)) (states (source_state V.value_state q (root_of stack.entry)) (T.template_state templates))) }
+        (alone_within (calls_of (C.callables callables.now) (C.default_formatter callables.now) ask) (T.resolve templates) running.entry.left t (option_map (λ name. name.now) running.entry.name) (pure_root (root_of stack.entry)) (states (source_state V.value_state q (root_of stack.entry)) (T.template_state templates)))
+        (states (source_state V.value_state q (root_of result.1)) (T.template_state result.2)) }
+    ensures root { pure_root (root_of result.1) ≡ pure_root (root_of stack.entry) }
+    ensures asks { (ask : Source V.State) → Asks V.ask (root_of stack.entry) ask → Asks V.ask (root_of result.1) ask }
+    ensures resolve { T.resolve result.2 ≡ T.resolve templates }
 {
     let mut machine = Machine {
         running,
@@ -55,5 +59,11 @@ pub fn render<'r, V: ValueSource, T: ProgramSource<'r>, C: Callables, W: Output>
         stack,
         templates,
     };
-    run(alloc, callables, &mut machine, out)
+    let ended = run(alloc, callables, &mut machine, out);
+    let Machine {
+        stack,
+        templates,
+        ..
+    } = machine;
+    (ended, stack, templates)
 }

@@ -1,5 +1,6 @@
 // A run: step after step, up to the program's end.
 ghost use Rattle.std.specs.Prelude.{◌≡◌};
+ghost use Rattle.upon_renderer.specs.Keeps.{Kept};
 ghost use Rattle.upon_renderer.specs.Machine.{state_of};
 ghost use Rattle.upon_renderer.specs.Runs.{Known, Ran, Starts, ending_of};
 
@@ -43,6 +44,7 @@ pub(crate) fn run<'r, V: ValueSource, T: ProgramSource<'r>, C: Callables, W: Out
 ) -> Result<Ending, Failure>
     requires starts { (known : Known V.State T.State) × Starts V.ask V.value_state T.template_state (T.resolve machine.old.templates) (C.callables callables.now) (C.default_formatter callables.now) known machine.old }
     ensures same { W.holds out.new ≡ W.holds out.old }
+    ensures kept { Kept V.ask T.resolve machine.old machine.new }
     ensures ran { (known : Known V.State T.State) → Starts V.ask V.value_state T.template_state (T.resolve machine.old.templates) (C.callables callables.now) (C.default_formatter callables.now) known machine.old → Ran
         result
         (W.given out.old)

@@ -42,7 +42,7 @@ fn give_program<'r, W: Output>(
         left: 2,
     };
     let stack: Stack<'r, NoSource> = Stack::new(alloc, context);
-    let ended = render(alloc, &plain, running, stack, parts, out);
+    let (ended, _, _) = render(alloc, &plain, running, stack, parts, out);
     reported(alloc, ended, 3, out)
 }
 

@@ -87,6 +87,27 @@ fn a_function_in_turn(rt: HostRuntime) -> Result<(), Fail> {
 }
 
 #[test]
+fn sources_that_come_back(rt: HostRuntime) -> Result<(), Fail> {
+    let alloc = rt.alloc();
+    let engine = Engine::new(alloc);
+    let template = engine.compile(CowStr::Borrowed("{{ a }}{{ b }}"))?;
+    let mut out = String::new(alloc);
+    let counter = ValueFn::new(Counter { asked: 0 });
+    let (result, values, templates) = template
+        .render_from_fn(&engine, counter)
+        .to_output_and_sources(&mut out);
+    result?;
+    let (result, values, _) = template
+        .render_from_fn(&engine, values.into_source())
+        .with_template_fn(templates)
+        .to_output_and_sources(&mut out);
+    result?;
+    assert_eq!(&rt; out.as_str(), "1234");
+    assert_eq!(&rt; values.into_source().callable.asked, 4);
+    Ok(())
+}
+
+#[test]
 fn a_function_that_refuses(rt: HostRuntime) -> Result<(), Fail> {
     let alloc = rt.alloc();
     let engine = Engine::new(alloc);

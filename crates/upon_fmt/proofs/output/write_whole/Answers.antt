@@ -1,4 +1,4 @@
-use Rattle.std.proofs.Common.{◌≡◌, ◌+◌, ◌≤◌, ◌<◌, refl, List, ℕ, ◌++◌, length, take, drop, ◌∙◌, ap, subst, sym, arith}
+use Rattle.std.proofs.Common.{◌≡◌, ◌+◌, ◌≤◌, ◌<◌, List, ℕ, ◌++◌, length, take, drop, ◌∙◌, ap, subst, sym, arith}
 use Rattle.std.proofs.KnownBytes.{Appends-kept, Appends-trans}
 use Rattle.std.proofs.lemmas.List.{take-take, drop-take, take-append-drop, length-drop}
 use Rattle.std.proofs.lemmas.Grind.{common_steps}

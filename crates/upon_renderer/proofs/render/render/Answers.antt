@@ -1,10 +1,10 @@
 use Rattle.std.proofs.Common.{refl}
 use Rattle.upon_render.specs.Stack.{root_of}
-use Rattle.upon_renderer.proofs.AtStart.{asks_some, machine_of, known_of, rendered, some_asking, some_state, starts}
+use Rattle.upon_renderer.proofs.AtStart.{asks_some, machine_of, known_of, some_asking, some_state, starts}
 use Rattle.upon_renderer.proofs.render.render.Goals as goal
 
-pub run-requires : goal.run-requires
-run-requires g c κs =
+pub run-ended-requires : goal.run-ended-requires
+run-ended-requires g c κs =
     let ask_of = g.V.ValueSource.ask in
     let value_state = g.V.ValueSource.value_state in
     let template_state = g.T.ProgramSource.template_state in
@@ -23,8 +23,8 @@ run-requires g c κs =
       ),
     )
 
-pub returns-clause-rendered : goal.returns-clause-rendered
-returns-clause-rendered g c t ask q program asks =
+pub returns-clause-ran : goal.returns-clause-ran
+returns-clause-ran g c t ask q program asks =
     let ask_of = g.V.ValueSource.ask in
     let value_state = g.V.ValueSource.value_state in
     let template_state = g.T.ProgramSource.template_state in
@@ -34,4 +34,13 @@ returns-clause-rendered g c t ask q program asks =
     let m = machine_of c.args.running c.new.result c.new-2.result c.args.stack c.args.templates in
     let known = known_of ask_of value_state template_state resolve callables default m c.new.ensures.items refl c.new-2.ensures c.requires.frames t ask q in
     let from = starts ask_of value_state template_state resolve callables default m c.new.ensures.items refl c.new-2.ensures c.requires.frames c.requires.program t ask q program asks in
-    rendered c.run.result (g.W.Output.given c.args.out.now) (g.W.Output.given c.run.new.out) known.outcome _ (c.run.ensures.ran known from)
+    c.run-ended.ensures.ran known from
+
+pub returns-clause-root : goal.returns-clause-root
+returns-clause-root g c = c.run-ended.ensures.kept.root
+
+pub returns-clause-asks : goal.returns-clause-asks
+returns-clause-asks g c = c.run-ended.ensures.kept.asks
+
+pub returns-clause-resolve : goal.returns-clause-resolve
+returns-clause-resolve g c = c.run-ended.ensures.kept.resolve

@@ -1,5 +1,6 @@
 use Rattle.std.proofs.Common.{◌∙◌, refl, sym}
 use Rattle.upon_renderer.specs.Machine.{state_of}
+use Rattle.upon_renderer.proofs.Keeps.{kept_on}
 use Rattle.upon_renderer.proofs.OnTheWay.{way_asks, way_ended, way_failed, way_frames, way_on, way_stop}
 use Rattle.upon_renderer.proofs.run.run.Goals as goal
 
@@ -31,8 +32,15 @@ returns-in-Some-clause-ran g c known starts =
 pub steps-preserved : goal.steps-preserved
 steps-preserved g c = record {
   same = c.in-Ok.ensures.same ∙ c.steps.invariant.same;
+  kept = kept_on g.V.ValueSource.ask g.T.ProgramSource.resolve _ c.steps.machine c.step.new.machine c.steps.invariant.kept c.in-Ok.ensures.kept;
   going = λ known starts.
       let h = c.steps.invariant.going known starts in
       let did = c.in-Ok.ensures.did known.values known.ask (way_asks h) in
       way_on h c.in-Ok.flow (g.W.Output.given c.step.new.out) c.step.new.machine (sym c.end_of.ensures ∙ c.in_default.is) did c.in-Ok.ensures.kept;
 }
+
+pub returns-in-Err-clause-kept : goal.returns-in-Err-clause-kept
+returns-in-Err-clause-kept g c = kept_on g.V.ValueSource.ask g.T.ProgramSource.resolve _ c.steps.machine c.step.new.machine c.steps.invariant.kept c.in-Err.ensures.kept
+
+pub returns-in-Some-clause-kept : goal.returns-in-Some-clause-kept
+returns-in-Some-clause-kept g c = kept_on g.V.ValueSource.ask g.T.ProgramSource.resolve _ c.steps.machine c.step.new.machine c.steps.invariant.kept c.in-Ok.ensures.kept

@@ -1,5 +1,6 @@
 use Rattle.std.proofs.Common.{◌≡◌}
 use Rattle.upon_renderer.specs.Acts.{calls_of}
+use Rattle.upon_renderer.specs.Keeps.{Kept}
 use Rattle.upon_renderer.specs.Runs.{Known, Starts}
 use Rattle.upon_renderer.proofs.OnTheWay.{OnTheWay}
 use Rattle.upon_renderer.proofs.run.run.Given as goal
@@ -7,6 +8,7 @@ use Rattle.upon_renderer.proofs.run.run.Given as goal
 abbrev pub invariant-steps : goal.invariant-steps
 invariant-steps g l = record {
   same : g.W.Output.holds l.out ≡ g.W.Output.holds l.initial.out;
+  kept : Kept g.V.ValueSource.ask g.T.ProgramSource.resolve l.initial.machine l.machine;
   going :
       (known : Known g.V.ValueSource.State g.T.ProgramSource.State)
       → Starts

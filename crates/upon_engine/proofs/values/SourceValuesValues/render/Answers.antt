@@ -1,10 +1,14 @@
 use Rattle.upon_renderer.specs.Acts.{calls_of}
-use Rattle.upon_engine.proofs.Roots.{at_source}
+use Rattle.upon_engine.proofs.Roots.{asks_as_before, at_source}
 use Rattle.upon_engine.proofs.values.SourceValuesValues.render.Goals as goal
 
-pub returns-clause-rendered : goal.returns-clause-rendered
-returns-clause-rendered g c t is =
-    at_source g.S.ValueSource.ask g.S.ValueSource.value_state c.render.result (g.W.Output.given c.args.out.now) (g.W.Output.given c.render.new.out)
+pub returns-clause-ran : goal.returns-clause-ran
+returns-clause-ran g c t is =
+    at_source g.S.ValueSource.ask g.S.ValueSource.value_state c.render-ended.result.0 (g.W.Output.given c.args.out.now) (g.W.Output.given c.render-ended.new.out)
     (λ ask. calls_of (g.C.Callables.callables c.args.callables.now) (g.C.Callables.default_formatter c.args.callables.now) ask)
-    (g.T.TemplateSource.resolve c.args.templates) c.args.running.left t _ (g.T.TemplateSource.template_state c.args.templates)
-    _ _ c.with_value_fn-stack.ensures.root (λ ask q asks. c.render.ensures.rendered t ask q is asks)
+    (g.T.TemplateSource.resolve c.args.templates) c.args.running.left t _ (g.T.TemplateSource.template_state c.args.templates) _
+    _ _ _ c.in-Some.source c.with_value_fn-stack.ensures.root c.in-Some.ensures (λ ask q asks. c.render-ended.ensures.ran t ask q is asks)
+
+pub returns-clause-asks : goal.returns-clause-asks
+returns-clause-asks g c =
+    asks_as_before g.S.ValueSource.ask _ _ _ c.in-Some.source c.with_value_fn-stack.ensures.root c.in-Some.ensures c.render-ended.ensures.asks
