@@ -1,20 +1,12 @@
 -- Programs by hand.
 use Rattle.std.proofs.Common.{◌≡◌, ◌<◌, ℕ, List, [], ◌∷◌, length, true, false, ap, ◌∙◌}
 use Rattle.std.specs.Prelude.{bytes_eq, codes}
-use Rattle.std.proofs.Props.{props}
-use Rattle.std.proofs.Math.Nat.{ℕ_set}
-use Rattle.upon_types.proofs.Sets.{Span-set, Ident-set, Member-set, Members-set, LoopVars-one_path, Val-one_path}
 use Rattle.upon_types.specs.AstPath.{first_of}
 use Rattle.upon_types.specs.declared.types.ast.path.Member.{Member}
-use Rattle.upon_machine.specs.Instr.{Instr}
 use Rattle.upon_render.specs.Source.{says}
 use Rattle.upon_meaning.specs.Engine.{table_answer}
 use Rattle.upon_renderer_tests.specs.Parts.{pick, table, template_of}
 use Rattle.upon_renderer_tests.specs.declared.programs.Case.TheVariants.{Part, Endless}
-
--- programs are equal in one way at most
-pub Instrs-one_path : (a b : List Instr) (p q : a ≡ b) → p ≡ q
-Instrs-one_path = hlevel (props, ℕ_set, Span-set, Ident-set, Member-set, Members-set, LoopVars-one_path, Val-one_path)
 
 -- the only member is the first
 pub first_of-only : (members : List Member) (some : 0 < length members) (m : Member) → members ≡ m ∷ [] → first_of members some ≡ m

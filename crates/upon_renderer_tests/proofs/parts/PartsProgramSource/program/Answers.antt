@@ -2,8 +2,9 @@ use Rattle.std.proofs.Common.{refl, sym}
 use Rattle.std.proofs.Math.Logic.{∥∥₁_elim}
 use Rattle.upon_renderer_tests.specs.Parts.{template_of}
 use Rattle.upon_renderer_tests.specs.declared.programs.Case.TheVariants.{Part, Endless}
-use Rattle.upon_renderer_tests.proofs.ByHand.{Instrs-one_path, picks_loop, picks_part}
+use Rattle.upon_renderer_tests.proofs.ByHand.{picks_loop, picks_part}
 use Rattle.upon_renderer_tests.proofs.parts.PartsProgramSource.program.Goals as goal
+use Rattle.upon_machine.proofs.Sets.{Instrs-one_path}
 
 pub returns-then-eq-clause-resolved : goal.returns-then-eq-clause-resolved
 returns-then-eq-clause-resolved c = (
