@@ -1,2 +1,1 @@
 pub mod Callables
-pub mod Only

@@ -97,7 +97,8 @@ impl<'r> TemplateSource<'r> for Only<'r> {
     ghost use Rattle.upon_render.specs.Finding.{reply};
     ghost use Rattle.upon_render.specs.Source.{says};
     ghost use Rattle.upon_engine.specs.Template.{template_of};
-    ghost use Rattle.upon_tests.specs.Only.{only_lies};
+    ghost use Rattle.upon_engine.proofs.TemplateSpans.{template_lies};
+    ghost use Rattle.upon_meaning.proofs.FaultsStated.Ends.{one_lies};
 
     ghost State = { Unit {0} };
 
@@ -105,7 +106,7 @@ impl<'r> TemplateSource<'r> for Only<'r> {
 
     ghost resolve = { λ s q _. reply (says (template_of s.template.now)) q };
 
-    ghost templates_lie = { λ s. only_lies s.template.now };
+    ghost templates_lie = { λ s. one_lies (template_of s.template.now) (template_lies s.template.now) };
 
     fn template(&mut self, _name: &str) -> std::result::Result<&'r Template<'r>, SourceError> {
         Ok(self.template)

@@ -8,6 +8,8 @@ mod callables;
 #[cfg(test)]
 mod calls;
 #[cfg(test)]
+mod contexts;
+#[cfg(test)]
 mod delimiters;
 #[cfg(test)]
 mod examples;
@@ -21,6 +23,8 @@ mod loops;
 mod memory;
 #[cfg(test)]
 mod pictures;
+#[cfg(test)]
+mod profile;
 #[cfg(test)]
 mod program;
 #[cfg(test)]

@@ -1,6 +1,7 @@
 // What calls answer where a growth of their memory may be refused: the same as ever, or that memory is out, and a
 // refused call leaves the engine as it was. `checks/refuse-in-test upon_tests memory::NAME` refuses each in turn.
 use crate::callables::{Double, Half, engine};
+use serde::Serialize;
 use std::alloc::{AllocError, Global};
 use std::borrow::CowStr;
 use std::process::Abort;
@@ -103,6 +104,33 @@ fn faults(rt: HostRuntime) -> std::result::Result<(), Fail> {
     ] {
         ends_so(&rt, text_of(alloc, source), &wanted);
     }
+    Ok(())
+}
+
+#[derive(Drop, Serialize)]
+struct User<'a> {
+    name: &'a str,
+    friends: [Option<&'a str>; 2],
+}
+
+// The text of a template on what serde writes of a context.
+fn text_on<S: Serialize + Drop>(alloc: Global, context: S) -> Result<String> {
+    let engine = Engine::new(alloc);
+    let source = "{{ name }}:{% for friend in friends %} {{ friend }}{% endfor %}";
+    let template = engine.compile(CowStr::Borrowed(source))?;
+    template.render(&engine, context).to_string()
+}
+
+#[test]
+fn contexts(rt: HostRuntime) -> std::result::Result<(), Fail> {
+    let alloc = rt.alloc();
+    let user = User {
+        name: "Ann",
+        friends: [Some("John"), None],
+    };
+    ends_so(&rt, text_on(alloc, user), &End::Text("Ann: John "));
+    let refusal = End::Fault("floating point numbers are not supported", None);
+    ends_so(&rt, text_on(alloc, [0.5f64]), &refusal);
     Ok(())
 }
 
