@@ -1,4 +1,0 @@
-pub mod Plain
-pub mod Trees
-pub mod Lies
-pub mod Parts
