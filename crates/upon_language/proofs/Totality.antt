@@ -5,7 +5,7 @@ pub mod First
 pub mod Stage
 pub mod ExpressionTree
 pub mod TagTree
-pub mod SomethingStands
+pub mod SomethingOccurs
 pub mod NextOrFault
 pub mod LiteralValues
 pub mod LiteralHere

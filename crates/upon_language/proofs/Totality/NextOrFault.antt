@@ -25,7 +25,7 @@ use Rattle.upon_language.specs.LexStep.{Fits as BracketsFit, IsWrong}
 use Rattle.upon_language.proofs.Offsets.LexFaults.{wrong_end, wrong_begin, wrong_bracket, wrong_close, wrong_inside}
 use Rattle.upon_language.proofs.Totality.First.{left_at, has_read, cut_fault_is_first}
 use Rattle.upon_language.proofs.Totality.Stage.{Stage, clear_so_far}
-use Rattle.upon_language.proofs.Totality.SomethingStands.{delimiter_at, inner_at, Spelled}
+use Rattle.upon_language.proofs.Totality.SomethingOccurs.{delimiter_at, inner_at, Spelled}
 
 pub record Next (delimiters : List DelimiterText) (s : List ℕ) (ls : List Lexeme) (mode : Mode) (p : ℕ) : Type 0 where
   pub t : Token

@@ -21,7 +21,7 @@ pub fn map_literal_rises<V>()
 {}
 
 /// An entry more changes what is at its key alone: of equal keys the last value counts.
-pub fn last_entry_stands()
+pub fn last_entry_counts()
     ensures { (key other : List ℕ) (v : Val) (es : Entries)
         → entry_at other (with_entry key v es) ≡ (if bytes_eq other key then Some v else entry_at other es) }
 {}
@@ -77,7 +77,7 @@ pub fn literal_goes_in_order<V>()
 
 /// At a key a map literal holds the value of the last of its items that has the key, and nothing where none has it. The
 /// items' expressions come to their values from the left, as those of a list do.
-pub fn literal_last_stands<V>()
+pub fn literal_last_counts<V>()
     ensures { (calls : Calls V) (items : Items) (span : Span) (env : Environment) (q : V) (o : Operand)
         → (evaluate_base calls (mapping items span) env q).answer ≡ found o
         → (os : List Operand) × ((evaluate_bases calls (item_bases items) env q).answer ≡ found os)

@@ -11,7 +11,7 @@ use Rattle.upon_language.proofs.SpansLieIn.Token.{char_between, low_between}
 use Rattle.upon_language.proofs.Offsets.KindsBy.{proper_kind, single}
 use Rattle.upon_language.proofs.Offsets.Runs.{some_run}
 use Rattle.upon_language.proofs.Offsets.Unexpected.{no_token, same_span}
-use Rattle.upon_language.proofs.Totality.SomethingStands.{digit_continues}
+use Rattle.upon_language.proofs.Totality.SomethingOccurs.{digit_continues}
 use Rattle.upon_lexer.proofs.compile.inside.token_inside.Goals as goal
 
 pub returns-in-Some-Whitespace-clause-token : goal.returns-in-Some-Whitespace-clause-token
