@@ -3,7 +3,7 @@ use std::alloc::{AllocError, Global};
 use std::borrow::CowStr;
 use std::test::Fail;
 use upon::error::ErrorKind;
-use upon::{Engine, Template, Value};
+use upon::{Engine, Value};
 use upon_render_tests::starved::{Hoard, refuses};
 
 // Bytes that a rendering has to do with. Each of the blocks has more in its program.
@@ -18,14 +18,17 @@ fn skipped(alloc: Global) -> Result<String, AllocError> {
     Ok(source)
 }
 
-// Whether the template is rendered to no text, as a text and to a writer.
-fn shows_nothing(alloc: Global, engine: &Engine<'_>, template: &Template<'_>) -> bool {
-    let mut received: Vec<u8> = Vec::new(alloc);
+// Whether the engine's template is rendered to no text, as a text and to a writer.
+fn shows_nothing(alloc: Global, engine: &Engine<'_>) -> bool {
+    let Some(template) = engine.get_template("t") else {
+        return false;
+    };
+    let mut received = Vec::new(alloc);
     let written = template
-        .render_from(engine, &Value::None)
+        .render_from(&Value::None)
         .to_writer(&mut received)
         .is_ok();
-    match template.render_from(engine, &Value::None).to_string() {
+    match template.render_from(&Value::None).to_string() {
         Ok(text) => text.is_empty() && written && received.is_empty(),
         Err(_) => false,
     }
@@ -43,11 +46,11 @@ fn is_refused(engine: &Engine<'_>, source: &str) -> bool {
 fn nothing_is_parsed_again(rt: HostRuntime) -> Result<(), Fail> {
     let alloc = rt.alloc();
     let source = skipped(alloc)?;
-    let engine = Engine::new(alloc);
-    let template = engine.compile(CowStr::Borrowed(source.as_str()))?;
+    let mut engine = Engine::new(alloc);
+    engine.add_template(CowStr::Borrowed("t"), CowStr::Borrowed(source.as_str()))?;
     let mut hoard = Hoard::with_room(alloc, ROOM)?;
     let could_compile = !is_refused(&engine, source.as_str());
-    let shows_nothing = shows_nothing(alloc, &engine, &template);
+    let shows_nothing = shows_nothing(alloc, &engine);
     let is_scarce = refuses(alloc, &mut hoard, 2 * ROOM);
     let is_used_up = hoard.is_some();
     drop(hoard);
