@@ -59,18 +59,8 @@ impl<'s> Template<'s> {
         ensures context { IsContextOf (λ old new. S.writes context old new) (base_in (values_in result)) }
         ensures limit { limit_in result ≡ engine_depth engine.now }
     {
-        let (alloc, limit) = (engine.alloc(), engine.depth());
-        Renderer {
-            alloc,
-            engine,
-            template: self.lent(),
-            name: None,
-            values: SerdeContext {
-                value: to_value(alloc, context),
-            },
-            templates: EngineTemplates { engine },
-            limit,
-        }
+        let value = to_value(engine.alloc(), context);
+        self.rendering(engine, SerdeContext { value })
     }
 
     /// A rendering on a value, with the engine's callables, templates and depth. It is not made yet.
@@ -86,16 +76,7 @@ impl<'s> Template<'s> {
         ensures value { value_in (values_in result) ≡ view value.now }
         ensures limit { limit_in result ≡ engine_depth engine.now }
     {
-        let limit = engine.depth();
-        Renderer {
-            alloc: engine.alloc(),
-            engine,
-            template: self.lent(),
-            name: None,
-            values: Context { value },
-            templates: EngineTemplates { engine },
-            limit,
-        }
+        self.rendering(engine, Context { value })
     }
 
     /// A rendering on a source of values, with the engine's callables, templates and depth. It is not made yet.
@@ -111,12 +92,28 @@ impl<'s> Template<'s> {
         ensures source { source_in (values_in result) ≡ source }
         ensures limit { limit_in result ≡ engine_depth engine.now }
     {
+        self.rendering(engine, SourceValues { source })
+    }
+
+    // A rendering on these values, with the engine's callables, templates and depth, and without a name.
+    fn rendering<'r, 'e, V>(
+        &'r self,
+        engine: &'r Engine<'e>,
+        values: V,
+    ) -> Renderer<'r, &'r Engine<'e>, V, EngineTemplates<'r, 'e>>
+        ensures template { template_in result ≡ template_of self.now }
+        ensures name { name_in result ≡ None }
+        ensures engine { (engine_in result).now ≡ engine.now }
+        ensures templates { engine_of_templates (templates_in result) ≡ engine.now }
+        ensures values { values_in result ≡ values }
+        ensures limit { limit_in result ≡ engine_depth engine.now }
+    {
         Renderer {
             alloc: engine.alloc(),
             engine,
             template: self.lent(),
             name: None,
-            values: SourceValues { source },
+            values,
             templates: EngineTemplates { engine },
             limit: engine.depth(),
         }
