@@ -1,7 +1,7 @@
 // Renderings: what they are made on, where they go, and what templates see while they run.
 pub use upon_engine::renderer::Renderer;
 pub use upon_engine::sources::{CallName, EngineTemplates, TemplateFn, TemplateSource};
-pub use upon_engine::values::{Context, SourceValues};
+pub use upon_engine::values::{Context, SerdeContext, SourceValues};
 pub use upon_fmt::output::{Output, Writer};
 pub use upon_render::iter::LoopState;
 pub use upon_render::source::{NoSource, SourceError, ValueSource};
