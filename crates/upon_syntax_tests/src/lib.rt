@@ -1,13 +1,11 @@
-// Tests of the written language: the tokens and faults of texts, the search for delimiters, literals, trees, and syntaxes
-// that are built.
+// Tests of the parser: the faults and trees of texts, also under other delimiters and cut at each place; what literals
+// denote; and brackets and blocks that are nested deep.
 #![tactic(auto)]
 
 #[cfg(test)]
 mod cut_texts;
 #[cfg(test)]
 mod delimiters;
-#[cfg(test)]
-mod lexer;
 #[cfg(test)]
 mod literals;
 #[cfg(test)]
@@ -16,7 +14,3 @@ mod nesting;
 mod parsing;
 #[cfg(test)]
 mod picture;
-#[cfg(test)]
-mod search;
-#[cfg(test)]
-mod syntax;
