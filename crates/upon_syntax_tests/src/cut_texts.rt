@@ -1,9 +1,15 @@
 // Texts that are cut at each character boundary: each part has a tree or a fault of its own, under any delimiters.
 use crate::delimiters::{equal, letters, one_byte, overlapping, with_a_blank};
-use crate::parsing::{
-    AFTER_VALUE, AFTER_WITH, BLOCKS, CUTS, EXPRESSIONS, IN_BRACKETS, INSIDE, MEETINGS, Refusal,
-    STATEMENTS, TAGS, Tree,
-};
+use crate::parsing::after_values::{AFTER_VALUE, AFTER_WITH};
+use crate::parsing::blocks::BLOCKS;
+use crate::parsing::cuts::CUTS;
+use crate::parsing::expressions::EXPRESSIONS;
+use crate::parsing::in_brackets::IN_BRACKETS;
+use crate::parsing::inside::INSIDE;
+use crate::parsing::meetings::MEETINGS;
+use crate::parsing::outcomes::{Refusal, Tree};
+use crate::parsing::statements::STATEMENTS;
+use crate::parsing::tags::TAGS;
 use std::alloc::Global;
 use std::process::Abort;
 use std::test::Fail;

@@ -1,5 +1,5 @@
 // Five syntaxes whose delimiters meet one another, blanks or names; texts under them that are refused, and trees.
-use crate::parsing::{Refusal, Tree, all_accepted, all_refused};
+use crate::parsing::outcomes::{Refusal, Tree, all_accepted, all_refused};
 use std::alloc::{AllocError, Global};
 use std::process::Abort;
 use std::test::Fail;
