@@ -8,8 +8,8 @@ use Rattle.upon_types.specs.declared.error.Error.{Error}
 use Rattle.upon_render.specs.Asked.{never}
 use Rattle.upon_render.specs.Environment.{context, value_source}
 use Rattle.upon_render.specs.Source.{Source}
-use Rattle.upon_meaning.specs.Engine.{Template, calls_of, from_table}
-use Rattle.upon_meaning.specs.Outcome.{states}
+use Rattle.upon_meaning.specs.Engine.{Resolver, Template, calls_of, from_table}
+use Rattle.upon_meaning.specs.Outcome.{Outcome, States, states}
 use Rattle.upon_engine.specs.Answers.{AnswersText}
 use Rattle.upon_engine.specs.Base.{Base, on_root, outcome_over}
 use Rattle.upon_engine.specs.Calls.{engine_in, values_in, templates_in, template_in, name_in, limit_in}
@@ -41,3 +41,19 @@ module _ {X Y : Type 0} {P : X → Type 0} {Q : Y → Type 0} (formats : DynBox 
   -- whatever it is over
   pub on_base : {V : Type 0} (x : Result (String Global) Error) (r : Renderer (Bor (Held X Y P Q)) V (EngineTemplates X Y P Q)) (base : Base) (e : Held X Y P Q) (t : Template) (name : Option (List ℕ)) (limit : ℕ) → (engine_in r).now ≡ e → engine_of_templates (templates_in r) ≡ e → template_in r ≡ t → name_in r ≡ name → limit_in r ≡ limit → Gives x never base (tt {0}) (engine_in r).now (engine_of_templates (templates_in r)) (template_in r) (name_in r) (limit_in r) → Gives x never base (tt {0}) e e t name limit
   on_base x r base e t name limit ee ff tt' nn dd h = moved x never base (tt {0}) _ _ _ _ _ _ _ _ _ _ ee ff tt' nn dd h
+
+  -- on two sources, whatever is said of the outcome
+  module _ {Z U V T : Type 0} (ask : Z → Source V) (value_state : Z → V) (resolve : U → Resolver T) (template_state : U → T) where
+    abbrev pub outcome_on : Held X Y P Q → U → Template → Option (List ℕ) → ℕ → Z → Outcome (States V T)
+    outcome_on e u t name limit z = outcome_over (record { calls = calls_of (engine_of formats answers e) (ask z); resolve = resolve u; limit = limit }) t name (on_root value_source) (states (value_state z) (template_state u))
+
+    pub on_sources : (Says : ℕ → Outcome (States V T) → Type 0) (r : Renderer (Bor (Held X Y P Q)) (SourceValues Z) U) (e : Held X Y P Q) (u : U) (t : Template) (name : Option (List ℕ)) (limit : ℕ) (z : Z)
+        → (engine_in r).now ≡ e → templates_in r ≡ u → template_in r ≡ t → name_in r ≡ name → limit_in r ≡ limit → source_in (values_in r) ≡ z
+        → Says (limit_in r) (outcome_on (engine_in r).now (templates_in r) (template_in r) (name_in r) (limit_in r) (source_in (values_in r))) → Says limit (outcome_on e u t name limit z)
+    on_sources Says r e u t name limit z ee uu tt' nn ll zz h =
+        subst (λ y. Says limit (outcome_on e u t name limit y)) zz
+        (subst (λ y. Says y (outcome_on e u t name y (source_in (values_in r)))) ll
+        (subst (λ y. Says (limit_in r) (outcome_on e u t y (limit_in r) (source_in (values_in r)))) nn
+        (subst (λ y. Says (limit_in r) (outcome_on e u y (name_in r) (limit_in r) (source_in (values_in r)))) tt'
+        (subst (λ y. Says (limit_in r) (outcome_on e y (template_in r) (name_in r) (limit_in r) (source_in (values_in r)))) uu
+        (subst (λ y. Says (limit_in r) (outcome_on y (templates_in r) (template_in r) (name_in r) (limit_in r) (source_in (values_in r)))) ee h)))))

@@ -10,7 +10,7 @@ use Rattle.upon_render.specs.declared.stack.Root.TheVariants.{Value, Source}
 use Rattle.upon_meaning.specs.Alone.{alone_within}
 use Rattle.upon_meaning.specs.Engine.{Calls, Resolver, Template}
 use Rattle.upon_meaning.specs.Outcome.{states}
-use Rattle.upon_renderer.specs.Keeps.{Asks}
+use Rattle.upon_renderer.specs.Keeps.{SourceHas}
 use Rattle.upon_renderer.specs.Machine.{source_state}
 use Rattle.upon_renderer.specs.Runs.{Ran}
 use Rattle.upon_renderer.specs.declared.failure.Failure.{Failure}
@@ -20,7 +20,7 @@ module _ {V Q P : Type 0} (ask_of : V → Asking Q) (state_of : V → Q) (result
     (calls : Asking Q → Calls Q) (resolve : Resolver P) (left : ℕ) (t : Template) (name : Option (List ℕ)) (templates next : P) where
   -- what is known of each source that is asked, and each state
   abbrev pub Known : Root V → Root V → Type 0
-  Known root after = (ask : Asking Q) (q : Q) → Asks ask_of root ask
+  Known root after = (ask : Asking Q) (q : Q) → SourceHas ask_of root ask
       → Ran result old new (alone_within (calls ask) resolve left t name (pure_root root) (states (source_state state_of q root) templates))
       (states (source_state state_of q after) next)
 
@@ -35,8 +35,8 @@ module _ {V Q P : Type 0} (ask_of : V → Asking Q) (state_of : V → Q) (result
       → Ran result old new (alone_within (calls (ask_of s)) resolve left t name value_source (states (state_of s) templates)) (states (state_of u) next)
   at_source root after s u is ends known = subst (λ a. Known (Source s) a) ends (subst (λ r. Known r after) is known) (ask_of s) (state_of s) refl
 
--- a source that is asked as before
-pub asks_as_before : {V Q : Type 0} (ask_of : V → Asking Q) (root after : Root V) (s u : V) → root ≡ Source s → after ≡ Source u
-    → ((ask : Asking Q) → Asks ask_of root ask → Asks ask_of after ask) → ask_of u ≡ ask_of s
-asks_as_before ask_of root after s u is ends asks =
-    subst (λ a. Asks ask_of a (ask_of s)) ends (asks (ask_of s) (subst (λ r. Asks ask_of r (ask_of s)) (sym is) refl))
+-- a source that has what it had
+pub as_before : {V A : Type 0} (get : V → A) (root after : Root V) (s u : V) → root ≡ Source s → after ≡ Source u
+    → ((a : A) → SourceHas get root a → SourceHas get after a) → get u ≡ get s
+as_before get root after s u is ends keeps =
+    subst (λ r. SourceHas get r (get s)) ends (keeps (get s) (subst (λ r. SourceHas get r (get s)) (sym is) refl))

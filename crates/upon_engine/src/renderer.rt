@@ -232,7 +232,9 @@ impl<'r, E: Callables + Drop, V: Values<'r, T>, T: TemplateSource<'r>> Renderer<
         ensures same { O.holds out.new ≡ O.holds out.old }
         ensures asks { V.asks result.1 ≡ V.asks (values_in self.entry) }
         ensures root { (r : Root) → V.root (values_in self.entry) ≡ on_root r → V.root result.1 ≡ V.root (values_in self.entry) }
+        ensures held { V.holds result.1 ≡ V.holds (values_in self.entry) }
         ensures resolve { T.resolve result.2 ≡ T.resolve (templates_in self.entry) }
+        ensures templates_held { T.holds result.2 ≡ T.holds (templates_in self.entry) }
         ensures laws { Kept (call_of E.callables E.default_formatter V.asks V.root V.values_state T.resolve T.template_state self.entry) }
     {
         let alloc = self.alloc;
@@ -252,7 +254,9 @@ impl<'r, E: Callables + Drop, V: Values<'r, T>, T: TemplateSource<'r>> Renderer<
             (states (V.values_state result.1) (T.template_state result.2)) }
         ensures asks { V.asks result.1 ≡ V.asks (values_in self.entry) }
         ensures root { (r : Root) → V.root (values_in self.entry) ≡ on_root r → V.root result.1 ≡ V.root (values_in self.entry) }
+        ensures held { V.holds result.1 ≡ V.holds (values_in self.entry) }
         ensures resolve { T.resolve result.2 ≡ T.resolve (templates_in self.entry) }
+        ensures templates_held { T.holds result.2 ≡ T.holds (templates_in self.entry) }
     {
         let Renderer {
             alloc,

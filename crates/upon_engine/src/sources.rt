@@ -1,5 +1,5 @@
 // Where the templates of includes come from.
-ghost use Rattle.std.specs.Prelude.{◌≡◌};
+ghost use Rattle.std.specs.Prelude.{◌≡◌, ℕ, List};
 ghost use Rattle.upon_render.specs.Asked.{Asked};
 ghost use Rattle.upon_meaning.specs.Engine.{Resolver};
 ghost use Rattle.upon_meaning.specs.RenderFaults.{TemplatesLie};
@@ -24,21 +24,29 @@ pub trait TemplateSource<'r>: Drop {
     /// The answer and the next state, in each state and for each name.
     ghost resolve: { Self → Resolver State };
 
+    /// The references that it holds.
+    ghost holds: { Self → List ℕ };
+
     /// The spans in the trees of all templates that answer lie in their texts.
     ghost templates_lie: { (s : Self) → TemplatesLie (resolve s) };
 
     /// The template of this name.
     fn template(&mut self, name: &str) -> Result<&'r Template<'r>, SourceError>
+        ensures same { holds self.new ≡ holds self.old }
         ensures stays { resolve self.new ≡ resolve self.old }
         ensures resolved { Asked (λ t. template_of t.now) result (template_state self.new) (resolve self.old (template_state self.old) name.now) };
 }
 
 impl<'r, S: TemplateSource<'r>> TemplateSource<'r> for &mut S {
+    ghost use Rattle.std.specs.Prelude.{◌∷◌};
+
     ghost State = { S.State };
 
     ghost template_state = { λ s. S.template_state s.now };
 
     ghost resolve = { λ s. S.resolve s.now };
+
+    ghost holds = { λ s. s.ghost_name ∷ S.holds s.now };
 
     ghost templates_lie = { λ s. S.templates_lie s.now };
 
@@ -57,6 +65,7 @@ impl<'r, 'e> TemplateSource<'r> for EngineTemplates<'r, 'e> {
     ghost use Rattle.upon_meaning.specs.Engine.{from_table};
     ghost use Rattle.upon_engine.specs.Engine.{engine_of};
     ghost use Rattle.std.specs.BTreeMap.{get_by_text};
+    ghost use Rattle.std.specs.Prelude.{[]};
     ghost use Rattle.upon_compiled.proofs.CompiledTree.{spans};
     ghost use Rattle.upon_compiled.proofs.Templates.{map_lies};
     ghost use Rattle.upon_engine.specs.Template.{template_source, template_syntax};
@@ -66,6 +75,8 @@ impl<'r, 'e> TemplateSource<'r> for EngineTemplates<'r, 'e> {
     ghost template_state = { λ _. tt };
 
     ghost resolve = { λ s. from_table (engine_of (λ f. (Format-box f).formats f.value) (λ f. (Function-box f).answers f.value) s.engine.now).templates };
+
+    ghost holds = { λ _. [] };
 
     ghost templates_lie = { λ s. map_lies template_of (λ t. spans (template_syntax t) (template_source t) t.instrs.items t.is_compiled)
         (get_by_text s.engine.now.templates) };
@@ -117,11 +128,15 @@ impl<C> TemplateFn<C> {
 }
 
 impl<'r, C: CallName<'r>> TemplateSource<'r> for TemplateFn<C> {
+    ghost use Rattle.std.specs.Prelude.{[]};
+
     ghost State = { C.State };
 
     ghost template_state = { λ s. C.name_state s.callable };
 
     ghost resolve = { λ _. C.answers_name };
+
+    ghost holds = { λ _. [] };
 
     ghost templates_lie = { λ _. C.answers_lie };
 
@@ -155,6 +170,8 @@ impl<'s, 'r: 's, T: TemplateSource<'r>> TemplateSource<'s> for ShorterLoans<'r, 
 
     ghost resolve = { λ s. T.resolve s.templates };
 
+    ghost holds = { λ s. T.holds s.templates };
+
     ghost templates_lie = { λ s. T.templates_lie s.templates };
 
     fn template(&mut self, name: &str) -> Result<&'s Template<'s>, SourceError> {
@@ -177,6 +194,8 @@ impl<'r, T: TemplateSource<'r>> ProgramSource<'r> for Programs<T> {
     ghost template_state = { λ s. T.template_state s.templates };
 
     ghost resolve = { λ s. T.resolve s.templates };
+
+    ghost holds = { λ s. T.holds s.templates };
 
     ghost templates_lie = { λ s. T.templates_lie s.templates };
 

@@ -1,5 +1,5 @@
 // What a template is rendered on: a value that is lent or owned, or a source of values.
-ghost use Rattle.std.specs.Prelude.{◌≡◌, option_map};
+ghost use Rattle.std.specs.Prelude.{◌≡◌, ℕ, List, option_map};
 ghost use Rattle.upon_types.specs.TreeSpans.{TreeLiesIn};
 ghost use Rattle.upon_render.specs.Source.{Source};
 ghost use Rattle.upon_meaning.specs.Engine.{Template};
@@ -36,6 +36,9 @@ pub trait Values<'r, T: TemplateSource<'r>>: Drop {
     // What lies under the bindings, or why it is no value.
     ghost root: { Self → Base };
 
+    // The references that its source holds.
+    ghost holds: { Self → List ℕ };
+
     /// Renders a program on it. It comes back, and the source of templates, as the run leaves them; what was no value
     /// comes back as another.
     fn render<C: Callables, W: Output>(
@@ -56,7 +59,9 @@ pub trait Values<'r, T: TemplateSource<'r>>: Drop {
             (states (values_state result.1) (T.template_state result.2)) }
         ensures asks { asks result.1 ≡ asks self }
         ensures root { (r : Root) → root self ≡ on_root r → root result.1 ≡ root self }
-        ensures resolve { T.resolve result.2 ≡ T.resolve templates };
+        ensures held { holds result.1 ≡ holds self }
+        ensures resolve { T.resolve result.2 ≡ T.resolve templates }
+        ensures templates_held { T.holds result.2 ≡ T.holds templates };
 }
 
 /// A value that is lent: the context.
@@ -66,6 +71,7 @@ pub struct Context<'r> {
 }
 
 impl<'r, T: TemplateSource<'r>> Values<'r, T> for Context<'r> {
+    ghost use Rattle.std.specs.Prelude.{[]};
     ghost use Rattle.upon_types.specs.View.{view};
     ghost use Rattle.upon_render.specs.Asked.{never};
     ghost use Rattle.upon_render.specs.Environment.{context};
@@ -78,6 +84,8 @@ impl<'r, T: TemplateSource<'r>> Values<'r, T> for Context<'r> {
     ghost asks = { λ _. never };
 
     ghost root = { λ c. on_root (context (view c.value.now)) };
+
+    ghost holds = { λ _. [] };
 
     fn render<C: Callables, W: Output>(
         self,
@@ -101,6 +109,7 @@ pub struct SerdeContext {
 }
 
 impl<'r, T: TemplateSource<'r>> Values<'r, T> for SerdeContext {
+    ghost use Rattle.std.specs.Prelude.{[]};
     ghost use Rattle.upon_render.specs.Asked.{never};
     ghost use Rattle.upon_engine.specs.Sources.{base_in};
 
@@ -111,6 +120,8 @@ impl<'r, T: TemplateSource<'r>> Values<'r, T> for SerdeContext {
     ghost asks = { λ _. never };
 
     ghost root = { λ c. base_in c };
+
+    ghost holds = { λ _. [] };
 
     fn render<C: Callables, W: Output>(
         self,
@@ -166,6 +177,8 @@ impl<'r, S: ValueSource, T: TemplateSource<'r>> Values<'r, T> for SourceValues<S
     ghost asks = { λ v. S.ask v.source };
 
     ghost root = { λ _. on_root value_source };
+
+    ghost holds = { λ v. S.holds v.source };
 
     fn render<C: Callables, W: Output>(
         self,

@@ -28,8 +28,7 @@ with_template from word values r go = on_template from word r.answer (states val
 
 module _ {V T : Type 0} (calls : Calls V) (resolve : Resolver T) where
   -- The name is answered first; then it is tested whether one more include may be inside those that run. The template
-  -- that is
-  -- included runs in the environment that it is given, under its own text and the include's name.
+  -- that is included runs in the environment that it is given, under its own text and the include's name.
   abbrev pub included : ℕ → Inclusion V T
   included zero from word env s = with_template from word s.values (resolve s.templates word.text)
       (λ t s'. too_deep_outcome s')

@@ -1,5 +1,5 @@
 // A rendering: the program of a template, from its start to its end.
-ghost use Rattle.std.specs.Prelude.{◌≡◌, [], option_map};
+ghost use Rattle.std.specs.Prelude.{◌≡◌, ℕ, List, [], option_map};
 ghost use Rattle.upon_types.specs.TreeSpans.{TreeLiesIn};
 ghost use Rattle.upon_render.specs.Roots.{pure_root};
 ghost use Rattle.upon_render.specs.Source.{Source};
@@ -8,7 +8,7 @@ ghost use Rattle.upon_meaning.specs.Alone.{alone_within};
 ghost use Rattle.upon_meaning.specs.Engine.{Template};
 ghost use Rattle.upon_meaning.specs.Outcome.{states};
 ghost use Rattle.upon_renderer.specs.Acts.{calls_of};
-ghost use Rattle.upon_renderer.specs.Keeps.{Asks, HasState};
+ghost use Rattle.upon_renderer.specs.Keeps.{HasState, SourceHas};
 ghost use Rattle.upon_renderer.specs.Machine.{source_state};
 ghost use Rattle.upon_renderer.specs.Program.{IsProgramOf};
 ghost use Rattle.upon_renderer.specs.Runs.{Ran};
@@ -41,15 +41,17 @@ pub fn render<'r, V: ValueSource, T: ProgramSource<'r>, C: Callables, W: Output>
     requires state { HasState V.State (root_of stack) }
     requires frames { frames_of stack ≡ [] }
     ensures same { W.holds out.new ≡ W.holds out.old }
-    ensures ran { (t : Template) (ask : Source V.State) (q : V.State) → IsProgramOf running.entry.program t → Asks V.ask (root_of stack.entry) ask → Ran
+    ensures ran { (t : Template) (ask : Source V.State) (q : V.State) → IsProgramOf running.entry.program t → SourceHas V.ask (root_of stack.entry) ask → Ran
         result.0
         (W.given out.old)
         (W.given out.new)
         (alone_within (calls_of (C.callables callables.now) (C.default_formatter callables.now) ask) (T.resolve templates) running.entry.left t (option_map (λ name. name.now) running.entry.name) (pure_root (root_of stack.entry)) (states (source_state V.value_state q (root_of stack.entry)) (T.template_state templates)))
         (states (source_state V.value_state q (root_of result.1)) (T.template_state result.2)) }
     ensures root { pure_root (root_of result.1) ≡ pure_root (root_of stack.entry) }
-    ensures asks { (ask : Source V.State) → Asks V.ask (root_of stack.entry) ask → Asks V.ask (root_of result.1) ask }
+    ensures asks { (ask : Source V.State) → SourceHas V.ask (root_of stack.entry) ask → SourceHas V.ask (root_of result.1) ask }
+    ensures values_held { (names : List ℕ) → SourceHas V.holds (root_of stack.entry) names → SourceHas V.holds (root_of result.1) names }
     ensures resolve { T.resolve result.2 ≡ T.resolve templates }
+    ensures templates_held { T.holds result.2 ≡ T.holds templates }
 {
     let mut machine = Machine {
         running,

@@ -1,5 +1,5 @@
 // Where the templates of includes come from.
-ghost use Rattle.std.specs.Prelude.{◌≡◌};
+ghost use Rattle.std.specs.Prelude.{◌≡◌, ℕ, List};
 ghost use Rattle.upon_meaning.specs.Engine.{Resolver};
 ghost use Rattle.upon_meaning.specs.RenderFaults.{TemplatesLie};
 ghost use Rattle.upon_renderer.specs.Program.{Resolved};
@@ -26,21 +26,29 @@ pub trait ProgramSource<'r>: Drop {
     /// The answer and the next state, in each state and for each name.
     ghost resolve: { Self → Resolver State };
 
+    /// The references that it holds.
+    ghost holds: { Self → List ℕ };
+
     /// The spans in the trees of all templates that answer lie in their texts.
     ghost templates_lie: { (s : Self) → TemplatesLie (resolve s) };
 
     /// The template of this name.
     fn program(&mut self, name: &str) -> Result<Program<'r>, SourceError>
+        ensures same { holds self.new ≡ holds self.old }
         ensures stays { resolve self.new ≡ resolve self.old }
         ensures resolved { Resolved result (template_state self.new) (resolve self.old (template_state self.old) name.now) };
 }
 
 impl<'r, S: ProgramSource<'r>> ProgramSource<'r> for &mut S {
+    ghost use Rattle.std.specs.Prelude.{◌∷◌};
+
     ghost State = { S.State };
 
     ghost template_state = { λ s. S.template_state s.now };
 
     ghost resolve = { λ s. S.resolve s.now };
+
+    ghost holds = { λ s. s.ghost_name ∷ S.holds s.now };
 
     ghost templates_lie = { λ s. S.templates_lie s.now };
 

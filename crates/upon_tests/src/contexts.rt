@@ -196,6 +196,7 @@ struct Same<'r> {
 }
 
 impl<'r> TemplateSource<'r> for Same<'r> {
+    ghost use Rattle.std.specs.Prelude.{[]};
     ghost use Rattle.upon_render.specs.Finding.{reply};
     ghost use Rattle.upon_render.specs.Source.{says};
     ghost use Rattle.upon_engine.specs.Template.{template_of};
@@ -207,6 +208,8 @@ impl<'r> TemplateSource<'r> for Same<'r> {
     ghost template_state = { λ _. tt };
 
     ghost resolve = { λ s q _. reply (says (template_of s.template.now)) q };
+
+    ghost holds = { λ _. [] };
 
     ghost templates_lie = { λ s. one_lies (template_of s.template.now) (template_lies s.template.now) };
 

@@ -44,3 +44,9 @@ returns-clause-asks g c = c.run-ended.ensures.kept.asks
 
 pub returns-clause-resolve : goal.returns-clause-resolve
 returns-clause-resolve g c = c.run-ended.ensures.kept.resolve
+
+pub returns-clause-values_held : goal.returns-clause-values_held
+returns-clause-values_held g c = c.run-ended.ensures.kept.values_held
+
+pub returns-clause-templates_held : goal.returns-clause-templates_held
+returns-clause-templates_held g c = c.run-ended.ensures.kept.templates_held

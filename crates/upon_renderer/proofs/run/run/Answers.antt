@@ -32,7 +32,7 @@ returns-in-Some-clause-ran g c known starts =
 pub steps-preserved : goal.steps-preserved
 steps-preserved g c = record {
   same = c.in-Ok.ensures.same ∙ c.steps.invariant.same;
-  kept = kept_on g.V.ValueSource.ask g.T.ProgramSource.resolve _ c.steps.machine c.step.new.machine c.steps.invariant.kept c.in-Ok.ensures.kept;
+  kept = kept_on c.steps.invariant.kept c.in-Ok.ensures.kept;
   going = λ known starts.
       let h = c.steps.invariant.going known starts in
       let did = c.in-Ok.ensures.did known.values known.ask (way_asks h) in
@@ -40,7 +40,7 @@ steps-preserved g c = record {
 }
 
 pub returns-in-Err-clause-kept : goal.returns-in-Err-clause-kept
-returns-in-Err-clause-kept g c = kept_on g.V.ValueSource.ask g.T.ProgramSource.resolve _ c.steps.machine c.step.new.machine c.steps.invariant.kept c.in-Err.ensures.kept
+returns-in-Err-clause-kept g c = kept_on c.steps.invariant.kept c.in-Err.ensures.kept
 
 pub returns-in-Some-clause-kept : goal.returns-in-Some-clause-kept
-returns-in-Some-clause-kept g c = kept_on g.V.ValueSource.ask g.T.ProgramSource.resolve _ c.steps.machine c.step.new.machine c.steps.invariant.kept c.in-Ok.ensures.kept
+returns-in-Some-clause-kept g c = kept_on c.steps.invariant.kept c.in-Ok.ensures.kept

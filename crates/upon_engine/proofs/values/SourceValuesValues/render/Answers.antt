@@ -1,5 +1,5 @@
 use Rattle.upon_renderer.specs.Acts.{calls_of}
-use Rattle.upon_engine.proofs.Roots.{asks_as_before, at_source}
+use Rattle.upon_engine.proofs.Roots.{as_before, at_source}
 use Rattle.upon_engine.proofs.values.SourceValuesValues.render.Goals as goal
 
 pub returns-clause-ran : goal.returns-clause-ran
@@ -11,4 +11,8 @@ returns-clause-ran g c t is =
 
 pub returns-clause-asks : goal.returns-clause-asks
 returns-clause-asks g c =
-    asks_as_before g.S.ValueSource.ask _ _ _ c.in-Some.source c.with_value_fn-stack.ensures.root c.in-Some.ensures c.render-ended.ensures.asks
+    as_before g.S.ValueSource.ask _ _ _ c.in-Some.source c.with_value_fn-stack.ensures.root c.in-Some.ensures c.render-ended.ensures.asks
+
+pub returns-clause-held : goal.returns-clause-held
+returns-clause-held g c =
+    as_before g.S.ValueSource.holds _ _ _ c.in-Some.source c.with_value_fn-stack.ensures.root c.in-Some.ensures c.render-ended.ensures.values_held
