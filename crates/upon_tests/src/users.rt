@@ -4,7 +4,7 @@ ghost use Rattle.upon_types.specs.View.{view};
 ghost use Rattle.upon_render.specs.Asked.{never};
 ghost use Rattle.upon_render.specs.Environment.{context, value_source};
 ghost use Rattle.upon_meaning.specs.Alone.{alone};
-ghost use Rattle.upon_meaning.specs.Engine.{rendering_by, rendering_of};
+ghost use Rattle.upon_meaning.specs.Engine.{rendering_of};
 ghost use Rattle.upon_meaning.specs.Outcome.{states};
 ghost use Rattle.upon_renderer.specs.Reports.{WritesAndLeaves};
 ghost use Rattle.upon_engine.specs.Answers.{AnswersText};
@@ -14,7 +14,6 @@ ghost use Rattle.upon_engine.specs.Template.{template_of};
 use serde::Serialize;
 use upon_engine::callables::EngineView;
 use upon_engine::engine::Engine;
-use upon_engine::sources::TemplateSource;
 use upon_engine::template::Template;
 use upon_fmt::output::Output;
 use upon_render::source::ValueSource;
@@ -45,13 +44,12 @@ pub fn on_data<S: Serialize + Drop>(
     template.render(engine, context).to_string()
 }
 
-/// Writes the text of a template on a source of values and a source of templates, which are lent. Where the rendering ended
-/// by itself, they are left in the next states of the meaning.
-pub fn on_sources<'r, S: ValueSource, T: TemplateSource<'r>, O: Output>(
-    engine: &'r Engine<'_>,
-    template: &'r Template<'_>,
-    values: &mut S,
-    templates: &mut T,
+/// Writes the text of a template on a source of values that is lent. Where the rendering ended by itself, the source is left
+/// in the next state of the meaning.
+pub fn on_source<S: ValueSource, O: Output>(
+    engine: &Engine<'_>,
+    template: &Template<'_>,
+    source: &mut S,
     out: &mut O,
 ) -> Result<()>
     ensures { WritesAndLeaves
@@ -60,14 +58,12 @@ pub fn on_sources<'r, S: ValueSource, T: TemplateSource<'r>, O: Output>(
         result
         (O.given out.old)
         (O.given out.new)
-        (alone (rendering_by (⟦<&'static Engine<'static> as EngineView>⟧.engine_view engine.entry) (S.ask values.old) (T.resolve templates.old) None) (template_of template.now) None value_source (states (S.value_state values.old) (T.template_state templates.old)))
-        (states (S.value_state values.new) (T.template_state templates.new)) }
+        (alone (rendering_of (⟦<&'static Engine<'static> as EngineView>⟧.engine_view engine.entry) (S.ask source.old) None) (template_of template.now) None value_source (states (S.value_state source.old) (tt {0})))
+        (states (S.value_state source.new) (tt {0})) }
 {
-    let (result, values, templates) = template
-        .render_from_fn(engine, values)
-        .with_template_fn(templates)
+    let (result, values, _) = template
+        .render_from_fn(engine, source)
         .to_output_and_sources(out);
-    let _values = values.into_source();
-    let _templates = templates;
+    let _source = values.into_source();
     result
 }
