@@ -179,9 +179,8 @@ impl<'w, W: io::Write> LentWriter<'w, W> {
 }
 
 impl<'w, W: io::Write> Output for LentWriter<'w, W> {
-    ghost use Rattle.std.specs.Prelude.{◌∷◌};
+    ghost use Rattle.std.specs.Prelude.{◌∷◌, is_some};
     ghost use Rattle.upon_fmt.specs.Writer.{lent_writer_of, lent_has_failed, lent_has_error, is_set, error_in};
-    ghost use Rattle.std.specs.Prelude.{is_some};
     ghost use Rattle.std.proofs.lemmas.Bool.{and_parts};
 
     ghost given = { λ w. W.contents (lent_writer_of w).now };

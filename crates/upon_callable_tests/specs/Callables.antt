@@ -1,0 +1,43 @@
+-- What the callables of the tests answer.
+use Rattle.std.specs.Prelude.{ℤ, List, [], ◌∷◌, Some, codes}
+use Rattle.std.specs.Int.{w64, int_wrapping_add}
+use Rattle.upon_functions.specs.Outcome.{Outcome, value, refusal}
+use Rattle.upon_types.specs.Answers.{Formatted, refused}
+use Rattle.upon_types.specs.Val.{Val, int_val, list_val, no_vals, none_val}
+use Rattle.upon_meaning.specs.DefaultFormat.{default_format}
+
+-- the sum of two integers of 64 bits, which wraps
+abbrev pub wrapped : ℤ → ℤ → Outcome
+wrapped y z = value (int_val (int_wrapping_add w64 y z))
+
+-- twice an integer
+abbrev pub doubled : List Val → Outcome
+doubled ((int_val z) ∷ vs) = wrapped z z
+doubled vs = refusal []
+
+-- the sum of two
+abbrev pub added : List Val → Outcome
+added ((int_val y) ∷ (int_val z) ∷ vs) = wrapped y z
+added vs = refusal []
+
+-- the first argument
+abbrev pub echoed : List Val → Outcome
+echoed [] = refusal []
+echoed (v ∷ vs) = value v
+
+-- the empty list
+abbrev pub listed : List Val → Outcome
+listed vs = value (list_val no_vals)
+
+-- a refusal
+abbrev pub declined : List Val → Outcome
+declined vs = refusal (codes "no")
+
+-- two letters, and then a refusal
+abbrev pub half_written : Val → Formatted
+half_written v = record { text = codes "ab"; end = refused (Some (codes "bad")) }
+
+-- as the default, but that no value is refused
+abbrev pub none_refused : Val → Formatted
+none_refused none_val = record { text = []; end = refused (Some (codes "unable to format None")) }
+none_refused v = default_format v

@@ -1,0 +1,215 @@
+// What calls answer where a growth of their memory may be refused: the same as ever, or that memory is out, and a
+// refused call leaves the engine as it was. `checks/refuse-in-test upon_callable_tests memory::NAME` refuses each in turn.
+use crate::callables::{Double, Half, engine};
+use serde::Serialize;
+use std::alloc::{AllocError, Global};
+use std::borrow::CowStr;
+use std::process::Abort;
+use std::test::Fail;
+use upon::error::ErrorKind;
+use upon::functions::Fn1;
+use upon::types::Span;
+use upon::{Engine, Error, Result, Syntax, value};
+
+// How a call ends: with a text, or with a fault of this reason at this span.
+#[derive(Drop)]
+enum End<'a> {
+    Text(&'a str),
+    Fault(&'a str, Option<Span>),
+}
+
+fn at(m: usize, n: usize) -> Option<Span> {
+    Some(Span { m, n })
+}
+
+fn is_out(error: &Error) -> bool {
+    matches!(error.kind(), ErrorKind::OutOfMemory)
+}
+
+// The result is this end, or memory is out.
+fn ends_so(rt: &impl Abort, rendered: Result<String>, wanted: &End<'_>) {
+    match (rendered, wanted) {
+        (Ok(text), End::Text(wanted)) => assert_eq!(rt; text.as_str(), *wanted),
+        (Ok(text), End::Fault(..)) => panic!(rt; "{text}"),
+        (Err(error), End::Text(_)) => assert!(rt; is_out(&error), "{error}"),
+        (Err(error), End::Fault(reason, span)) => {
+            if !is_out(&error) {
+                assert_eq!(rt; error.reason(), Some(*reason));
+                assert!(rt; error.place() == *span, "{error}");
+            }
+        }
+    }
+}
+
+// The text of a source with the callables of the tests, and with two templates.
+fn text_of(alloc: Global, source: &str) -> Result<String> {
+    let mut engine = engine(alloc)?;
+    engine.add_template(CowStr::Borrowed("t"), CowStr::Borrowed("{{ a }}"))?;
+    engine.add_template(
+        CowStr::Borrowed("hello"),
+        CowStr::Borrowed("Hello {{ user.name }}!"),
+    )?;
+    let context = value! { in alloc; user: {name: "John Smith"} }?;
+    let template = engine.compile(CowStr::Borrowed(source))?;
+    template.render_from(&engine, &context).to_string()
+}
+
+#[test]
+fn texts(rt: HostRuntime) -> std::result::Result<(), Fail> {
+    let alloc = rt.alloc();
+    for (source, wanted) in [
+        ("Hello {{ user.name }}!", End::Text("Hello John Smith!")),
+        (
+            "{% for i in [1, 2] %}{{ i }}{% if not loop.last %},{% endif %}{% endfor %}",
+            End::Text("1,2"),
+        ),
+        ("{% include \"hello\" %}", End::Text("Hello John Smith!")),
+        (
+            "{% for k, v in {\"b\": 1, \"a\": 2} %}{{ k }}={{ v }};{% endfor %}",
+            End::Text("a=2;b=1;"),
+        ),
+        ("{{ 21 | double }}", End::Text("42")),
+    ] {
+        ends_so(&rt, text_of(alloc, source), &wanted);
+    }
+    Ok(())
+}
+
+#[test]
+fn faults(rt: HostRuntime) -> std::result::Result<(), Fail> {
+    let alloc = rt.alloc();
+    for (source, wanted) in [
+        (
+            "{{ {\"a\": {\"b\": 1}} }}",
+            End::Fault("unclosed open brace", at(9, 10)),
+        ),
+        (
+            "{{ \"a\\q\" }}",
+            End::Fault("unknown escape character", at(6, 7)),
+        ),
+        (
+            "{% include \"t\" with 5 %}",
+            End::Fault("not found in this scope", at(3, 4)),
+        ),
+        (
+            "{{ 1 | fmt: 2 }}",
+            End::Fault("formatter expects 1 argument, 2 provided", at(7, 10)),
+        ),
+        ("{{ \"a\" | no }}", End::Fault("no", at(9, 11))),
+        ("{{ 1 | half }}", End::Fault("bad", at(7, 11))),
+        (
+            "{{ double() }}",
+            End::Fault("function expects 1 arguments, 0 provided", at(3, 9)),
+        ),
+    ] {
+        ends_so(&rt, text_of(alloc, source), &wanted);
+    }
+    Ok(())
+}
+
+#[derive(Drop, Serialize)]
+struct User<'a> {
+    name: &'a str,
+    friends: [Option<&'a str>; 2],
+}
+
+// The text of a template on what serde writes of a context.
+fn text_on<S: Serialize + Drop>(alloc: Global, context: S) -> Result<String> {
+    let engine = Engine::new(alloc);
+    let source = "{{ name }}:{% for friend in friends %} {{ friend }}{% endfor %}";
+    let template = engine.compile(CowStr::Borrowed(source))?;
+    template.render(&engine, context).to_string()
+}
+
+#[test]
+fn contexts(rt: HostRuntime) -> std::result::Result<(), Fail> {
+    let alloc = rt.alloc();
+    let user = User {
+        name: "Ann",
+        friends: [Some("John"), None],
+    };
+    ends_so(&rt, text_on(alloc, user), &End::Text("Ann: John "));
+    let refusal = End::Fault("floating point numbers are not supported", None);
+    ends_so(&rt, text_on(alloc, [0.5f64]), &refusal);
+    Ok(())
+}
+
+// The engine's template `t` is this one.
+fn holds(rt: &impl Abort, engine: &Engine<'_>, wanted: &str) {
+    match engine.get_template("t") {
+        Some(template) => assert_eq!(rt; template.source(), wanted),
+        None => panic!(rt; "no template"),
+    }
+}
+
+#[test]
+fn added_templates(rt: HostRuntime) -> std::result::Result<(), Fail> {
+    let alloc = rt.alloc();
+    let mut engine = Engine::new(alloc);
+    if let Err(error) = engine.add_template(CowStr::Borrowed("t"), CowStr::Borrowed("a")) {
+        assert!(&rt; is_out(&error));
+        assert!(&rt; engine.get_template("t").is_none());
+        return Ok(());
+    }
+    match engine.add_template(CowStr::Borrowed("t"), CowStr::Borrowed("{{")) {
+        Ok(()) => panic!(&rt; "added"),
+        Err(error) => assert!(&rt; is_out(&error) || error.template_name() == Some("t")),
+    }
+    holds(&rt, &engine, "a");
+    match engine.add_template(CowStr::Borrowed("t"), CowStr::Borrowed("b{{ 1 }}")) {
+        Ok(()) => holds(&rt, &engine, "b{{ 1 }}"),
+        Err(error) => {
+            assert!(&rt; is_out(&error));
+            holds(&rt, &engine, "a");
+        }
+    }
+    Ok(())
+}
+
+// Puts a function and a formatter under one name.
+fn add_both(engine: &mut Engine<'_>, alloc: Global) -> std::result::Result<(), AllocError> {
+    let double = Box::new(alloc, Fn1::new(Double))?;
+    engine.add_function(CowStr::Borrowed("f"), double)?;
+    let half = Box::new(alloc, Half)?;
+    engine.add_formatter(CowStr::Borrowed("f"), half)?;
+    Ok(())
+}
+
+#[test]
+fn added_callables(rt: HostRuntime) -> std::result::Result<(), Fail> {
+    let alloc = rt.alloc();
+    let mut engine = Engine::new(alloc);
+    let _ = add_both(&mut engine, alloc);
+    let is_there = engine.remove_callable("f").is_some();
+    assert!(&rt; engine.remove_callable("f").is_none(), "{is_there}");
+    Ok(())
+}
+
+#[test]
+fn built_syntaxes(rt: HostRuntime) -> std::result::Result<(), Fail> {
+    let alloc = rt.alloc();
+    let mut builder = Syntax::builder();
+    builder
+        .expr("{{", "}}")
+        .block("{%", "%}")
+        .comment("{#", "#}");
+    let Ok(syntax) = builder.build(alloc) else {
+        return Ok(());
+    };
+    assert!(&rt; syntax == Syntax::default());
+    if let Ok(copy) = syntax.try_clone() {
+        assert!(&rt; copy == syntax);
+    }
+    Ok(())
+}
+
+#[test]
+fn copies_of_values(rt: HostRuntime) -> std::result::Result<(), Fail> {
+    let alloc = rt.alloc();
+    if let Ok(value) = value! { in alloc; a: [1, "b", {c: true}] } {
+        if let Ok(copy) = value.try_clone() {
+            assert!(&rt; copy == value);
+        }
+    }
+    Ok(())
+}

@@ -1,0 +1,10 @@
+// Tests of what an engine renders templates on: contexts, and sources of values and templates.
+#![tactic(auto)]
+
+#[cfg(test)]
+mod contexts;
+#[cfg(test)]
+mod profile;
+#[cfg(test)]
+mod sources;
+pub mod users;

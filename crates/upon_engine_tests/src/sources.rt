@@ -1,0 +1,138 @@
+// Contexts and templates from functions.
+use crate::users::on_source;
+use std::alloc::{AllocError, Global};
+use std::borrow::CowStr;
+use std::test::Fail;
+use upon::render::{CallPath, SourceError, ValueFn};
+use upon::{Engine, Value, ValueMember};
+use upon_testing::answers::line_of;
+
+// A function that answers 1, 2, .. in turn.
+#[derive(Drop)]
+struct Counter {
+    asked: u32,
+}
+
+impl CallPath for Counter {
+    ghost use Rattle.std.specs.Prelude.{ℕ, ◌+◌, ◌%◌, ◌^◌, pos};
+    ghost use Rattle.upon_types.specs.Val.{int_val};
+    ghost use Rattle.upon_render.specs.Finding.{reply};
+    ghost use Rattle.upon_render.specs.Source.{says};
+
+    ghost State = { ℕ };
+
+    ghost call_state = { λ s. s.asked };
+
+    ghost answers_path = { λ n path. reply (says (int_val (pos ((n + 1) % 2 ^ 32)))) ((n + 1) % 2 ^ 32) };
+
+    fn call(&mut self, _path: &[ValueMember]) -> Result<Value, SourceError> {
+        self.asked = self.asked.wrapping_add(1);
+        Ok(Value::Integer(self.asked as i64))
+    }
+}
+
+// It refuses each path.
+#[derive(Drop)]
+struct NoUser {
+    alloc: Global,
+}
+
+impl NoUser {
+    ghost use Rattle.std.specs.Prelude.{◌≡◌, IfOk, string_bytes, codes};
+
+    fn reason(&self) -> Result<String, AllocError>
+        ensures { IfOk result (λ reason. string_bytes reason ≡ codes "no user") }
+    {
+        String::from_str(self.alloc, "no user")
+    }
+}
+
+impl CallPath for NoUser {
+    ghost use Rattle.std.specs.Prelude.{codes};
+    ghost use Rattle.upon_render.specs.Finding.{reply};
+    ghost use Rattle.upon_render.specs.Source.{refuses};
+
+    ghost State = { Unit {0} };
+
+    ghost call_state = { λ _. tt };
+
+    ghost answers_path = { λ _ _. reply (refuses (codes "no user")) tt };
+
+    fn call(&mut self, _path: &[ValueMember]) -> Result<Value, SourceError> {
+        match self.reason() {
+            Ok(reason) => Err(SourceError::Refused(reason)),
+            Err(_) => Err(SourceError::Memory),
+        }
+    }
+}
+
+#[test]
+fn a_function_in_turn(rt: HostRuntime) -> Result<(), Fail> {
+    let alloc = rt.alloc();
+    let mut engine = Engine::new(alloc);
+    engine.add_template(CowStr::Borrowed("t"), CowStr::Borrowed("{{ a }}"))?;
+    for (source, wanted) in [
+        ("{{ a }}{% for a in [9] %}{{ a }}{% endfor %}{{ a }}", "192"),
+        ("{% include \"t\" %}{{ b.c }}", "12"),
+        (
+            "{% include \"t\" with 5 %}",
+            "render error: not found in this scope at 3..4 in t",
+        ),
+    ] {
+        let template = engine.compile(CowStr::Borrowed(source))?;
+        let counter = ValueFn::new(Counter { asked: 0 });
+        let text = template.render_from_fn(&engine, counter).to_string();
+        assert_eq!(&rt; line_of(alloc, text)?.as_str(), wanted);
+    }
+    Ok(())
+}
+
+#[test]
+fn sources_that_come_back(rt: HostRuntime) -> Result<(), Fail> {
+    let alloc = rt.alloc();
+    let engine = Engine::new(alloc);
+    let template = engine.compile(CowStr::Borrowed("{{ a }}{{ b }}"))?;
+    let mut out = String::new(alloc);
+    let counter = ValueFn::new(Counter { asked: 0 });
+    let (result, values, templates) = template
+        .render_from_fn(&engine, counter)
+        .to_output_and_sources(&mut out);
+    result?;
+    let (result, values, _) = template
+        .render_from_fn(&engine, values.into_source())
+        .with_template_fn(templates)
+        .to_output_and_sources(&mut out);
+    result?;
+    assert_eq!(&rt; out.as_str(), "1234");
+    assert_eq!(&rt; values.into_source().callable.asked, 4);
+    Ok(())
+}
+
+#[test]
+fn sources_that_are_lent(rt: HostRuntime) -> Result<(), Fail> {
+    let alloc = rt.alloc();
+    let engine = Engine::new(alloc);
+    let template = engine.compile(CowStr::Borrowed("{{ a }}{{ b }}"))?;
+    let mut counter = ValueFn::new(Counter { asked: 0 });
+    let mut out = String::new(alloc);
+    on_source(&engine, &template, &mut counter, &mut out)?;
+    on_source(&engine, &template, &mut counter, &mut out)?;
+    assert_eq!(&rt; out.as_str(), "1234");
+    assert_eq!(&rt; counter.callable.asked, 4);
+    Ok(())
+}
+
+#[test]
+fn a_function_that_refuses(rt: HostRuntime) -> Result<(), Fail> {
+    let alloc = rt.alloc();
+    let engine = Engine::new(alloc);
+    let template = engine.compile(CowStr::Borrowed("{{ user?.name }}"))?;
+    let text = template
+        .render_from_fn(&engine, ValueFn::new(NoUser { alloc }))
+        .to_string();
+    assert_eq!(&rt;
+        line_of(alloc, text)?.as_str(),
+        "render error: no user at 3..13"
+    );
+    Ok(())
+}

@@ -1,0 +1,170 @@
+// Templates by name: includes, their scopes, their depth, and the names in faults.
+use std::alloc::{AllocError, Global};
+use std::borrow::CowStr;
+use std::process::Abort;
+use std::test::Fail;
+use upon::{Engine, Result, Value, value};
+use upon_testing::answers::{all_answer, describe, line_of};
+
+// An engine with templates of these names.
+fn engine<'e>(alloc: Global, templates: &[(&str, &'e str)]) -> Result<Engine<'e>> {
+    let mut engine = Engine::new(alloc);
+    for (name, source) in templates {
+        engine.add_template(CowStr::Borrowed(name), CowStr::Borrowed(source))?;
+    }
+    Ok(engine)
+}
+
+#[test]
+fn texts(rt: HostRuntime) -> std::result::Result<(), Fail> {
+    let alloc = rt.alloc();
+    let templates = [
+        ("hello", "Hello {{ user.name }}!"),
+        ("goodbye", "Goodbye {{ user.name }}!"),
+        ("n", "{{ n }}"),
+        ("a", "{{ a }}"),
+        ("item", "{{ x }}{% if loop.last %}.{% endif %}"),
+        (
+            "page",
+            "[{% include \"n\" %}{% include \"a\" with {\"a\": n} %}]",
+        ),
+    ];
+    let engine = engine(alloc, &templates)?;
+    let context = value! { in alloc; user: {name: "John Smith"}, a: 1, n: 2, xs: [1, 2] }?;
+    let rows = [
+        (
+            "{% include \"hello\" %}\n{% include \"goodbye\" %}",
+            "Hello John Smith!\nGoodbye John Smith!",
+        ),
+        ("{% with 1 as n %}{% include \"n\" %}{% endwith %}", "1"),
+        ("{% for x in xs %}{% include \"item\" %}{% endfor %}", "12."),
+        ("{% include \"page\" %}", "[22]"),
+        (
+            "{% include \"a\" with 5 %}",
+            "render error: not found in this scope at 3..4 in a",
+        ),
+        (
+            "{% include \"zz\" %}",
+            "render error: unknown template at 11..15",
+        ),
+        (
+            "{% include \"zz\" with y %}",
+            "render error: not found in this scope at 21..22",
+        ),
+    ];
+    all_answer(alloc, &engine, &context, &rows)
+}
+
+// What the template of a name answers on no value.
+fn named(
+    alloc: Global,
+    engine: &Engine<'_>,
+    name: &str,
+) -> std::result::Result<String, AllocError> {
+    match engine.get_template(name) {
+        Some(template) => line_of(alloc, template.render_from(&Value::None).to_string()),
+        None => String::from_str(alloc, "no template"),
+    }
+}
+
+// The same to a writer, which has received this text before the fault.
+fn writes(
+    rt: &impl Abort,
+    alloc: Global,
+    engine: &Engine<'_>,
+    name: &str,
+    received: &str,
+) -> std::result::Result<String, Fail> {
+    let Some(template) = engine.get_template(name) else {
+        return Err(Fail::new("no template"));
+    };
+    let mut out = Vec::new(alloc);
+    let end = template.render_from(&Value::None).to_writer(&mut out);
+    assert_eq!(rt; out.as_slice(), received.as_bytes());
+    match end {
+        Ok(()) => Err(Fail::new("no fault")),
+        Err(error) => Ok(describe(alloc, &error)?),
+    }
+}
+
+// Where includes may be this deep, `s` writes this text, and then ends with this fault.
+fn at_depth(
+    rt: &impl Abort,
+    alloc: Global,
+    engine: &mut Engine<'_>,
+    depth: usize,
+    received: &str,
+    wanted: &str,
+) -> std::result::Result<(), Fail> {
+    engine.set_max_include_depth(depth);
+    assert_eq!(rt; named(alloc, engine, "s")?.as_str(), wanted);
+    assert_eq!(rt; writes(rt, alloc, engine, "s", received)?.as_str(), wanted);
+    Ok(())
+}
+
+#[test]
+fn depths(rt: HostRuntime) -> std::result::Result<(), Fail> {
+    let alloc = rt.alloc();
+    for source in ["x{% include \"s\" %}", "x{% include \"s\" with 5 %}"] {
+        let mut engine = engine(alloc, &[("s", source)])?;
+        for (depth, received, wanted) in [
+            (0, "x", "render error: reached maximum include depth (0)"),
+            (1, "x", "render error: reached maximum include depth (1)"),
+            (3, "xxx", "render error: reached maximum include depth (3)"),
+        ] {
+            at_depth(&rt, alloc, &mut engine, depth, received, wanted)?;
+        }
+    }
+    Ok(())
+}
+
+#[test]
+fn a_depth_of_one_rendering(rt: HostRuntime) -> std::result::Result<(), Fail> {
+    let alloc = rt.alloc();
+    let engine = engine(alloc, &[("s", "x{% include \"s\" %}")])?;
+    let template = engine.compile(CowStr::Borrowed("{% include \"s\" %}"))?;
+    let text = template
+        .render_from(&engine, &Value::None)
+        .with_max_include_depth(2)
+        .to_string();
+    let wanted = "render error: reached maximum include depth (2)";
+    assert_eq!(&rt; line_of(alloc, text)?.as_str(), wanted);
+    Ok(())
+}
+
+#[test]
+fn depth_comes_after_the_name(rt: HostRuntime) -> std::result::Result<(), Fail> {
+    let alloc = rt.alloc();
+    let mut engine = engine(alloc, &[("r", "{% include \"zz\" %}")])?;
+    engine.set_max_include_depth(1);
+    let wanted = "render error: unknown template at 11..15 in r";
+    assert_eq!(&rt; named(alloc, &engine, "r")?.as_str(), wanted);
+    Ok(())
+}
+
+#[test]
+fn a_refused_template_leaves_the_old_one(rt: HostRuntime) -> std::result::Result<(), Fail> {
+    let alloc = rt.alloc();
+    let mut engine = engine(alloc, &[("t", "a")])?;
+    let Err(error) = engine.add_template(CowStr::Borrowed("t"), CowStr::Borrowed("{{")) else {
+        return Err(Fail::new("no fault"));
+    };
+    let wanted = "invalid syntax: expected token, found EOF at 2..2 in t";
+    assert_eq!(&rt; describe(alloc, &error)?.as_str(), wanted);
+    assert_eq!(&rt; named(alloc, &engine, "t")?.as_str(), "a");
+    Ok(())
+}
+
+#[test]
+fn templates_come_and_go(rt: HostRuntime) -> std::result::Result<(), Fail> {
+    let alloc = rt.alloc();
+    let mut engine = engine(alloc, &[("t", "a"), ("u", "b")])?;
+    assert_eq!(&rt; named(alloc, &engine, "t")?.as_str(), "a");
+    engine.add_template(CowStr::Borrowed("t"), CowStr::Borrowed("c"))?;
+    assert_eq!(&rt; engine.template("t").source(), "c");
+    assert!(&rt; engine.remove_template("t"));
+    assert!(&rt; !engine.remove_template("t"));
+    assert!(&rt; engine.get_template("t").is_none());
+    assert_eq!(&rt; named(alloc, &engine, "u")?.as_str(), "b");
+    Ok(())
+}
