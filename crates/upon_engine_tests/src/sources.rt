@@ -3,8 +3,8 @@ use crate::users::on_source;
 use std::alloc::{AllocError, Global};
 use std::borrow::CowStr;
 use std::test::Fail;
-use upon::render::{CallPath, SourceError, ValueFn};
-use upon::{Engine, Value, ValueMember};
+use upon::render::{CallName, CallPath, SourceError, TemplateFn, ValueFn};
+use upon::{Engine, Template, Value, ValueMember};
 use upon_testing::answers::line_of;
 
 // A function that answers 1, 2, .. in turn.
@@ -64,6 +64,71 @@ impl CallPath for NoUser {
             Err(_) => Err(SourceError::Memory),
         }
     }
+}
+
+// A function that gives one template for each name, and counts how often it is asked.
+#[derive(Drop)]
+struct Counted<'r> {
+    template: &'r Template<'r>,
+    asked: u32,
+}
+
+impl<'r> CallName<'r> for Counted<'r> {
+    ghost use Rattle.std.specs.Prelude.{ℕ, ◌+◌, ◌%◌, ◌^◌};
+    ghost use Rattle.upon_types.specs.TreeSpans.{TreeLiesIn};
+    ghost use Rattle.upon_render.specs.Finding.{reply};
+    ghost use Rattle.upon_render.specs.Source.{says};
+    ghost use Rattle.upon_meaning.specs.Engine.{Template};
+    ghost use Rattle.upon_meaning.proofs.FaultsStated.Ends.{one_lies};
+    ghost use Rattle.upon_engine.specs.Template.{template_of};
+    ghost use Rattle.upon_engine.proofs.TemplateSpans.{template_lies};
+
+    ghost State = { (t : Template) × TreeLiesIn t.source t.tree × ℕ };
+
+    ghost name_state = { λ s. (template_of s.template.now, template_lies s.template.now, s.asked) };
+
+    ghost answers_name = { λ q _. reply (says q.0) (q.0, q.1, (q.2 + 1) % 2 ^ 32) };
+
+    ghost answers_lie = { λ q name t e. one_lies q.0 q.1 (tt {0}) name t e };
+
+    fn call(&mut self, _name: &str) -> std::result::Result<&'r Template<'r>, SourceError> {
+        self.asked = self.asked.wrapping_add(1);
+        Ok(self.template)
+    }
+}
+
+// Writes a template with another in place of each that it includes, and answers how many those are.
+fn with_counted(
+    engine: &Engine<'_>,
+    template: &Template<'_>,
+    included: &Template<'_>,
+    out: &mut String,
+) -> upon::Result<u32> {
+    let context = Value::None;
+    let mut templates = TemplateFn::new(Counted {
+        template: included.lent(),
+        asked: 0,
+    });
+    let (result, _, _) = template
+        .render_from(engine, &context)
+        .with_template_fn(&mut templates)
+        .to_output_and_sources(out);
+    result?;
+    Ok(templates.callable.asked)
+}
+
+#[test]
+fn templates_that_are_counted(rt: HostRuntime) -> Result<(), Fail> {
+    let alloc = rt.alloc();
+    let engine = Engine::new(alloc);
+    let page = "{% include \"a\" %}, {% include \"b\" %}";
+    let template = engine.compile(CowStr::Borrowed(page))?;
+    let included = engine.compile(CowStr::Borrowed("x"))?;
+    let mut out = String::new(alloc);
+    let asked = with_counted(&engine, &template, &included, &mut out)?;
+    assert_eq!(&rt; out.as_str(), "x, x");
+    assert_eq!(&rt; asked, 2);
+    Ok(())
 }
 
 #[test]
