@@ -10,3 +10,11 @@ pub mod Lines
 pub mod Spaces
 pub mod Starts
 pub mod Spelling
+pub mod Siblings
+pub mod Leads
+pub mod Growth
+pub mod TrieOf
+pub mod Walk
+pub mod Written
+pub mod Ways
+pub mod Built

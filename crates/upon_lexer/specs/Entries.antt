@@ -3,6 +3,10 @@ use Rattle.std.specs.Prelude.{ℕ, List, map, string_bytes}
 use Rattle.upon_types.specs.declared.types.Delimiter.{Delimiter}
 use Rattle.upon_language.specs.DefaultDelimiters.{default_delimiters}
 use Rattle.upon_language.specs.Search.{DelimiterText}
+use Rattle.upon_lexer.specs.Grown.{nodes_of}
+use Rattle.upon_lexer.specs.declared.types.syntax.Nodes.{Nodes}
+use Rattle.upon_lexer.specs.declared.types.syntax.Nodes.TheVariants.{Default as DefaultNodes, Built as BuiltNodes}
+use Rattle.upon_lexer.specs.declared.types.syntax.trie.Node.{Node}
 use Rattle.upon_lexer.specs.declared.types.syntax.Entry.{Entry}
 use Rattle.upon_lexer.specs.declared.types.syntax.Entries.{Entries}
 use Rattle.upon_lexer.specs.declared.types.syntax.Entries.TheVariants.{Default, Built}
@@ -19,3 +23,8 @@ delimiter_text_of e = delimiter e.kind (string_bytes e.text)
 abbrev pub entries_list : Entries → List DelimiterText
 entries_list Default = default_delimiters
 entries_list (Built entries) = map delimiter_text_of entries.items
+
+-- the nodes of the default syntax's trie, or those that were built
+abbrev pub nodes_list : Nodes → List Node
+nodes_list DefaultNodes = nodes_of default_delimiters
+nodes_list (BuiltNodes nodes) = nodes.items

@@ -11,3 +11,8 @@ pub mod Reasons
 pub mod OpenTags
 pub mod Lexers
 pub mod Spelling
+pub mod Nodes
+pub mod Grown
+pub mod Trie
+pub mod FirstBytes
+pub mod Ways

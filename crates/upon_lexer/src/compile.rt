@@ -2,6 +2,7 @@
 mod brackets;
 pub mod chars;
 mod fault;
+mod first_bytes;
 mod inside;
 pub mod lex;
 mod roles;

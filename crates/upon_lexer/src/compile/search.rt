@@ -1,20 +1,32 @@
-// Where delimiters occur in a text: by the first byte of each, and then by comparison.
-ghost use Rattle.std.specs.Prelude.{◌≡◌, ℕ, ◌+◌, ◌<◌, ◌≤◌, ◌↔◌, length, IsTrue, MatchOption, IfSome};
+// Where delimiters occur in a text: by a brace or a first byte, and then by a walk of the trie.
+ghost use Rattle.std.specs.Prelude.{◌≡◌, ℕ, ◌<◌, ◌≤◌, ◌+◌, length, MatchOption, IfSome};
 ghost use Rattle.std.specs.Str.{IsCharBoundary};
 ghost use Rattle.upon_types.specs.Span.{LiesIn};
 ghost use Rattle.upon_language.specs.DefaultDelimiters.{default_delimiters};
 ghost use Rattle.upon_language.specs.Search.{Occurs, NoneAt, NoneFrom, IsBest, IsBestDelimiter, IsFirst};
 ghost use Rattle.upon_language.specs.Raw.{IsRaw};
-ghost use Rattle.upon_language.specs.Longest.{BestBelow};
 ghost use Rattle.upon_lexer.specs.Syntax.{syntax_delimiters};
+ghost use Rattle.upon_lexer.specs.Ways.{WayFits};
 
-use crate::types::syntax::Syntax;
+use crate::compile::first_bytes::{self, FewBytes};
+use crate::types::syntax::{Syntax, trie};
 use upon_types::types::{Delimiter, Span};
 
 /// Finds the delimiters of a syntax in a text.
 #[derive(Drop)]
 pub struct Searcher {
     syntax: Syntax,
+    way: Way,
+    ghost fits: { ∥ WayFits way (syntax_delimiters syntax) ∥₁ },
+}
+
+// How it looks for the next delimiter: by the next brace, or by the bytes with which delimiters begin, of which there are
+// at most three, or which a table marks.
+#[derive(Drop)]
+enum Way {
+    Brace,
+    Few(FewBytes),
+    Table([bool; 256]),
 }
 
 impl Searcher {
@@ -24,14 +36,18 @@ impl Searcher {
     pub fn new() -> Searcher
         ensures { searcher_delimiters result ≡ default_delimiters }
     {
-        Searcher::with_syntax(Syntax::default())
+        Searcher {
+            syntax: Syntax::default(),
+            way: Way::Brace,
+        }
     }
 
     /// A searcher for a syntax.
     pub fn with_syntax(syntax: Syntax) -> Searcher
         ensures { searcher_delimiters result ≡ syntax_delimiters syntax }
     {
-        Searcher { syntax }
+        let way = way_of(&syntax);
+        Searcher { syntax, way }
     }
 
     /// The syntax whose delimiters it finds.
@@ -93,19 +109,18 @@ impl Searcher {
         }
     }
 
-    // The next offset from which a delimiter may occur, by the first byte of each; the text's end where there is none.
+    // The next offset from which a delimiter may occur; the text's end where there is none.
     fn skip(&self, source: &str, at: usize) -> usize
         requires { at ≤ length source.now }
         ensures after { at ≤ result }
         ensures within { result ≤ length source.now }
         ensures none { NoneFrom (searcher_delimiters self.now) source.now at result }
     {
-        let mut end = source.len();
-        for i in 0..self.syntax.len() {
-            let (_, text) = self.syntax.get(i);
-            end = first_start(source, text, at, end);
+        match &self.way {
+            Way::Brace => near_brace(source, at),
+            Way::Few(bytes) => bytes.next(source, at),
+            Way::Table(table) => first_bytes::next_marked(table, source, at),
         }
-        end
     }
 
     // The kind of the best delimiter at an offset, and the offset of its end.
@@ -130,50 +145,20 @@ impl Searcher {
             (NoneAt (searcher_delimiters self.now) source.now at)
             (λ i. IsBest (searcher_delimiters self.now) source.now at i) }
     {
-        let mut longest = None;
-        for i in 0..self.syntax.len() {
-            longest = self.longer_at(source, at, i, longest);
-        }
-        longest
-    }
-
-    // The index of the best of the delimiters up to an index, where the best of those before it is known.
-    fn longer_at(&self, source: &str, at: usize, i: usize, longest: Option<usize>) -> Option<usize>
-        requires offset { at ≤ length source.now }
-        requires index { i < length (searcher_delimiters self.now) }
-        requires best { BestBelow i (searcher_delimiters self.now) source.now at longest }
-        ensures { BestBelow (i + 1) (searcher_delimiters self.now) source.now at result }
-    {
-        let (_, text) = self.syntax.get(i);
-        if !occurs(source, at, text) {
-            return longest;
-        }
-        match longest {
-            None => Some(i),
-            Some(best) => {
-                let (_, other) = self.syntax.get(best);
-                if text.len() <= other.len() {
-                    Some(best)
-                } else {
-                    Some(i)
-                }
-            }
+        match trie::longest_at(self.syntax.nodes(), source.as_bytes(), at) {
+            Some((longest, _)) => Some(longest),
+            None => None,
         }
     }
 }
 
-// The first offset in a range whose byte begins a text; the end of the range where there is none.
-fn first_start(source: &str, text: &str, at: usize, end: usize) -> usize
-    requires range { at ≤ end }
-    requires within { end ≤ length source.now }
-    requires some { 0 < length text.now }
-    ensures after { at ≤ result }
-    ensures before { result ≤ end }
-    ensures none { (q : ℕ) → at ≤ q → q < result → Occurs source.now q text.now → ⊥ }
+// How to look for the delimiters of a syntax.
+fn way_of(syntax: &Syntax) -> Way
+    ensures { WayFits result (syntax_delimiters syntax.now) }
 {
-    match memchr::memchr(text.as_bytes()[0], &source.as_bytes()[at..end]) {
-        Some(found) => at + found,
-        None => end,
+    match FewBytes::of(syntax) {
+        Some(bytes) => Way::Few(bytes),
+        None => Way::Table(first_bytes::table_of(syntax)),
     }
 }
 
@@ -187,10 +172,15 @@ fn end_of(source: &str, at: usize, text: &str) -> usize
     at + text.len()
 }
 
-// Whether the text `wanted` occurs at an offset.
-fn occurs(source: &str, at: usize, wanted: &str) -> bool
+// The first offset from which a default delimiter may occur: each has a brace among its first three bytes.
+fn near_brace(source: &str, at: usize) -> usize
     requires { at ≤ length source.now }
-    ensures { IsTrue result ↔ Occurs source.now at wanted.now }
+    ensures after { at ≤ result }
+    ensures within { result ≤ length source.now }
+    ensures none { NoneFrom default_delimiters source.now at result }
 {
-    source.as_bytes()[at..].starts_with(wanted.as_bytes())
+    match memchr::memchr2(b'{', b'}', &source.as_bytes()[at..]) {
+        Some(found) => at + found.saturating_sub(2),
+        None => source.len(),
+    }
 }

@@ -3,16 +3,19 @@ ghost use Rattle.std.specs.Prelude.{◌≡◌, ◌<◌, length, map, IfOk};
 ghost use Rattle.upon_language.specs.DefaultDelimiters.{default_delimiters};
 ghost use Rattle.upon_language.specs.LiesIn.{HasUtf8};
 ghost use Rattle.upon_language.specs.Search.{HasTexts, kind_at, text_at};
-ghost use Rattle.upon_lexer.specs.Entries.{delimiter_text_of, entries_list};
+ghost use Rattle.upon_lexer.specs.Entries.{delimiter_text_of, entries_list, nodes_list};
+ghost use Rattle.upon_lexer.specs.Grown.{nodes_of};
 ghost use Rattle.upon_lexer.specs.SetTexts.{nothing_set, usual_texts, built_delimiters};
 
 pub use builder::SyntaxBuilder;
 pub use same::is_same;
 use std::alloc::AllocError;
+use trie::Node;
 use upon_types::types::Delimiter;
 
 mod builder;
 mod same;
+pub(crate) mod trie;
 
 /// A delimiter: its kind and its text.
 #[derive(Drop)]
@@ -91,6 +94,136 @@ static DEFAULT_ENTRIES: [StaticEntry; 12] = [
     },
 ];
 
+/// The trie of these texts: the nodes in the order in which the texts make them.
+static DEFAULT_NODES: [Node; 21] = [
+    Node {
+        byte: 0,
+        child: 16,
+        sibling: 0,
+        pair: None,
+    },
+    Node {
+        byte: b'{',
+        child: 15,
+        sibling: 0,
+        pair: None,
+    },
+    Node {
+        byte: b'{',
+        child: 5,
+        sibling: 0,
+        pair: Some(0),
+    },
+    Node {
+        byte: b'}',
+        child: 4,
+        sibling: 1,
+        pair: None,
+    },
+    Node {
+        byte: b'}',
+        child: 0,
+        sibling: 0,
+        pair: Some(1),
+    },
+    Node {
+        byte: b'-',
+        child: 0,
+        sibling: 0,
+        pair: Some(2),
+    },
+    Node {
+        byte: b'-',
+        child: 19,
+        sibling: 3,
+        pair: None,
+    },
+    Node {
+        byte: b'}',
+        child: 8,
+        sibling: 0,
+        pair: None,
+    },
+    Node {
+        byte: b'}',
+        child: 0,
+        sibling: 0,
+        pair: Some(3),
+    },
+    Node {
+        byte: b'%',
+        child: 12,
+        sibling: 2,
+        pair: Some(4),
+    },
+    Node {
+        byte: b'%',
+        child: 11,
+        sibling: 6,
+        pair: None,
+    },
+    Node {
+        byte: b'}',
+        child: 0,
+        sibling: 0,
+        pair: Some(5),
+    },
+    Node {
+        byte: b'-',
+        child: 0,
+        sibling: 0,
+        pair: Some(6),
+    },
+    Node {
+        byte: b'%',
+        child: 14,
+        sibling: 7,
+        pair: None,
+    },
+    Node {
+        byte: b'}',
+        child: 0,
+        sibling: 0,
+        pair: Some(7),
+    },
+    Node {
+        byte: b'#',
+        child: 18,
+        sibling: 9,
+        pair: Some(8),
+    },
+    Node {
+        byte: b'#',
+        child: 17,
+        sibling: 10,
+        pair: None,
+    },
+    Node {
+        byte: b'}',
+        child: 0,
+        sibling: 0,
+        pair: Some(9),
+    },
+    Node {
+        byte: b'-',
+        child: 0,
+        sibling: 0,
+        pair: Some(10),
+    },
+    Node {
+        byte: b'#',
+        child: 20,
+        sibling: 13,
+        pair: None,
+    },
+    Node {
+        byte: b'}',
+        child: 0,
+        sibling: 0,
+        pair: Some(11),
+    },
+];
+
 /// A list of delimiters, in the order in which they count.
 #[derive(Drop)]
 enum Entries {
@@ -137,6 +270,43 @@ impl Entries {
     }
 }
 
+/// The nodes of a trie of the delimiters.
+#[derive(Drop)]
+enum Nodes {
+    /// Those of the default syntax.
+    Default,
+    /// Those of a syntax that was built.
+    Built(Vec<Node>),
+}
+
+impl Nodes {
+    fn try_clone(&self) -> Result<Nodes, AllocError>
+        ensures { IfOk result (λ copy. nodes_list copy ≡ nodes_list self.now) }
+    {
+        match self {
+            Nodes::Default => Ok(Nodes::Default),
+            Nodes::Built(nodes) => Ok(Nodes::Built(copied(nodes)?)),
+        }
+    }
+
+    fn as_slice(&self) -> &[Node]
+        ensures { result.now ≡ nodes_list self.now }
+    {
+        match self {
+            Nodes::Default => &DEFAULT_NODES,
+            Nodes::Built(nodes) => nodes.as_slice(),
+        }
+    }
+}
+
+fn copied(nodes: &Vec<Node>) -> Result<Vec<Node>, AllocError>
+    ensures { IfOk result (λ copy. copy.items ≡ nodes.now.items) }
+{
+    let mut copy = Vec::new(*nodes.allocator());
+    copy.extend_from_slice(nodes.as_slice())?;
+    Ok(copy)
+}
+
 fn clone_entries(entries: &Vec<Entry>) -> Result<Vec<Entry>, AllocError>
     ensures { IfOk result
         (λ copies. map delimiter_text_of copies.items ≡ map delimiter_text_of entries.now.items) }
@@ -152,8 +322,10 @@ fn clone_entries(entries: &Vec<Entry>) -> Result<Vec<Entry>, AllocError>
 #[derive(Drop)]
 pub struct Syntax {
     entries: Entries,
+    nodes: Nodes,
     ghost has_texts: { HasTexts (entries_list entries) },
     ghost has_utf8: { ∥ HasUtf8 (entries_list entries) ∥₁ },
+    ghost is_trie: { nodes_list nodes ≡ nodes_of (entries_list entries) },
 }
 
 impl Syntax {
@@ -168,6 +340,7 @@ impl Syntax {
     {
         Syntax {
             entries: Entries::Default,
+            nodes: Nodes::Default,
         }
     }
 
@@ -184,6 +357,7 @@ impl Syntax {
     {
         Ok(Syntax {
             entries: self.entries.try_clone()?,
+            nodes: self.nodes.try_clone()?,
         })
     }
 
@@ -201,5 +375,12 @@ impl Syntax {
         ensures text { result.1.now ≡ text_at (syntax_delimiters self.now) i }
     {
         self.entries.get(i)
+    }
+
+    /// The trie of its delimiters.
+    pub(crate) fn nodes(&self) -> &[Node]
+        ensures { result.now ≡ nodes_of (syntax_delimiters self.now) }
+    {
+        self.nodes.as_slice()
     }
 }

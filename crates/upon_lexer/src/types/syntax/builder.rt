@@ -1,10 +1,12 @@
 // A syntax from texts for expressions, blocks and comments.
 ghost use Rattle.std.specs.Prelude.{◌≡◌, ◌<◌, ◌∷◌, ◌++◌, [], ⊤, length, map, option_map, IfOk, OnOk};
 ghost use Rattle.upon_lexer.specs.Entries.{delimiter, delimiter_text_of};
+ghost use Rattle.upon_lexer.specs.Grown.{nodes_of};
 ghost use Rattle.upon_lexer.specs.SetTexts.{nothing_set, with_expr, with_block, with_comment, pair_delimiters, built_delimiters};
 ghost use Rattle.upon_lexer.specs.TagTexts.{pair_of, HaveBytes};
 
-use super::{Entries, Entry, Syntax};
+use super::trie;
+use super::{Entries, Entry, Nodes, Syntax};
 use std::alloc::{AllocError, Global};
 use upon_types::types::Delimiter;
 
@@ -115,8 +117,10 @@ impl<'a> SyntaxBuilder<'a> {
         push_tag(&mut entries, EXPR, self.expr)?;
         push_tag(&mut entries, BLOCK, self.block)?;
         push_tag(&mut entries, COMMENT, self.comment)?;
+        let nodes = nodes_of_entries(&entries)?;
         Ok(Syntax {
             entries: Entries::Built(entries),
+            nodes: Nodes::Built(nodes),
         })
     }
 }
@@ -172,4 +176,17 @@ fn push(
     text.push_str(second)?;
     entries.push(Entry { kind, text })?;
     Ok(())
+}
+
+// The trie of the delimiters.
+fn nodes_of_entries(entries: &Vec<Entry>) -> Result<Vec<trie::Node>, AllocError>
+    ensures { IfOk result (λ nodes. nodes.items ≡ nodes_of (map delimiter_text_of entries.now.items)) }
+{
+    let mut nodes = Vec::new(*entries.allocator());
+    nodes.push(trie::root())?;
+    for i in 0..entries.len() {
+        let entry = &entries[i];
+        trie::insert(&mut nodes, entry.text.as_bytes(), i)?;
+    }
+    Ok(nodes)
 }

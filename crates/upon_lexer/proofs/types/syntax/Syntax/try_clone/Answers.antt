@@ -1,6 +1,7 @@
-use Rattle.std.proofs.Common.{List, sym, subst}
+use Rattle.std.proofs.Common.{List, sym, subst, ap, ◌∙◌}
 use Rattle.upon_language.specs.LiesIn.{HasUtf8}
 use Rattle.upon_language.specs.Search.{DelimiterText, HasTexts}
+use Rattle.upon_lexer.specs.Grown.{nodes_of}
 use Rattle.upon_lexer.proofs.types.syntax.Syntax.try_clone.Goals as goal
 
 pub invariant_of-result : goal.invariant_of-result
@@ -10,4 +11,5 @@ invariant_of-result c =
     record {
       has_texts = subst HasTexts same c.args.self.now.has_texts;
       has_utf8 = subst Utf8 same c.args.self.now.has_utf8;
+      is_trie = c.in_ok-try_clone-2.ensures ∙ c.args.self.now.is_trie ∙ ap nodes_of same;
     }
