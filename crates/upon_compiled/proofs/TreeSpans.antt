@@ -63,7 +63,7 @@ module _ (s : List ℕ) where
     statement-prop (inline_expr e span) = hlevel (props, expression-prop e)
     statement-prop (include word value) = hlevel (props, given-prop value)
     statement-prop (if_else negated e body other) = hlevel (props, expression-prop e, statements-prop body, else-prop other)
-    statement-prop (for_loop names e body) = hlevel (props, names-prop names, expression-prop e, statements-prop body)
+    statement-prop (for_loop names e body other) = hlevel (props, names-prop names, expression-prop e, statements-prop body, else-prop other)
     statement-prop (with e word body) = hlevel (props, expression-prop e, statements-prop body)
 
     statements-prop : (ts : Statements) (x y : StatementsSpans P ts) → x ≡ y
@@ -127,7 +127,7 @@ module _ (s : List ℕ) where
     statement_spans (inline_expr e span) h = (expression_spans e h.0, h.1)
     statement_spans (include word value) h = (h.0, given_spans value h.1)
     statement_spans (if_else negated e body other) h = (expression_spans e h.0, statements_spans body h.1, else_spans other h.2)
-    statement_spans (for_loop names e body) h = (names_spans names h.0, expression_spans e h.1, statements_spans body h.2)
+    statement_spans (for_loop names e body other) h = (names_spans names h.0, expression_spans e h.1, statements_spans body h.2, else_spans other h.3)
     statement_spans (with e word body) h = (expression_spans e h.0, h.1, statements_spans body h.2)
 
     statements_spans : (ts : Statements) → StatementsLieIn s ts → StatementsSpans P ts

@@ -5,8 +5,8 @@ use Rattle.std.proofs.Math.Seq.{set-append_seam}
 use Rattle.upon_types.specs.declared.types.Span.{Span}
 use Rattle.upon_types.specs.Path.{Ident, LoopVars}
 use Rattle.upon_types.specs.Tree.{Statement, Statements, statement_then, no_else, otherwise}
-use Rattle.upon_machine.specs.Instr.{Instr, jump, loop_start, loop_next, with_start, with_end}
-use Rattle.upon_machine.specs.Code.{statement_code, statements_code, jump_unless, if_code, for_code, with_code}
+use Rattle.upon_machine.specs.Instr.{Instr, jump, loop_start, loop_else, loop_next, with_start, with_end}
+use Rattle.upon_machine.specs.Code.{statement_code, statements_code, jump_unless, if_code, turns, for_code, with_code}
 
 -- what comes after the instructions of a value
 pub after_value : (base value code all : List Instr) (rest : ℕ → List Instr) → code ≡ base ++ value → all ≡ code ++ rest (length code)
@@ -77,26 +77,70 @@ if_otherwise base c1 c2 c3 c4 c5 c6 negated body other old1 old2 start past from
     replaced (base ++ test ∷ inner) outer c5 c6 past old2 (jump (length base + 1 + length inner + 1 + length outer)) e5 k6 (is6 ∙ ap (λ n. slice_set c5 past (jump n)) k5)
     ∙ append_assoc base (test ∷ inner) (jump (length base + 1 + length inner + 1 + length outer) ∷ outer)
 
--- a loop
-pub whole_loop : (base c1 c2 c3 c4 c5 : List Instr) (names : LoopVars) (at : Span) (body : Statements) (old : Instr) (next end : ℕ)
-    → c1 ≡ base ++ loop_start names at ∷ [] → next ≡ length c1 → c2 ≡ c1 ++ old ∷ [] → c3 ≡ c2 ++ statements_code (length c2) body
-    → c4 ≡ c3 ++ jump next ∷ [] → end ≡ length c4 → c5 ≡ slice_set c4 next (loop_next end)
-    → c5 ≡ base ++ for_code names at (length base) (statements_code (length base + 1 + 1) body)
-whole_loop base c1 c2 c3 c4 c5 names at body old next end is1 at1 is2 is3 is4 at2 is5 =
+-- the turns of a loop, whose end is not written yet
+pub loop_turns : (base c1 c2 c3 : List Instr) (body : Statements) (next : ℕ)
+    → next ≡ length base → c1 ≡ base ++ loop_next 0 ∷ [] → c2 ≡ c1 ++ statements_code (length c1) body → c3 ≡ c2 ++ jump next ∷ []
+    → c3 ≡ base ++ turns next 0 (statements_code (next + 1) body)
+loop_turns base c1 c2 c3 body next at is1 is2 is3 =
+    let inner = statements_code (next + 1) body in
+    let k1 : length c1 ≡ next + 1 = omega (arith, at, ap length is1, length-append base (loop_next 0 ∷ [])) in
+    is3
+    ∙ ap (λ c. c ++ jump next ∷ []) (is2 ∙ ap (λ n. c1 ++ statements_code n body) k1 ∙ ap (λ c. c ++ inner) is1 ∙ append_assoc base (loop_next 0 ∷ []) inner)
+    ∙ append_assoc base (loop_next 0 ∷ inner) (jump next ∷ [])
+
+-- a loop without another branch
+pub loop_alone : (base c1 c2 c3 : List Instr) (names : LoopVars) (at : Span) (body : Statements) (next end : ℕ)
+    → c1 ≡ base ++ loop_start names at ∷ [] → next ≡ length c1 → c2 ≡ c1 ++ turns next 0 (statements_code (next + 1) body)
+    → end ≡ length c2 → c3 ≡ slice_set c2 next (loop_next end)
+    → c3 ≡ base ++ for_code no_else names at (length base) (statements_code (length base + 1 + 1) body) []
+loop_alone base c1 c2 c3 names at body next end is1 at1 is2 at2 is3 =
     let inner = statements_code (length base + 1 + 1) body in
-    let k1 : length c1 ≡ length base + 1 = omega (arith, ap length is1, length-append base (loop_start names at ∷ [])) in
-    let k2 : length c2 ≡ length base + 1 + 1 = omega (arith, ap length is2, length-append c1 (old ∷ [])) in
-    let e3 : c3 ≡ c2 ++ inner = is3 ∙ ap (λ n. c2 ++ statements_code n body) k2 in
     let back = jump (length base + 1) in
-    let e4 : c4 ≡ c1 ++ old ∷ (inner ++ back ∷ []) =
-    is4 ∙ ap (λ n. c3 ++ jump n ∷ []) (at1 ∙ k1)
-    ∙ ap (λ c. c ++ back ∷ []) (e3 ∙ ap (λ c. c ++ inner) is2 ∙ append_assoc c1 (old ∷ []) inner)
-    ∙ append_assoc c1 (old ∷ inner) (back ∷ []) in
-    let k3 : end ≡ length base + 1 + 1 + length inner + 1 =
-    omega (arith, at2, ap length e4, length-append c1 (old ∷ (inner ++ back ∷ [])), length-append inner (back ∷ [])) in
-    replaced c1 (inner ++ back ∷ []) c4 c5 next old (loop_next (length base + 1 + 1 + length inner + 1)) e4 at1 (is5 ∙ ap (λ n. slice_set c4 next (loop_next n)) k3)
-    ∙ ap (λ c. c ++ loop_next (length base + 1 + 1 + length inner + 1) ∷ (inner ++ back ∷ [])) is1
-    ∙ append_assoc base (loop_start names at ∷ []) (loop_next (length base + 1 + 1 + length inner + 1) ∷ (inner ++ back ∷ []))
+    let past = length base + 1 + 1 + length inner + 1 in
+    let k1 : next ≡ length base + 1 = omega (arith, at1, ap length is1, length-append base (loop_start names at ∷ [])) in
+    let e2 : c2 ≡ c1 ++ loop_next 0 ∷ (inner ++ back ∷ []) = is2 ∙ ap (λ n. c1 ++ turns n 0 (statements_code (n + 1) body)) k1 in
+    let k2 : end ≡ past = omega (arith, at2, k1, at1, ap length e2, length-append c1 (loop_next 0 ∷ (inner ++ back ∷ [])), length-append inner (back ∷ [])) in
+    replaced c1 (inner ++ back ∷ []) c2 c3 next (loop_next 0) (loop_next past) e2 at1 (is3 ∙ ap (λ n. slice_set c2 next (loop_next n)) k2)
+    ∙ ap (λ c. c ++ loop_next past ∷ (inner ++ back ∷ [])) is1
+    ∙ append_assoc base (loop_start names at ∷ []) (loop_next past ∷ (inner ++ back ∷ []))
+
+-- a loop with one
+pub loop_otherwise : (base c1 c2 c3 c4 c5 c6 : List Instr) (names : LoopVars) (at : Span) (body other : Statements) (none next from end : ℕ)
+    → c1 ≡ base ++ loop_start names at ∷ [] → none ≡ length c1 → c2 ≡ c1 ++ loop_else 0 ∷ []
+    → next ≡ length c2 → c3 ≡ c2 ++ turns next 0 (statements_code (next + 1) body)
+    → from ≡ length c3 → c4 ≡ slice_set c3 none (loop_else from) → c5 ≡ c4 ++ statements_code (length c4) other
+    → end ≡ length c5 → c6 ≡ slice_set c5 next (loop_next end)
+    → c6 ≡ base ++ for_code (otherwise other) names at (length base) (statements_code (length base + 1 + 1 + 1) body)
+    (statements_code (length base + 1 + 1 + 1 + length (statements_code (length base + 1 + 1 + 1) body) + 1) other)
+loop_otherwise base c1 c2 c3 c4 c5 c6 names at body other none next from end is1 at1 is2 at2 is3 at3 is4 is5 at4 is6 =
+    let start = loop_start names at in
+    let inner = statements_code (length base + 1 + 1 + 1) body in
+    let back = jump (length base + 1 + 1) in
+    let round = inner ++ back ∷ [] in
+    let second = length base + 1 + 1 + 1 + length inner + 1 in
+    let outer = statements_code second other in
+    let past = second + length outer in
+    let k1 : none ≡ length base + 1 = omega (arith, at1, ap length is1, length-append base (start ∷ [])) in
+    let k2 : next ≡ length base + 1 + 1 = omega (arith, at2, at1, k1, ap length is2, length-append c1 (loop_else 0 ∷ [])) in
+    let e2 : c2 ≡ base ++ start ∷ loop_else 0 ∷ [] = is2 ∙ ap (λ c. c ++ loop_else 0 ∷ []) is1 ∙ append_assoc base (start ∷ []) (loop_else 0 ∷ []) in
+    let e3 : c3 ≡ c1 ++ loop_else 0 ∷ loop_next 0 ∷ round =
+    is3 ∙ ap (λ n. c2 ++ turns n 0 (statements_code (n + 1) body)) k2 ∙ ap (λ c. c ++ loop_next 0 ∷ round) is2
+    ∙ append_assoc c1 (loop_else 0 ∷ []) (loop_next 0 ∷ round) in
+    let k3 : from ≡ second = omega (arith, at3, k1, at1, ap length e3, length-append c1 (loop_else 0 ∷ loop_next 0 ∷ round), length-append inner (back ∷ [])) in
+    let away = loop_else second in
+    let e4 : c4 ≡ c1 ++ away ∷ loop_next 0 ∷ round =
+    replaced c1 (loop_next 0 ∷ round) c3 c4 none (loop_else 0) away e3 at1 (is4 ∙ ap (λ n. slice_set c3 none (loop_else n)) k3) in
+    let k4 : length c4 ≡ second = omega (arith, k1, at1, ap length e4, length-append c1 (away ∷ loop_next 0 ∷ round), length-append inner (back ∷ [])) in
+    let front = c1 ++ away ∷ [] in
+    let e5 : c5 ≡ front ++ loop_next 0 ∷ (round ++ outer) =
+    is5 ∙ ap (λ n. c4 ++ statements_code n other) k4 ∙ ap (λ c. c ++ outer) (e4 ∙ sym (append_assoc c1 (away ∷ []) (loop_next 0 ∷ round)))
+    ∙ append_assoc front (loop_next 0 ∷ round) outer in
+    let k5 : next ≡ length front = omega (arith, k2, k1, at1, length-append c1 (away ∷ [])) in
+    let k6 : end ≡ past = omega (arith, at4, k4, ap length (is5 ∙ ap (λ n. c4 ++ statements_code n other) k4), length-append c4 outer) in
+    replaced front (round ++ outer) c5 c6 next (loop_next 0) (loop_next past) e5 k5 (is6 ∙ ap (λ n. slice_set c5 next (loop_next n)) k6)
+    ∙ append_assoc c1 (away ∷ []) (loop_next past ∷ (round ++ outer))
+    ∙ ap (λ c. c ++ away ∷ loop_next past ∷ (round ++ outer)) is1
+    ∙ append_assoc base (start ∷ []) (away ∷ loop_next past ∷ (round ++ outer))
 
 -- a `with`
 pub whole_with : (base c1 c2 c3 : List Instr) (word : Ident) (body : Statements)

@@ -1,13 +1,15 @@
 -- Arguments, one after the other, and the cases of an `if`.
 use Rattle.std.proofs.Common.{◌≡◌, suc, List, [], ◌∷◌, ◌++◌, length, Option, Some, None, refl, ap, ◌∙◌, append_assoc}
-use Rattle.upon_types.proofs.Trees.{arguments_of-out, if_of-out}
-use Rattle.upon_types.specs.Ast.{if_of, else_of, scope_of}
+use Rattle.upon_types.proofs.Trees.{arguments_of-out, for_of-out, if_of-out}
+use Rattle.upon_types.specs.Ast.{for_of, if_of, else_of, scope_of}
 use Rattle.upon_types.specs.AstExpression.{bases_of, expression_of, maybe_arguments_of}
 use Rattle.upon_types.specs.Expression.{arguments}
-use Rattle.upon_types.specs.Tree.{if_else, no_else, otherwise}
+use Rattle.upon_types.specs.Tree.{if_else, for_loop, no_else, otherwise}
+use Rattle.upon_types.specs.AstPath.{loop_vars_of}
+use Rattle.upon_types.specs.declared.types.ast.ForLoop.{ForLoop}
 use Rattle.upon_types.specs.declared.types.ast.IfElse.{IfElse}
 use Rattle.upon_types.specs.declared.types.ast.Scope.{Scope}
-use Rattle.upon_types.specs.declared.types.ast.Stmt.TheViews.{out-IfElse}
+use Rattle.upon_types.specs.declared.types.ast.Stmt.TheViews.{out-ForLoop, out-IfElse}
 use Rattle.upon_types.specs.declared.types.ast.expression.Args.{Args}
 use Rattle.upon_types.specs.declared.types.ast.expression.BaseExpr.{BaseExpr}
 use Rattle.upon_types.specs.declared.types.ast.expression.BaseExpr.TheViews.{out-Args}
@@ -37,6 +39,20 @@ pub if_of-some : (i : IfElse) (other : Scope) → (out-IfElse i).else_branch ≡
 if_of-some i other is =
     if_of-out i
     ∙ ap (λ o. if_else (out-IfElse i).not (expression_of (out-IfElse i).cond) (scope_of (out-IfElse i).then_branch) (else_of o)) is
+
+-- a `for` without another branch
+pub for_of-none : (f : ForLoop) → (out-ForLoop f).else_branch ≡ None
+    → for_of f ≡ for_loop (loop_vars_of (out-ForLoop f).vars) (expression_of (out-ForLoop f).iterable) (scope_of (out-ForLoop f).body) no_else
+for_of-none f is =
+    for_of-out f
+    ∙ ap (λ o. for_loop (loop_vars_of (out-ForLoop f).vars) (expression_of (out-ForLoop f).iterable) (scope_of (out-ForLoop f).body) (else_of o)) is
+
+-- a `for` with one
+pub for_of-some : (f : ForLoop) (other : Scope) → (out-ForLoop f).else_branch ≡ Some other
+    → for_of f ≡ for_loop (loop_vars_of (out-ForLoop f).vars) (expression_of (out-ForLoop f).iterable) (scope_of (out-ForLoop f).body) (otherwise (scope_of other))
+for_of-some f other is =
+    for_of-out f
+    ∙ ap (λ o. for_loop (loop_vars_of (out-ForLoop f).vars) (expression_of (out-ForLoop f).iterable) (scope_of (out-ForLoop f).body) (else_of o)) is
 
 -- the operands of a filter, and then what applies it
 pub filter_part : (old c1 c2 receiver args : List Instr) (last : Instr) → c1 ≡ old ++ receiver → c2 ≡ c1 ++ args

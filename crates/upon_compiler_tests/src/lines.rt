@@ -87,6 +87,7 @@ fn block_line(alloc: Global, instr: &Instr) -> Result<String, AllocError> {
             let at = at.as_str();
             format!(in alloc; "loop {names} {at}")
         }
+        Instr::LoopElse(n) => format!(in alloc; "else {n}"),
         Instr::LoopNext(n) => format!(in alloc; "next {n}"),
         Instr::WithStart(name) => with_text(alloc, "with", name.name.clone()?),
         Instr::WithEnd => String::from_str(alloc, "end with"),

@@ -44,11 +44,17 @@ fn an_if_not_with_an_else(rt: HostRuntime) -> Result<(), Fail> {
     Ok(())
 }
 
-fn loop_over(alloc: Global, vars: LoopVars, body: Scope) -> Result<Stmt, AllocError> {
+fn loop_over(
+    alloc: Global,
+    vars: LoopVars,
+    body: Scope,
+    else_branch: Option<Scope>,
+) -> Result<Stmt, AllocError> {
     Ok(Stmt::ForLoop(ForLoop {
         vars,
         iterable: Expr::Base(name(alloc, "xs", 12)?),
         body,
+        else_branch,
     }))
 }
 
@@ -60,11 +66,31 @@ fn a_loop(rt: HostRuntime) -> Result<(), Fail> {
         alloc,
         shown(Expr::Base(name(alloc, "x", 20)?), span(17, 24)),
     )?;
-    let stmt = loop_over(alloc, LoopVars::Item(ident(alloc, "x", 7)?), body)?;
+    let stmt = loop_over(alloc, LoopVars::Item(ident(alloc, "x", 7)?), body, None)?;
     let lines = program(alloc, vec![in alloc; stmt]?)?;
     assert_eq!(rt;
         lines.as_str(),
         "var .xs\nloop x 12..14\nnext 6\nvar .x\nemit\njump 2\n"
+    );
+    Ok(())
+}
+
+// {% for x in xs %}a{% else %}b{% endfor %}
+#[test]
+fn a_loop_with_another_branch(rt: HostRuntime) -> Result<(), Fail> {
+    let alloc = rt.alloc();
+    let body = scope(alloc, Stmt::Raw(span(17, 18)))?;
+    let other = scope(alloc, Stmt::Raw(span(28, 29)))?;
+    let stmt = loop_over(
+        alloc,
+        LoopVars::Item(ident(alloc, "x", 7)?),
+        body,
+        Some(other),
+    )?;
+    let lines = program(alloc, vec![in alloc; stmt]?)?;
+    assert_eq!(rt;
+        lines.as_str(),
+        "var .xs\nloop x 12..14\nelse 6\nnext 7\nraw 17..18\njump 3\nraw 28..29\n"
     );
     Ok(())
 }
@@ -79,7 +105,7 @@ fn an_if_in_a_loop(rt: HostRuntime) -> Result<(), Fail> {
         span: span(7, 11),
     });
     let inner = if_a(alloc, false, scope(alloc, Stmt::Raw(span(30, 31)))?, None)?;
-    let stmt = loop_over(alloc, vars, scope(alloc, inner)?)?;
+    let stmt = loop_over(alloc, vars, scope(alloc, inner)?, None)?;
     let lines = program(alloc, vec![in alloc; stmt]?)?;
     assert_eq!(rt;
         lines.as_str(),

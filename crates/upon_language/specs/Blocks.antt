@@ -45,17 +45,23 @@ closer_of s [] = None
 closer_of s (l ∷ []) = None
 closer_of s (l ∷ k ∷ ls) = elim l.token [ BeginBlock ↦ closer_by s (slice s k.span) ls | _ ↦ None ]
 
--- whether the innermost open block takes the closing tag
+-- whether an open `if` takes the closing tag
 abbrev pub if_takes : Bool → Closer → Bool
 if_takes has_else end_if = true
 if_takes false else_if = true
 if_takes false plain_else = true
 if_takes has_else closer = false
 
+-- whether an open `for` takes it
+abbrev pub for_takes : Bool → Closer → Bool
+for_takes has_else end_for = true
+for_takes false plain_else = true
+for_takes has_else closer = false
+
 -- whether an open block of a kind takes the closing tag
 abbrev pub block_takes : Block → Bool → Closer → Bool
 block_takes if_block has_else closer = if_takes has_else closer
-block_takes for_block has_else end_for = true
+block_takes for_block has_else closer = for_takes has_else closer
 block_takes with_block has_else end_with = true
 block_takes kind has_else closer = false
 

@@ -71,8 +71,8 @@ abbrev mutual
       × GoesBy EndBlock after rest
   IsStatement s (if_else negated e body other) before rest = (mid after : List Lexeme)
       × IsIfTag s negated e before mid × AreStatements s body mid after × IsElse s other after rest
-  IsStatement s (for_loop names e body) before rest = (mid after : List Lexeme) × IsForTag s names e before mid
-      × AreStatements s body mid after × IsWordTag s (codes "endfor") after rest
+  IsStatement s (for_loop names e body other) before rest = (mid after : List Lexeme) × IsForTag s names e before mid
+      × AreStatements s body mid after × IsForElse s other after rest
   IsStatement s (with e name body) before rest = (mid after : List Lexeme) × IsWithTag s e name before mid
       × AreStatements s body mid after × IsWordTag s (codes "endwith") after rest
 
@@ -88,6 +88,12 @@ abbrev mutual
   IsElse s (otherwise body) before rest =
       ((mid after : List Lexeme) × IsWordTag s (codes "else") before mid × AreStatements s body mid after
       × IsWordTag s (codes "endif") after rest) ⊎ IsElseIf s body before rest
+
+  -- [tag("else") Stmt*] tag("endfor")
+  pub IsForElse : List ℕ → Else → List Lexeme → List Lexeme → Type 0
+  IsForElse s no_else before rest = IsWordTag s (codes "endfor") before rest
+  IsForElse s (otherwise body) before rest = (mid after : List Lexeme) × IsWordTag s (codes "else") before mid
+      × AreStatements s body mid after × IsWordTag s (codes "endfor") after rest
 
   -- an `else if`: one `if` is all that the other branch holds
   pub IsElseIf : List ℕ → Statements → List Lexeme → List Lexeme → Type 0

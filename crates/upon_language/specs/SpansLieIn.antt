@@ -62,7 +62,8 @@ abbrev mutual
   StatementLiesIn s (inline_expr e span) = ExpressionLiesIn s e × LiesIn s span
   StatementLiesIn s (include name context) = LiesIn s name.span × ContextLiesIn s context
   StatementLiesIn s (if_else negated e body other) = ExpressionLiesIn s e × StatementsLieIn s body × ElseLiesIn s other
-  StatementLiesIn s (for_loop names e body) = NamesLieIn s names × ExpressionLiesIn s e × StatementsLieIn s body
+  StatementLiesIn s (for_loop names e body other) =
+      NamesLieIn s names × ExpressionLiesIn s e × StatementsLieIn s body × ElseLiesIn s other
   StatementLiesIn s (with e name body) = ExpressionLiesIn s e × LiesIn s name.span × StatementsLieIn s body
 
   -- those of each statement

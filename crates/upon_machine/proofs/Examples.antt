@@ -2,7 +2,7 @@
 use Rattle.std.proofs.Common.{◌≡◌, pos, [], ◌∷◌, Some, None, true, refl, codes}
 use Rattle.upon_types.specs.Expression.{base}
 use Rattle.upon_types.specs.Path.{item}
-use Rattle.upon_types.specs.Tree.{if_else, for_loop, include, with, otherwise}
+use Rattle.upon_types.specs.Tree.{if_else, for_loop, include, with, otherwise, no_else}
 use Rattle.upon_types.specs.Val.{int_val}
 use Rattle.upon_render.specs.Environment.{context}
 use Rattle.upon_meaning.specs.Engine.{calls_of, from_table}
@@ -20,7 +20,7 @@ both_cases : program_of (statements (if_else true (base (name 10 (codes "a"))) (
 both_cases = refl
 
 -- `{% for x in xs %}{{ x }}{% endfor %}`: back to the next turn after the body
-in_turns : program_of (statements (for_loop (item (word 7 (codes "x"))) (base (name 12 (codes "xs"))) (statements (shows 17 24 (name 20 (codes "x")) ∷ [])) ∷ []))
+in_turns : program_of (statements (for_loop (item (word 7 (codes "x"))) (base (name 12 (codes "xs"))) (statements (shows 17 24 (name 20 (codes "x")) ∷ [])) no_else ∷ []))
     ≡ expr_start_var (first 12 (codes "xs")) [] ∷ loop_start (item (word 7 (codes "x"))) (at 12 14) ∷ loop_next 6 ∷ expr_start_var (first 20 (codes "x")) [] ∷ emit ∷ jump 2 ∷ []
 in_turns = refl
 
@@ -31,12 +31,12 @@ inside = refl
 
 -- the loop on {xs: [1, 2]}: eleven steps go on, and the next one ends the run
 eleven_steps : steps (calls_of (engine [] []) no_source) (from_table (engine [] []).templates) (context (map_of ((codes "xs", list_of (int_val (pos 1) ∷ int_val (pos 2) ∷ [])) ∷ []))) 100
-    (at_start (template (codes "{% for x in xs %}{{ x }}{% endfor %}") (for_loop (item (word 7 (codes "x"))) (base (name 12 (codes "xs"))) (statements (shows 17 24 (name 20 (codes "x")) ∷ [])) ∷ [])) None 63 no_states) ≡ 11
+    (at_start (template (codes "{% for x in xs %}{{ x }}{% endfor %}") (for_loop (item (word 7 (codes "x"))) (base (name 12 (codes "xs"))) (statements (shows 17 24 (name 20 (codes "x")) ∷ [])) no_else ∷ [])) None 63 no_states) ≡ 11
 unfolding computing
 eleven_steps = refl
 
 both_items : run (calls_of (engine [] []) no_source) (from_table (engine [] []).templates) (context (map_of ((codes "xs", list_of (int_val (pos 1) ∷ int_val (pos 2) ∷ [])) ∷ []))) 12
-    (at_start (template (codes "{% for x in xs %}{{ x }}{% endfor %}") (for_loop (item (word 7 (codes "x"))) (base (name 12 (codes "xs"))) (statements (shows 17 24 (name 20 (codes "x")) ∷ [])) ∷ [])) None 63 no_states)
+    (at_start (template (codes "{% for x in xs %}{{ x }}{% endfor %}") (for_loop (item (word 7 (codes "x"))) (base (name 12 (codes "xs"))) (statements (shows 17 24 (name 20 (codes "x")) ∷ [])) no_else ∷ [])) None 63 no_states)
     ≡ Some (text_outcome (codes "12") no_states)
 unfolding computing
 both_items = refl

@@ -9,7 +9,7 @@ use Rattle.upon_meaning.specs.Alone.{on_template}
 use Rattle.upon_meaning.specs.Engine.{Template}
 use Rattle.upon_meaning.specs.Evaluation.{Operand}
 use Rattle.upon_meaning.specs.GreaterDepth.{GoesOn}
-use Rattle.upon_meaning.specs.Meaning.{RunningTemplate, Body, choose, each, each_of, on_value}
+use Rattle.upon_meaning.specs.Meaning.{RunningTemplate, Body, choose, each, each_of, each_or, on_value}
 use Rattle.upon_meaning.specs.Outcome.{End, good, fails, too_deep, Outcome, States, with_text_before, go_on, then_do, too_deep_outcome}
 
 abbrev pub IsBeginning : List ℕ → List ℕ → Type 0
@@ -72,6 +72,11 @@ module _ {Q : Type 0} where
   pub deeper_each_of : (f g : Body Q) → ((env : Environment) (q : Q) → Deeper (f env q) (g env q)) → (from : RunningTemplate) (x : Finding (List (List Binding))) (env : Environment) (q : Q) → Deeper (each_of f from x env q) (each_of g from x env q)
   deeper_each_of f g h from (found items) env q = deeper_each f g h (length items) 0 items env q
   deeper_each_of f g h from (at_fault x) env q = refl
+
+  pub deeper_each_or : (f g f' g' : Body Q) → ((env : Environment) (q : Q) → Deeper (f env q) (g env q)) → ((env : Environment) (q : Q) → Deeper (f' env q) (g' env q)) → (from : RunningTemplate) (x : Finding (List (List Binding))) (env : Environment) (q : Q) → Deeper (each_or f f' from x env q) (each_or g g' from x env q)
+  deeper_each_or f g f' g' h k from (found []) env q = k env q
+  deeper_each_or f g f' g' h k from (found (bs ∷ items)) env q = deeper_each_of f g h from (found (bs ∷ items)) env q
+  deeper_each_or f g f' g' h k from (at_fault x) env q = refl
 
   pub deeper_choose : (test : Bool) (f f' g g' : Q → Outcome Q) → ((q : Q) → Deeper (f q) (g q)) → ((q : Q) → Deeper (f' q) (g' q)) → (q : Q) → Deeper (choose test f f' q) (choose test g g' q)
   deeper_choose true f f' g g' h k q = h q

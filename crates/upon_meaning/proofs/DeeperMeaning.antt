@@ -12,7 +12,7 @@ use Rattle.upon_meaning.specs.Evaluation.{evaluate}
 use Rattle.upon_meaning.specs.GreaterDepth.{GoesOn}
 use Rattle.upon_meaning.specs.Meaning.{RunningTemplate, Inclusion, condition, in_template, statement_means, statements_mean, else_means}
 use Rattle.upon_meaning.specs.Outcome.{States}
-use Rattle.upon_meaning.proofs.Deeper.{Deeper, deeper_same, goes_on_of_deeper, stopped_deeper, deeper_then, deeper_each_of, deeper_choose, deeper_template, deeper_value}
+use Rattle.upon_meaning.proofs.Deeper.{Deeper, deeper_same, goes_on_of_deeper, stopped_deeper, deeper_then, deeper_each_or, deeper_choose, deeper_template, deeper_value}
 
 module _ {V T : Type 0} (calls : Calls V) (run : RunningTemplate) (i j : Inclusion V T) (h : (from : RunningTemplate) (word : Ident) (env : Environment) (s : States V T) → Deeper (i from word env s) (j from word env s)) where
   mutual
@@ -22,7 +22,7 @@ module _ {V T : Type 0} (calls : Calls V) (run : RunningTemplate) (i j : Inclusi
     deeper_statement (include word None) env s = h run word env s
     deeper_statement (include word (Some e)) env s = deeper_value run (evaluate calls e env s.values).answer _ _ _ (λ v s'. h run word (alone_over v) s')
     deeper_statement (if_else n e a b) env s = deeper_value run (evaluate calls e env s.values).answer _ _ _ (λ v s'. deeper_choose (condition n v) _ _ _ _ (deeper_statements a env) (deeper_else b env) s')
-    deeper_statement (for_loop names e body) env s = deeper_value run (evaluate calls e env s.values).answer _ _ _ (λ v s'. deeper_each_of (statements_mean calls i run body) (statements_mean calls j run body) (deeper_statements body) run (items_of names v (expression_span e)) env s')
+    deeper_statement (for_loop names e body other) env s = deeper_value run (evaluate calls e env s.values).answer _ _ _ (λ v s'. deeper_each_or (statements_mean calls i run body) (statements_mean calls j run body) (else_means calls i run other) (else_means calls j run other) (deeper_statements body) (deeper_else other) run (items_of names v (expression_span e)) env s')
     deeper_statement (with e word body) env s = deeper_value run (evaluate calls e env s.values).answer _ _ _ (λ v s'. deeper_statements body (with_name word v env) s')
 
     pub deeper_statements : (ts : Statements) (env : Environment) (s : States V T) → Deeper (statements_mean calls i run ts env s) (statements_mean calls j run ts env s)

@@ -10,7 +10,7 @@ use Rattle.upon_types.specs.Answers.{FormatEnd, well, refused, Formatter, Callab
 use Rattle.upon_meaning.specs.Emission.{Emission, end_of, or_fault, formatter_outcome, callable_outcome, emit_call, emit_value, emit, emit_base}
 use Rattle.upon_meaning.specs.Engine.{Calls}
 use Rattle.upon_meaning.specs.Evaluation.{Operand, values_of, answer_value, append_operand, evaluate, evaluate_base, evaluate_arguments}
-use Rattle.upon_meaning.specs.Meaning.{RunningTemplate, ends_in, Body, choose, each, each_of, on_value}
+use Rattle.upon_meaning.specs.Meaning.{RunningTemplate, ends_in, Body, choose, each, each_of, each_or, on_value}
 use Rattle.upon_meaning.specs.Outcome.{End, good, fails, too_deep, Outcome, States, go_on, then_do}
 
 abbrev pub NotTooDeep : End → Type 0
@@ -44,6 +44,11 @@ module _ {Q : Type 0} where
   pub each_of_not_too_deep : (body : Body Q) → ((env : Environment) (q : Q) → NotTooDeep (body env q).end) → (from : RunningTemplate) (x : Finding (List (List Binding))) (env : Environment) (q : Q) → NotTooDeep (each_of body from x env q).end
   each_of_not_too_deep body h from (found items) env q = each_not_too_deep body h (length items) 0 items env q
   each_of_not_too_deep body h from (at_fault f) env q = tt
+
+  pub each_or_not_too_deep : (body other : Body Q) → ((env : Environment) (q : Q) → NotTooDeep (body env q).end) → ((env : Environment) (q : Q) → NotTooDeep (other env q).end) → (from : RunningTemplate) (x : Finding (List (List Binding))) (env : Environment) (q : Q) → NotTooDeep (each_or body other from x env q).end
+  each_or_not_too_deep body other h k from (found []) env q = k env q
+  each_or_not_too_deep body other h k from (found (bs ∷ items)) env q = each_of_not_too_deep body h from (found (bs ∷ items)) env q
+  each_or_not_too_deep body other h k from (at_fault f) env q = tt
 
   pub choose_not_too_deep : (test : Bool) (f g : Q → Outcome Q) → ((q : Q) → NotTooDeep (f q).end) → ((q : Q) → NotTooDeep (g q).end) → (q : Q) → NotTooDeep (choose test f g q).end
   choose_not_too_deep true f g h k q = h q

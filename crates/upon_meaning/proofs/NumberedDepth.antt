@@ -13,7 +13,7 @@ use Rattle.upon_meaning.specs.Evaluation.{evaluate}
 use Rattle.upon_meaning.specs.Includes.{StatementIncludes, Includes, ElseIncludes, IsNumbered}
 use Rattle.upon_meaning.specs.Meaning.{RunningTemplate, Inclusion, condition, statement_means, statements_mean, else_means}
 use Rattle.upon_meaning.specs.Outcome.{too_deep, Outcome, States}
-use Rattle.upon_meaning.proofs.NotTooDeep.{NotTooDeep, is_not_too_deep, ends_not_too_deep, then_not_too_deep, each_of_not_too_deep, choose_not_too_deep, value_not_too_deep, emit_not_too_deep}
+use Rattle.upon_meaning.proofs.NotTooDeep.{NotTooDeep, is_not_too_deep, ends_not_too_deep, then_not_too_deep, each_or_not_too_deep, choose_not_too_deep, value_not_too_deep, emit_not_too_deep}
 
 -- statements whose includes do not are too deep
 module _ {V T : Type 0} (calls : Calls V) (i : Inclusion V T) (run : RunningTemplate) where
@@ -27,7 +27,7 @@ module _ {V T : Type 0} (calls : Calls V) (i : Inclusion V T) (run : RunningTemp
     statement_goes (include word None) h env s = h word refl env s
     statement_goes (include word (Some e)) h env s = value_not_too_deep run (evaluate calls e env s.values).answer _ _ (λ v s'. h word refl (alone_over v) s')
     statement_goes (if_else n e a b) h env s = value_not_too_deep run (evaluate calls e env s.values).answer _ _ (λ v s'. choose_not_too_deep (condition n v) _ _ (statements_go a (λ word is. h word (inl is)) env) (else_goes b (λ word is. h word (inr is)) env) s')
-    statement_goes (for_loop names e body) h env s = value_not_too_deep run (evaluate calls e env s.values).answer _ _ (λ v s'. each_of_not_too_deep (statements_mean calls i run body) (statements_go body h) run (items_of names v (expression_span e)) env s')
+    statement_goes (for_loop names e body other) h env s = value_not_too_deep run (evaluate calls e env s.values).answer _ _ (λ v s'. each_or_not_too_deep (statements_mean calls i run body) (else_means calls i run other) (statements_go body (λ word is. h word (inl is))) (else_goes other (λ word is. h word (inr is))) run (items_of names v (expression_span e)) env s')
     statement_goes (with e word body) h env s = value_not_too_deep run (evaluate calls e env s.values).answer _ _ (λ v s'. statements_go body h (with_name word v env) s')
 
     pub statements_go : (ts : Statements) → ((word : Ident) → Includes word.text ts → Goes word) → (env : Environment) (s : States V T) → NotTooDeep (statements_mean calls i run ts env s).end

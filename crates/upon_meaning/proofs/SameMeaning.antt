@@ -12,7 +12,7 @@ use Rattle.upon_meaning.specs.Engine.{Calls}
 use Rattle.upon_meaning.specs.Entries.{with_entry}
 use Rattle.upon_meaning.specs.Evaluation.{append_operand, with_span, as_list, as_map, application, evaluate, evaluate_base, evaluate_bases, evaluate_items, evaluate_arguments}
 use Rattle.upon_meaning.specs.Includes.{StatementIncludes, Includes, ElseIncludes}
-use Rattle.upon_meaning.specs.Meaning.{RunningTemplate, Inclusion, in_template, with_value, choose, condition, each, each_of, statement_means, statements_mean, else_means}
+use Rattle.upon_meaning.specs.Meaning.{RunningTemplate, Inclusion, in_template, with_value, choose, condition, each, each_of, each_or, statement_means, statements_mean, else_means}
 use Rattle.upon_meaning.specs.Names.{IsName, ExpressionReads, BaseReads, BasesRead, ItemsRead, ArgumentsRead, StatementReads, StatementsRead, ElseReads}
 use Rattle.upon_meaning.specs.Outcome.{Outcome, States, then_do}
 use Rattle.upon_meaning.proofs.SameLookups.{Known, FoundAlike, alike_bind, alike_bind_all}
@@ -89,6 +89,11 @@ module _ {V T : Type 0} (calls : Calls V) (running : RunningTemplate) (names inc
     same_each_of (found items) s = same_each (length items) 0 items s
     same_each_of (at_fault f) s = refl
 
+    same_each_or : (other other' : Environment → States V T → Outcome (States V T)) → SameBody other other' → (items : Finding (List (List Binding))) (s : States V T) → each_or body other from items env s ≡ each_or body' other' from items env' s
+    same_each_or other other' k (found []) s = k env env' alike s
+    same_each_or other other' k (found (bs ∷ items)) s = same_each_of (found (bs ∷ items)) s
+    same_each_or other other' k (at_fault f) s = refl
+
   module _ (same_include : (from : RunningTemplate) (word : Ident) → included_names word.text → SameBody (inc from word) (inc' from word)) where
     mutual
       pub same_statement : (t : Statement) → Within (λ name. StatementReads name t) names → Within (λ name. StatementIncludes name t) included_names → SameBody (statement_means calls inc running t) (statement_means calls inc' running t)
@@ -101,9 +106,9 @@ module _ {V T : Type 0} (calls : Calls V) (running : RunningTemplate) (names inc
       same_statement (if_else negated e body other) h k env env' alike s =
           λ i. with_value running s.templates (same_value calls names env env' alike e (λ n r. h n (inl r)) s.values i)
           (λ v s'. choose {A = States V T → Outcome (States V T)} (condition negated v) (λ z. same_statements body (λ n r. h n (inr (inl r))) (λ n r. k n (inl r)) env env' alike z i) (λ z. same_else other (λ n r. h n (inr (inr r))) (λ n r. k n (inr r)) env env' alike z i) s')
-      same_statement (for_loop loop_names e body) h k env env' alike s =
+      same_statement (for_loop loop_names e body other) h k env env' alike s =
           λ i. with_value running s.templates (same_value calls names env env' alike e (λ n r. h n (inl r)) s.values i)
-          (λ v s'. same_each_of (statements_mean calls inc running body) (statements_mean calls inc' running body) (same_statements body (λ n r. h n (inr r)) k) running env env' alike (items_of loop_names v (expression_span e)) s' i)
+          (λ v s'. same_each_or (statements_mean calls inc running body) (statements_mean calls inc' running body) (same_statements body (λ n r. h n (inr (inl r))) (λ n r. k n (inl r))) running env env' alike (else_means calls inc running other) (else_means calls inc' running other) (same_else other (λ n r. h n (inr (inr r))) (λ n r. k n (inr r))) (items_of loop_names v (expression_span e)) s' i)
       same_statement (with e word body) h k env env' alike s =
           λ i. with_value running s.templates (same_value calls names env env' alike e (λ n r. h n (inl r)) s.values i)
           (λ v s'. same_statements body (λ n r. h n (inr r)) k (with_name word v env) (with_name word v env') (alike_bind calls.ask names (binding word.text (plain v)) env env' alike) s' i)

@@ -11,7 +11,7 @@ use Rattle.upon_render.specs.Source.{SourceAnswer, says, refuses, Source}
 use Rattle.upon_meaning.specs.Alone.{running, on_template, included, alone_within}
 use Rattle.upon_meaning.specs.Engine.{Template, Calls, Resolver}
 use Rattle.upon_meaning.specs.Evaluation.{Operand}
-use Rattle.upon_meaning.specs.Meaning.{RunningTemplate, Inclusion, Body, choose, condition, each, each_of, in_template, on_value, with_value, statement_means, statements_mean, else_means}
+use Rattle.upon_meaning.specs.Meaning.{RunningTemplate, Inclusion, Body, choose, condition, each, each_of, each_or, in_template, on_value, with_value, statement_means, statements_mean, else_means}
 use Rattle.upon_meaning.specs.Outcome.{End, good, fails, too_deep, Outcome, States, states, with_text_before, go_on, then_do}
 use Rattle.upon_meaning.specs.ValueSource.{with_source, SameBesideValues}
 use Rattle.upon_meaning.proofs.UnaskedExpressions.{above, sourceless, keep, evaluate_keeps, emit_keeps}
@@ -66,6 +66,11 @@ module _ {V T : Type 0} (q : V) where
     each_of_keeps body pure h from (found items) bindings s = each_keeps body pure h (length items) 0 items bindings s
     each_of_keeps body pure h from (at_fault x) bindings s = refl
 
+    each_or_keeps : (body other : Body (States V T)) (pure another : Body (Sourceless T)) → BodyKeeps body pure → BodyKeeps other another → (from : RunningTemplate) (x : Finding (List (List Binding))) (bindings : List Binding) → Keeps (each_or body other from x (above bindings v)) (each_or pure another from x (above bindings v))
+    each_or_keeps body other pure another h k from (found []) bindings s = k bindings s
+    each_or_keeps body other pure another h k from (found (bs ∷ items)) bindings s = each_of_keeps body pure h from (found (bs ∷ items)) bindings s
+    each_or_keeps body other pure another h k from (at_fault x) bindings s = refl
+
 -- includes that give the same over any context
 abbrev InclusionKeeps : {V T : Type 0} → V → Inclusion V T → Inclusion (Unit {0}) T → Type 0
 InclusionKeeps q i pure = (from : RunningTemplate) (word : Ident) (v : Val) → BodyKeeps q v (i from word) (pure from word)
@@ -78,8 +83,8 @@ module _ {V T : Type 0} (calls : Calls V) (i : Inclusion V T) (pure : Inclusion 
     statement_keeps (include word None) bindings s = same run word v bindings s
     statement_keeps (include word (Some e)) bindings s = value_keeps q run s.templates _ _ _ _ (evaluate_keeps calls bindings v q e s.values) (λ w. same run word w [])
     statement_keeps (if_else n e a b) bindings s = value_keeps q run s.templates _ _ _ _ (evaluate_keeps calls bindings v q e s.values) (λ w. choose_keeps q (condition n w) _ _ _ _ (statements_keep a bindings) (else_keeps b bindings))
-    statement_keeps (for_loop names e body) bindings s =
-        value_keeps q run s.templates _ _ _ _ (evaluate_keeps calls bindings v q e s.values) (λ w. each_of_keeps q v (statements_mean calls i run body) (statements_mean (sourceless calls) pure run body) (statements_keep body) run (items_of names w (expression_span e)) bindings)
+    statement_keeps (for_loop names e body other) bindings s =
+        value_keeps q run s.templates _ _ _ _ (evaluate_keeps calls bindings v q e s.values) (λ w. each_or_keeps q v (statements_mean calls i run body) (else_means calls i run other) (statements_mean (sourceless calls) pure run body) (else_means (sourceless calls) pure run other) (statements_keep body) (else_keeps other) run (items_of names w (expression_span e)) bindings)
     statement_keeps (with e word body) bindings s = value_keeps q run s.templates _ _ _ _ (evaluate_keeps calls bindings v q e s.values) (λ w. statements_keep body (binding word.text (plain w) ∷ bindings))
 
     statements_keep : (ts : Statements) (bindings : List Binding) (s : Sourceless T) → statements_mean calls i run ts (above bindings v) (states q s.templates) ≡ keep_values q (statements_mean (sourceless calls) pure run ts (above bindings v) s)

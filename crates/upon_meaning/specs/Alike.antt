@@ -5,7 +5,7 @@ use Rattle.upon_types.specs.Expression.{Expression, base, filtered, Base, var, l
 use Rattle.upon_types.specs.Fault.{Fault}
 use Rattle.upon_types.specs.Path.{Ident, Access, by_index, by_key, Member, LoopVars, item, key_value}
 use Rattle.upon_types.specs.Span.{slice}
-use Rattle.upon_types.specs.Tree.{Statement, raw, inline_expr, include, if_else, for_loop, with, Statements, no_statements, statement_then, no_else, otherwise}
+use Rattle.upon_types.specs.Tree.{Statement, raw, inline_expr, include, if_else, for_loop, with, Statements, no_statements, statement_then, Else, no_else, otherwise}
 use Rattle.upon_meaning.specs.Outcome.{End, good, fails, too_deep, Outcome}
 
 -- names and paths
@@ -100,11 +100,18 @@ abbrev mutual
       × (((n ≡ n') × StatementsAlike s s' a a' × IsEmpty b) ⊎ ((n ≡ not n') × IsEmpty a × StatementsAlike s s' b a'))
   StatementAlike s s' (if_else n e a no_else) (if_else n' e' a' no_else) =
       ExpressionsAlike e e' × (((n ≡ n') × StatementsAlike s s' a a') ⊎ ((n ≡ not n') × IsEmpty a × IsEmpty a'))
-  StatementAlike s s' (for_loop names e body) (for_loop names' e' body') =
-      NamesAlike names names' × ExpressionsAlike e e' × StatementsAlike s s' body body'
+  StatementAlike s s' (for_loop names e body other) (for_loop names' e' body' other') =
+      NamesAlike names names' × ExpressionsAlike e e' × StatementsAlike s s' body body' × OthersAlike s s' other other'
   StatementAlike s s' (with e word body) (with e' word' body') =
       ExpressionsAlike e e' × WordsAlike word word' × StatementsAlike s s' body body'
   StatementAlike s s' _ _ = ⊥
+
+  -- the other branches of two loops
+  pub OthersAlike : List ℕ → List ℕ → Else → Else → Type 0
+  OthersAlike s s' no_else no_else = Unit {0}
+  OthersAlike s s' no_else (otherwise b) = IsEmpty b
+  OthersAlike s s' (otherwise a) no_else = IsEmpty a
+  OthersAlike s s' (otherwise a) (otherwise b) = StatementsAlike s s' a b
 
   -- two rows of statements, each under its own text
   pub StatementsAlike : List ℕ → List ℕ → Statements → Statements → Type 0

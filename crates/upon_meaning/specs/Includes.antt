@@ -11,7 +11,7 @@ abbrev mutual
   StatementIncludes name (inline_expr e span) = ⊥
   StatementIncludes name (include word value) = word.text ≡ name
   StatementIncludes name (if_else negated e body other) = Includes name body ⊎ ElseIncludes name other
-  StatementIncludes name (for_loop names e body) = Includes name body
+  StatementIncludes name (for_loop names e body other) = Includes name body ⊎ ElseIncludes name other
   StatementIncludes name (with e word body) = Includes name body
 
   -- in statements
@@ -19,7 +19,7 @@ abbrev mutual
   Includes name no_statements = ⊥
   Includes name (statement_then t ts) = StatementIncludes name t ⊎ Includes name ts
 
-  -- in the other branch of an `if`
+  -- in the other branch of an `if` or a `for`
   pub ElseIncludes : List ℕ → Else → Type 0
   ElseIncludes name no_else = ⊥
   ElseIncludes name (otherwise body) = Includes name body

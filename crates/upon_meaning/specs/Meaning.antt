@@ -75,9 +75,16 @@ abbrev pub each_of : {Q : Type 0} → Body Q → RunningTemplate → Finding (Li
 each_of body running (found items) env q = each body (length items) 0 items env q
 each_of body running (at_fault f) env q = fault_outcome (fault_in running f) q
 
+-- the same, or what the other branch gives where there is no item
+abbrev pub each_or : {Q : Type 0} → Body Q → Body Q → RunningTemplate → Finding (List (List Binding)) → Environment → Q
+    → Outcome Q
+each_or body other running (found []) env q = other env q
+each_or body other running (found (bs ∷ items)) env q = each_of body running (found (bs ∷ items)) env q
+each_or body other running (at_fault f) env q = each_of body running (at_fault f) env q
+
 -- a loop over a value, whose expression is here
-abbrev pub over : {Q : Type 0} → Body Q → RunningTemplate → LoopVars → Span → Environment → Val → Q → Outcome Q
-over body running names at env v q = each_of body running (items_of names v at) env q
+abbrev pub over : {Q : Type 0} → Body Q → Body Q → RunningTemplate → LoopVars → Span → Environment → Val → Q → Outcome Q
+over body other running names at env v q = each_or body other running (items_of names v at) env q
 
 module _ {V T : Type 0} (calls : Calls V) (include_means : Inclusion V T) (running : RunningTemplate) where
   abbrev mutual
@@ -91,9 +98,9 @@ module _ {V T : Type 0} (calls : Calls V) (include_means : Inclusion V T) (runni
     statement_means (if_else negated e body other) env s =
         with_value running s.templates (evaluate calls e env s.values)
         (λ v s'. choose (condition negated v) (statements_mean body env) (else_means other env) s')
-    statement_means (for_loop names e body) env s =
+    statement_means (for_loop names e body other) env s =
         with_value running s.templates (evaluate calls e env s.values)
-        (λ v s'. over (statements_mean body) running names (expression_span e) env v s')
+        (λ v s'. over (statements_mean body) (else_means other) running names (expression_span e) env v s')
     statement_means (with e word body) env s =
         with_value running s.templates (evaluate calls e env s.values)
         (λ v s'. statements_mean body (with_name word v env) s')

@@ -56,7 +56,8 @@ abbrev mutual
   StatementReads name (include word value) = GivenReads name value
   StatementReads name (if_else negated e body other) = ExpressionReads name e ⊎
       (StatementsRead name body ⊎ ElseReads name other)
-  StatementReads name (for_loop names e body) = ExpressionReads name e ⊎ StatementsRead name body
+  StatementReads name (for_loop names e body other) = ExpressionReads name e ⊎
+      (StatementsRead name body ⊎ ElseReads name other)
   StatementReads name (with e word body) = ExpressionReads name e ⊎ StatementsRead name body
 
   -- in statements
@@ -64,7 +65,7 @@ abbrev mutual
   StatementsRead name no_statements = ⊥
   StatementsRead name (statement_then t ts) = StatementReads name t ⊎ StatementsRead name ts
 
-  -- in the other branch of an `if`
+  -- in the other branch of an `if` or a `for`
   pub ElseReads : List ℕ → Else → Type 0
   ElseReads name no_else = ⊥
   ElseReads name (otherwise body) = StatementsRead name body

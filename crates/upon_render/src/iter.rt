@@ -7,7 +7,7 @@ ghost use Rattle.upon_types.specs.Span.{LiesIn};
 ghost use Rattle.upon_types.specs.View.{view};
 ghost use Rattle.upon_render.specs.Answer.{AnswersAlways, Answers, TellsFault, maybe_view, is_borrowed, IsLentIfAny, Lends};
 ghost use Rattle.upon_render.specs.Environment.{first_bound};
-ghost use Rattle.upon_render.specs.Cursor.{advance, loop_bindings, loop_walk, lends_bound};
+ghost use Rattle.upon_render.specs.Cursor.{advance, is_over, loop_bindings, loop_walk, lends_bound};
 ghost use Rattle.upon_render.specs.Items.{items_of};
 ghost use Rattle.upon_render.specs.Lookup.{bindings_walk, maybe_bound, key_walk, state_map, state_walk};
 ghost use Rattle.upon_render.specs.LoopItems.{names_of_both, IsNoList, IsNoMap, KeysRise, given, is_lent_here, is_lent_rest, is_lent_item, items_left, item_of, binds};
@@ -83,6 +83,13 @@ impl<'a> LoopState<'a> {
         };
         self.here = Some(Here { index, item });
         Some(())
+    }
+
+    /// Whether no item is left. It takes no memory.
+    pub fn is_empty(&self) -> bool
+        ensures { result ≡ is_over (cursor self.now) }
+    {
+        self.rest.len() == 0
     }
 
     /// What the loop binds to the path, or `None` where it does not bind the name that is the path's first member, and

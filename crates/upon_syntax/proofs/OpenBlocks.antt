@@ -106,14 +106,17 @@ one_closed : (closer : Closer) (kind : Block) (has_else : Bool) (span : Span) (s
     → kinds_after closer (kinds_of (opened kind has_else span ∷ stack)) ≡ Some (kinds_of (after_closer closer (opened kind has_else span ∷ stack)))
 one_closed else_if if_block true span stack h = absurd cc
 one_closed else_if if_block false span stack h = refl
-one_closed else_if for_block has_else span stack h = absurd cc
+one_closed else_if for_block true span stack h = absurd cc
+one_closed else_if for_block false span stack h = absurd cc
 one_closed else_if with_block has_else span stack h = absurd cc
 one_closed plain_else if_block true span stack h = absurd cc
 one_closed plain_else if_block false span stack h = refl
-one_closed plain_else for_block has_else span stack h = absurd cc
+one_closed plain_else for_block true span stack h = absurd cc
+one_closed plain_else for_block false span stack h = refl
 one_closed plain_else with_block has_else span stack h = absurd cc
 one_closed end_if if_block has_else span stack h = refl
-one_closed end_if for_block has_else span stack h = absurd cc
+one_closed end_if for_block true span stack h = absurd cc
+one_closed end_if for_block false span stack h = absurd cc
 one_closed end_if with_block has_else span stack h = absurd cc
 one_closed end_for if_block true span stack h = absurd cc
 one_closed end_for if_block false span stack h = absurd cc
@@ -121,7 +124,8 @@ one_closed end_for for_block has_else span stack h = refl
 one_closed end_for with_block has_else span stack h = absurd cc
 one_closed end_with if_block true span stack h = absurd cc
 one_closed end_with if_block false span stack h = absurd cc
-one_closed end_with for_block has_else span stack h = absurd cc
+one_closed end_with for_block true span stack h = absurd cc
+one_closed end_with for_block false span stack h = absurd cc
 one_closed end_with with_block has_else span stack h = refl
 
 closed : (closer : Closer) (stack : List OpenBlock) → takes stack closer ≡ true → kinds_after closer (kinds_of stack) ≡ Some (kinds_of (after_closer closer stack))

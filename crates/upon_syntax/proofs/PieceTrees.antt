@@ -16,7 +16,7 @@ use Rattle.upon_types.specs.declared.types.ast.Stmt.{Stmt}
 use Rattle.upon_types.specs.declared.types.ast.Stmt as stmt
 use Rattle.upon_types.proofs.Trees.{view-Raw, view-InlineExpr, view-Include}
 use Rattle.upon_language.specs.Cut.{Lexeme}
-use Rattle.upon_language.specs.Blocks.{if_block, for_block, with_block}
+use Rattle.upon_language.specs.Blocks.{Block, if_block, for_block, with_block, plain_else, block_takes}
 use Rattle.upon_language.specs.Grammar.{IsStatement, AreStatements, IsElse}
 use Rattle.upon_tags.specs.BlockTags.{if_tag, else_if_tag, else_tag, for_tag, with_tag, include_tag, tag_of}
 use Rattle.upon_syntax.specs.Pieces.{Piece, raw_piece, inline_piece, block_piece, IsPiece, ArePieces, piece_of, pieces_of, BlockKind, blocks_after, else_after, else_if_after, LeaveOpen}
@@ -24,7 +24,7 @@ use Rattle.upon_syntax.specs.declared.compile.parse.piece.Piece.{Piece as CodePi
 use Rattle.upon_syntax.specs.declared.compile.parse.piece.Piece.TheVariants as code_piece
 use Rattle.upon_tags.specs.declared.compile.parse.tag.Tag.{Tag}
 use Rattle.upon_tags.specs.declared.compile.parse.tag.Tag.TheVariants as code_tag
-use Rattle.upon_syntax.specs.PieceTrees.{IsBlockEnd, ReadsOut, Reads, Ends, EndEach, Closes, MayPrecede, Pushes, Enters, Leaves, ReadsPiece, IsClosed, ReadsWith}
+use Rattle.upon_syntax.specs.PieceTrees.{branch_of, with_branch, IsBlockEnd, ReadsOut, Reads, Ends, EndEach, Closes, MayPrecede, Pushes, Enters, Leaves, ReadsPiece, IsClosed, ReadsWith}
 use Rattle.upon_syntax.specs.declared.compile.parse.tree.BlockEnd.{BlockEnd}
 use Rattle.upon_syntax.specs.declared.compile.parse.tree.BlockEnd.TheVariants.{If, For, With}
 use Rattle.upon_syntax.specs.declared.compile.parse.tree.OpenBlock.{OpenBlock}
@@ -133,33 +133,57 @@ before_else_if ((if_block, true) ∷ kinds) next e = absurd cc
 before_else_if ((for_block, has_else) ∷ kinds) next e = absurd cc
 before_else_if ((with_block, has_else) ∷ kinds) next e = absurd cc
 
-pub before_else : (kinds next : List BlockKind) → else_after kinds ≡ Some next → (around : List BlockKind) × (kinds ≡ (if_block, false) ∷ around) × (next ≡ (if_block, true) ∷ around)
+pub before_else : (kinds next : List BlockKind) → else_after kinds ≡ Some next → (kind : Block) × (around : List BlockKind) × (block_takes kind false plain_else ≡ true) × (kinds ≡ (kind, false) ∷ around) × (next ≡ (kind, true) ∷ around)
 before_else [] next e = absurd cc
-before_else ((if_block, false) ∷ kinds) next e = (kinds, refl, sym (same_Some _ _ e))
+before_else ((if_block, false) ∷ kinds) next e = (if_block, kinds, refl, refl, sym (same_Some _ _ e))
 before_else ((if_block, true) ∷ kinds) next e = absurd cc
-before_else ((for_block, has_else) ∷ kinds) next e = absurd cc
+before_else ((for_block, false) ∷ kinds) next e = (for_block, kinds, refl, refl, sym (same_Some _ _ e))
+before_else ((for_block, true) ∷ kinds) next e = absurd cc
 before_else ((with_block, has_else) ∷ kinds) next e = absurd cc
 
--- the innermost end: of an `if` whose `else` comes before, of a loop and of a `with`
-pub only_end : (end : BlockEnd) → Ends (if_block, true) end → end ≡ If None
-only_end (If None) h = refl
-only_end (If (Some other)) h = absurd h
-only_end For h = absurd h
-only_end With h = absurd h
+-- the innermost end: of an `if`, of a loop and of a `with`
+pub if_end : (end : BlockEnd) → Ends (if_block, false) end → end ≡ If (branch_of end)
+if_end (If other) h = refl
+if_end (For other) h = absurd h
+if_end With h = absurd h
 
-pub for_end : (has_else : Bool) (end : BlockEnd) → Ends (for_block, has_else) end → end ≡ For
-for_end has_else For h = refl
-for_end has_else (If other) h = absurd h
-for_end has_else With h = absurd h
+pub for_end : (end : BlockEnd) → Ends (for_block, false) end → end ≡ For (branch_of end)
+for_end (For other) h = refl
+for_end (If other) h = absurd h
+for_end With h = absurd h
 
 pub with_end : (has_else : Bool) (end : BlockEnd) → Ends (with_block, has_else) end → end ≡ With
 with_end has_else With h = refl
 with_end has_else (If other) h = absurd h
-with_end has_else For h = absurd h
+with_end has_else (For other) h = absurd h
+
+-- an end whose `else` comes before, with that
+with_branch_ends : (kind : Block) (end : BlockEnd) (other : Scope) → block_takes kind false plain_else ≡ true → Ends (kind, true) end → Ends (kind, false) (with_branch other end)
+with_branch_ends if_block (If None) other t h = tt
+with_branch_ends if_block (If (Some before)) other t h = absurd h
+with_branch_ends if_block (For before) other t h = absurd h
+with_branch_ends if_block With other t h = absurd h
+with_branch_ends for_block (For None) other t h = tt
+with_branch_ends for_block (For (Some before)) other t h = absurd h
+with_branch_ends for_block (If before) other t h = absurd h
+with_branch_ends for_block With other t h = absurd h
+with_branch_ends with_block end other t h = absurd cc
+
+with_branch_reads : (s : List ℕ) (kind : Block) (end : BlockEnd) (other : Scope) (before start mid after : List Lexeme) → block_takes kind false plain_else ≡ true → Ends (kind, true) end → IsPiece s (block_piece else_tag) before start → AreStatements s (scope_of other) start mid → IsBlockEnd s end mid after → IsBlockEnd s (with_branch other end) before after
+with_branch_reads s if_block (If None) other before start mid after t h is inside ends = inl (start, mid, is, inside, ends)
+with_branch_reads s if_block (If (Some branch)) other before start mid after t h is inside ends = absurd h
+with_branch_reads s if_block (For branch) other before start mid after t h is inside ends = absurd h
+with_branch_reads s if_block With other before start mid after t h is inside ends = absurd h
+with_branch_reads s for_block (For None) other before start mid after t h is inside ends = (start, mid, is, inside, ends)
+with_branch_reads s for_block (For (Some branch)) other before start mid after t h is inside ends = absurd h
+with_branch_reads s for_block (If branch) other before start mid after t h is inside ends = absurd h
+with_branch_reads s for_block With other before start mid after t h is inside ends = absurd h
+with_branch_reads s with_block end other before start mid after t h is inside ends = absurd cc
 
 -- the tag of an `if`
-pub reads_if : (old outer new : TreeBuilder) (negated : Bool) (e : Expression) (body : Scope) (other : Option Scope) (end : BlockEnd) (t : Stmt) → Leaves old body end outer → end ≡ If other → Pushes t outer new → statement_of t ≡ if_else negated e (scope_of body) (else_of other) → ReadsPiece (block_piece (if_tag negated e)) old new
-reads_if old outer new negated e body other end t l is_if p same =
+pub reads_if : (old outer new : TreeBuilder) (negated : Bool) (e : Expression) (body : Scope) (other : Option Scope) (end : BlockEnd) (t : Stmt) → Leaves old body end outer → MayPrecede (block_piece (if_tag negated e)) old → other ≡ branch_of end → Pushes t outer new → statement_of t ≡ if_else negated e (scope_of body) (else_of other) → ReadsPiece (block_piece (if_tag negated e)) old new
+reads_if old outer new negated e body other end t l may branch p same =
+    let is_if : end ≡ If other = if_end end (last_end (block_piece (if_tag negated e)) (if_block, false) old outer body end l may (λ kinds next opens. (kinds, sym (same_Some _ _ opens)))) ∙ ap If (sym branch) in
     reads_whole (block_piece (if_tag negated e)) (if_block, false) old outer new body end t l p
     (λ kinds next opens. sym (same_Some _ _ opens))
     (λ s before start mid after is inside ends.
@@ -168,27 +192,38 @@ reads_if old outer new negated e body other end t l is_if p same =
     subst F (sym same) (start, mid, is, inside, subst G is_if ends))
 
 -- of an `else if`
-pub reads_else_if : (old outer new : TreeBuilder) (negated : Bool) (e : Expression) (body chain : Scope) (other : Option Scope) (end : BlockEnd) (t : Stmt) → Leaves old body end outer → end ≡ If other → Enters (If (Some chain)) outer new → scope_of chain ≡ statement_then (statement_of t) no_statements → statement_of t ≡ if_else negated e (scope_of body) (else_of other) → ReadsPiece (block_piece (else_if_tag negated e)) old new
-reads_else_if old outer new negated e body chain other end t l is_if p only same =
+pub reads_else_if : (old outer new : TreeBuilder) (negated : Bool) (e : Expression) (body chain : Scope) (other : Option Scope) (end : BlockEnd) (t : Stmt) → Leaves old body end outer → MayPrecede (block_piece (else_if_tag negated e)) old → other ≡ branch_of end → Enters (If (Some chain)) outer new → scope_of chain ≡ statement_then (statement_of t) no_statements → statement_of t ≡ if_else negated e (scope_of body) (else_of other) → ReadsPiece (block_piece (else_if_tag negated e)) old new
+reads_else_if old outer new negated e body chain other end t l may branch p only same =
+    let is_if : end ≡ If other = if_end end (last_end (block_piece (else_if_tag negated e)) (if_block, false) old outer body end l may (λ kinds next f. let b = before_else_if kinds next f in (b.0, b.2))) ∙ ap If (sym branch) in
     reads_branch (block_piece (else_if_tag negated e)) (if_block, false) old outer new body end (If (Some chain)) l p before_else_if tt
     (λ s before start mid after is inside ends.
     let F : Statements → Type 0 = λ v. IsElse s (otherwise v) before after in
     let G : BlockEnd → Type 0 = λ v. IsBlockEnd s v mid after in
     subst F (sym (only ∙ ap (λ v. statement_then v no_statements) same)) (inr (start, mid, is, inside, subst G is_if ends)))
 
--- of an `else`
-pub reads_else : (old outer new : TreeBuilder) (body : Scope) (end : BlockEnd) → Leaves old body end outer → MayPrecede (block_piece else_tag) old → Enters (If (Some body)) outer new → ReadsPiece (block_piece else_tag) old new
-reads_else old outer new body end l may p =
-    let is_end = only_end end (last_end (block_piece else_tag) (if_block, true) old outer body end l may (λ kinds next e. let b = before_else kinds next e in (b.0, b.2))) in
-    reads_branch (block_piece else_tag) (if_block, true) old outer new body end (If (Some body)) l p before_else tt
-    (λ s before start mid after is inside ends.
-    let G : BlockEnd → Type 0 = λ v. IsBlockEnd s v mid after in
-    inl (start, mid, is, inside, subst G is_end ends))
+-- of an `else`, of an `if` or a loop
+pub reads_else : (old outer new : TreeBuilder) (body : Scope) (end last : BlockEnd) → Leaves old body end outer → MayPrecede (block_piece else_tag) old → last ≡ with_branch body end → Enters last outer new → ReadsPiece (block_piece else_tag) old new
+reads_else old outer new body end last l may is_last p =
+    let F : List BlockKind → Type 0 = λ v. Closes v old in
+    let m = before_else may.0 may.1 may.2 in
+    let ends = (closes_inside old outer body end (m.0, true) m.1 l (subst F m.4 may.3)).0 in
+    record {
+      reads = λ s before rest is r.
+          let q = reads_inside s old outer body end rest l r in
+          let E : BlockEnd → Type 0 = λ v. IsBlockEnd s v before q.1 in
+          reads_end s outer new last before q.1 p (subst E (sym is_last) (with_branch_reads s m.0 end body before rest q.0 q.1 m.2 ends is q.2 q.3)) q.4;
+      closes = λ kinds next e h.
+          let b = before_else kinds next e in
+          let x = closes_inside old outer body end (b.0, true) b.1 l (subst F b.4 h) in
+          let G : List BlockKind → Type 0 = λ v. Closes v new in
+          let H : BlockEnd → Type 0 = λ v. Ends (b.0, false) v in
+          subst G (sym b.3) (closes_end outer new last (b.0, false) b.1 p (subst H (sym is_last) (with_branch_ends b.0 end body b.2 x.0)) x.1);
+    }
 
 -- of a loop
-pub reads_for : (old outer new : TreeBuilder) (names : LoopVars) (e : Expression) (body : Scope) (end : BlockEnd) (t : Stmt) → Leaves old body end outer → MayPrecede (block_piece (for_tag names e)) old → Pushes t outer new → statement_of t ≡ for_loop names e (scope_of body) → ReadsPiece (block_piece (for_tag names e)) old new
-reads_for old outer new names e body end t l may p same =
-    let is_end = for_end false end (last_end (block_piece (for_tag names e)) (for_block, false) old outer body end l may (λ kinds next opens. (kinds, sym (same_Some _ _ opens)))) in
+pub reads_for : (old outer new : TreeBuilder) (names : LoopVars) (e : Expression) (body : Scope) (other : Option Scope) (end : BlockEnd) (t : Stmt) → Leaves old body end outer → MayPrecede (block_piece (for_tag names e)) old → other ≡ branch_of end → Pushes t outer new → statement_of t ≡ for_loop names e (scope_of body) (else_of other) → ReadsPiece (block_piece (for_tag names e)) old new
+reads_for old outer new names e body other end t l may branch p same =
+    let is_end : end ≡ For other = for_end end (last_end (block_piece (for_tag names e)) (for_block, false) old outer body end l may (λ kinds next opens. (kinds, sym (same_Some _ _ opens)))) ∙ ap For (sym branch) in
     reads_whole (block_piece (for_tag names e)) (for_block, false) old outer new body end t l p
     (λ kinds next opens. sym (same_Some _ _ opens))
     (λ s before start mid after is inside ends.

@@ -1,12 +1,12 @@
 -- The tree of pieces that are read from the last to the first: statements, and around them the blocks that end there.
-use Rattle.std.specs.Prelude.{◌≡◌, ℕ, List, [], ◌∷◌, ◌++◌, reverse, true, false, Some, None, codes}
+use Rattle.std.specs.Prelude.{◌≡◌, ℕ, List, [], ◌∷◌, ◌++◌, reverse, true, false, Option, Some, None, codes}
 use Rattle.upon_types.specs.Tree.{Statements}
 use Rattle.upon_types.specs.Ast.{scope_of, statements_of, else_of}
 use Rattle.upon_types.specs.declared.types.ast.Scope.{Scope}
 use Rattle.upon_types.specs.declared.types.ast.Stmt.{Stmt}
 use Rattle.upon_language.specs.Cut.{Lexeme}
 use Rattle.upon_language.specs.Blocks.{if_block, for_block, with_block}
-use Rattle.upon_language.specs.Grammar.{AreStatements, IsElse, IsWordTag}
+use Rattle.upon_language.specs.Grammar.{AreStatements, IsElse, IsForElse, IsWordTag}
 use Rattle.upon_syntax.specs.Pieces.{Piece, IsPiece, ArePieces, pieces_of, BlockKind, blocks_after, LeaveOpen}
 use Rattle.upon_syntax.specs.declared.compile.parse.piece.Piece.{Piece as CodePiece}
 use Rattle.upon_syntax.specs.declared.compile.parse.tree.BlockEnd.{BlockEnd}
@@ -18,11 +18,24 @@ use Rattle.upon_syntax.specs.declared.compile.parse.tree.TreeBuilder.{TreeBuilde
 abbrev pub statements_back : List Stmt → Statements
 statements_back ts = statements_of (reverse ts)
 
--- from the first of these tokens up to the rest is this end of a block: for an `if` its other branch, then its end tag
+-- from the first of these tokens up to the rest is this end of a block: for an `if` or a `for` its other branch, then its
+-- end tag
 abbrev pub IsBlockEnd : List ℕ → BlockEnd → List Lexeme → List Lexeme → Type 0
 IsBlockEnd s (If other) before rest = IsElse s (else_of other) before rest
-IsBlockEnd s For before rest = IsWordTag s (codes "endfor") before rest
+IsBlockEnd s (For other) before rest = IsForElse s (else_of other) before rest
 IsBlockEnd s With before rest = IsWordTag s (codes "endwith") before rest
+
+-- the other branch of an end, where it has one
+abbrev pub branch_of : BlockEnd → Option Scope
+branch_of (If other) = other
+branch_of (For other) = other
+branch_of With = None
+
+-- an end with this other branch; a `with` has none
+abbrev pub with_branch : Scope → BlockEnd → BlockEnd
+with_branch other (If before) = If (Some other)
+with_branch other (For before) = For (Some other)
+with_branch other With = With
 
 -- statements, then the end of each block around them with the statements after it, from the innermost on
 abbrev pub ReadsOut : List ℕ → List Stmt → List OpenBlock → List Lexeme → Type 0
@@ -38,7 +51,8 @@ Reads s tree before = ReadsOut s tree.stmts.items (reverse tree.blocks.items) be
 abbrev pub Ends : BlockKind → BlockEnd → Type 0
 Ends (if_block, false) (If other) = Unit {0}
 Ends (if_block, true) (If None) = Unit {0}
-Ends (for_block, has_else) For = Unit {0}
+Ends (for_block, false) (For other) = Unit {0}
+Ends (for_block, true) (For None) = Unit {0}
 Ends (with_block, has_else) With = Unit {0}
 Ends block end = ⊥
 

@@ -44,10 +44,11 @@ pieces_of pieces = map piece_of pieces
 abbrev pub BlockKind : Type 0
 BlockKind = Block × Bool
 
--- an `if` that may go on with an `else`
+-- an `if` or a `for` that may go on with an `else`
 abbrev pub else_after : List BlockKind → Option (List BlockKind)
 else_after [] = None
 else_after ((if_block, false) ∷ blocks) = Some ((if_block, true) ∷ blocks)
+else_after ((for_block, false) ∷ blocks) = Some ((for_block, true) ∷ blocks)
 else_after (other ∷ blocks) = None
 
 -- an `if` that may go on with an `else if`

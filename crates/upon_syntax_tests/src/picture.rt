@@ -65,6 +65,7 @@ fn add_stmt(stmt: &Stmt, source: &str, out: &mut String) -> Result<(), AllocErro
             add_vars(&for_loop.vars, source, out)?;
             add_expr(&for_loop.iterable, source, out)?;
             add_scope(&for_loop.body, source, out)?;
+            add_else(&for_loop.else_branch, source, out)?;
         }
         Stmt::With(with) => {
             out.push_str(" (with ")?;
@@ -81,7 +82,12 @@ fn add_if(if_else: &IfElse, source: &str, out: &mut String) -> Result<(), AllocE
     out.push_str(if if_else.not { " (if not" } else { " (if" })?;
     add_expr(&if_else.cond, source, out)?;
     add_scope(&if_else.then_branch, source, out)?;
-    if let Some(other) = &if_else.else_branch {
+    add_else(&if_else.else_branch, source, out)
+}
+
+#[cycle(statement)]
+fn add_else(branch: &Option<Scope>, source: &str, out: &mut String) -> Result<(), AllocError> {
+    if let Some(other) = branch {
         out.push_str(" (else")?;
         add_scope(other, source, out)?;
         out.push_str(")")?;

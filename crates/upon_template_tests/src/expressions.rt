@@ -143,10 +143,6 @@ fn refused_texts(rt: HostRuntime) -> std::result::Result<(), Fail> {
             "invalid syntax: unclosed `if` block at 0..10",
         ),
         (
-            "{% for x in [] %}{% else %}{% endfor %}",
-            "invalid syntax: unexpected `else` block at 17..27",
-        ),
-        (
             "{% for x as [1] %}",
             "invalid syntax: expected keyword `in`, found keyword `as` at 9..11",
         ),

@@ -53,6 +53,55 @@ fn texts(rt: HostRuntime) -> std::result::Result<(), Fail> {
 }
 
 #[test]
+fn other_branches(rt: HostRuntime) -> std::result::Result<(), Fail> {
+    let alloc = rt.alloc();
+    let rows = [
+        ("{% for x in [] %}{% else %}{% endfor %}", ""),
+        ("{% for x in [] %}a{% else %}b{% endfor %}", "b"),
+        ("{% for x in [1] %}a{% else %}b{% endfor %}", "a"),
+        (
+            "{% for x in [1, 2] %}{{ x }}{% else %}b{% endfor %}c",
+            "12c",
+        ),
+        ("{% for k, v in {} %}{% else %}e{% endfor %}", "e"),
+        (
+            "{% for x in {} %}{% else %}e{% endfor %}",
+            "render error: cannot unpack map item into one variable at 7..8",
+        ),
+        ("{% for n in [] %}{% else %}{{ n }}{% endfor %}", "5"),
+        (
+            "{% for y in [7, 8] %}{% for x in [] %}{% else %}{{ loop.index }}{% endfor %}{% endfor %}",
+            "01",
+        ),
+        (
+            "{% for x in [] %}{% else %}{% for y in [] %}{% else %}{% if n %}d{% else %}e{% endif %}{% endfor %}{% endfor %}",
+            "d",
+        ),
+        (
+            "{% for x in [] %}{% else if 1 %}{% endfor %}",
+            "invalid syntax: unexpected `else if` block at 17..32",
+        ),
+        (
+            "{% for x in [] %}{% else %}{% else %}{% endfor %}",
+            "invalid syntax: unexpected `else` block at 27..37",
+        ),
+        (
+            "{% for x in [] %}{% else %}{% else if 1 %}{% endfor %}",
+            "invalid syntax: unexpected `else if` block at 27..42",
+        ),
+        (
+            "{% for x in [] %}{% else %}",
+            "invalid syntax: unclosed `for` block at 0..17",
+        ),
+        (
+            "{% with 1 as x %}{% else %}{% endwith %}",
+            "invalid syntax: unexpected `else` block at 17..27",
+        ),
+    ];
+    all_answer(alloc, &Engine::new(alloc), &context(alloc)?, &rows)
+}
+
+#[test]
 fn faults(rt: HostRuntime) -> std::result::Result<(), Fail> {
     let alloc = rt.alloc();
     let rows = [

@@ -97,7 +97,7 @@ view-With w = search (rules, statement_lemmas)
 pub if_of-out : (i : IfElse) → if_of i ≡ if_else (out-IfElse i).not (expression_of (out-IfElse i).cond) (scope_of (out-IfElse i).then_branch) (else_of (out-IfElse i).else_branch)
 if_of-out i = search (rules, statement_lemmas)
 
-pub for_of-out : (f : ForLoop) → for_of f ≡ for_loop (loop_vars_of (out-ForLoop f).vars) (expression_of (out-ForLoop f).iterable) (scope_of (out-ForLoop f).body)
+pub for_of-out : (f : ForLoop) → for_of f ≡ for_loop (loop_vars_of (out-ForLoop f).vars) (expression_of (out-ForLoop f).iterable) (scope_of (out-ForLoop f).body) (else_of (out-ForLoop f).else_branch)
 for_of-out f = search (rules, statement_lemmas)
 
 pub with_of-out : (w : With) → with_of w ≡ with (expression_of (out-With w).expr) (ident_of (out-With w).name) (scope_of (out-With w).body)

@@ -32,7 +32,7 @@ statement_level (Stmt-F.With t) = t
 
 -- of a loop
 abbrev pub for_level : ForLoop-F Statement Statement Statement Statements Statement → Statement
-for_level f = for_loop (loop_vars_of f.vars) (expression_of f.iterable) f.body
+for_level f = for_loop (loop_vars_of f.vars) (expression_of f.iterable) f.body (else_from f.else_branch)
 
 -- of an `if`
 abbrev pub if_level : IfElse-F Statement Statement Statement Statements Statement → Statement
@@ -84,6 +84,6 @@ tree_of template = scope_of template.scope
 abbrev pub statements_of : List Stmt → Statements
 statements_of ts = statements_from (map statement_of ts)
 
--- the other branch of an `if`
+-- the other branch of an `if` or a `for`
 abbrev pub else_of : Option Scope → Else
 else_of branch = else_from (option_map scope_of branch)

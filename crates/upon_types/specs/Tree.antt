@@ -11,7 +11,7 @@ mutual
     inline_expr : Expression → Span → Statement
     include : Ident → Option Expression → Statement
     if_else : Bool → Expression → Statements → Else → Statement
-    for_loop : LoopVars → Expression → Statements → Statement
+    for_loop : LoopVars → Expression → Statements → Else → Statement
     with : Expression → Ident → Statements → Statement
     deriving IsSet as Statement-set
 

@@ -70,7 +70,8 @@ abbrev mutual
   StatementSpans P (inline_expr e span) = ExpressionSpans P e × P span
   StatementSpans P (include word value) = P word.span × GivenSpans P value
   StatementSpans P (if_else negated e body other) = ExpressionSpans P e × StatementsSpans P body × ElseSpans P other
-  StatementSpans P (for_loop names e body) = LoopNamesSpans P names × ExpressionSpans P e × StatementsSpans P body
+  StatementSpans P (for_loop names e body other) =
+      LoopNamesSpans P names × ExpressionSpans P e × StatementsSpans P body × ElseSpans P other
   StatementSpans P (with e word body) = ExpressionSpans P e × P word.span × StatementsSpans P body
 
   -- those of each statement

@@ -1,6 +1,6 @@
 // The instructions of statements. A jump past instructions is written once they are there.
-ghost use Rattle.std.specs.Prelude.{◌≡◌, ◌++◌, OnOk, length};
-ghost use Rattle.upon_machine.specs.Code.{jump_unless, statement_code, statements_code};
+ghost use Rattle.std.specs.Prelude.{◌≡◌, ◌+◌, ◌++◌, IfOk, OnOk, length};
+ghost use Rattle.upon_machine.specs.Code.{jump_unless, statement_code, statements_code, turns};
 ghost use Rattle.upon_types.specs.Ast.{for_of, if_of, scope_of, statement_of, with_of};
 ghost use Rattle.upon_instructions.specs.Program.{instr_of};
 
@@ -113,17 +113,40 @@ impl Compiler {
             vars,
             iterable,
             body,
+            else_branch,
         } = for_loop;
         let span = iterable.span();
         self.compile_expr(iterable)?;
         self.push(Instr::LoopStart(vars, span))?;
+        let Some(other) = else_branch else {
+            let next = self.compile_turns(body)?;
+            let end = self.len();
+            self.replace(next, Instr::LoopNext(end));
+            return Ok(());
+        };
+        let none = self.len();
+        self.push(Instr::LoopElse(0))?;
+        let next = self.compile_turns(body)?;
+        let other_start = self.len();
+        self.replace(none, Instr::LoopElse(other_start));
+        self.compile_scope(other)?;
+        let end = self.len();
+        self.replace(next, Instr::LoopNext(end));
+        Ok(())
+    }
+
+    /// The turns of a loop: its body, and the way back to the next turn, whose number is answered. Where the loop ends is
+    /// written into that later.
+    #[cycle(statement)]
+    fn compile_turns(&mut self, body: Scope) -> Result<usize, AllocError>
+        ensures { IfOk result (λ next. (next ≡ length (code_of self.old))
+            × (code_of self.new ≡ code_of self.old ++ turns next 0 (statements_code (next + 1) (scope_of body)))) }
+    {
         let next = self.len();
         self.push(Instr::LoopNext(0))?;
         self.compile_scope(body)?;
         self.push(Instr::Jump(next))?;
-        let end = self.len();
-        self.replace(next, Instr::LoopNext(end));
-        Ok(())
+        Ok(next)
     }
 
     /// The instructions of a `with`.

@@ -73,7 +73,7 @@ module _ (s : List ℕ) (begin l : Lexeme) (ls : List Lexeme) (begins : begin.to
       number_expression s l ls is e h.3 (subst F (sym inside) h.5)
   statement_number (include name context) rest h = absurd (not_block begin begins (by_block s _ begin (l ∷ ls) h.0 h.3))
   statement_number (if_else negated e body other) rest h = absurd (not_block begin begins (by_block s _ begin (l ∷ ls) h.2.0 h.2.2))
-  statement_number (for_loop names e body) rest h = absurd (not_block begin begins (by_block s _ begin (l ∷ ls) h.2.0 h.2.4))
+  statement_number (for_loop names e body other) rest h = absurd (not_block begin begins (by_block s _ begin (l ∷ ls) h.2.0 h.2.4))
   statement_number (with e name body) rest h = absurd (not_block begin begins (by_block s _ begin (l ∷ ls) h.2.0 h.2.4))
 
   -- no tree reads from a begin and a number whose text denotes no integer

@@ -51,7 +51,7 @@ statement_begins s (raw span) l ls rest h = by_first Raw span l ls rest refl h
 statement_begins s (inline_expr e span) l ls rest h = by_first BeginExpr h.0 l ls h.2 refl h.4
 statement_begins s (include name context) l ls rest h = ap begins_statement (by_block s _ l ls h.0 h.3)
 statement_begins s (if_else negated e body other) l ls rest h = ap begins_statement (by_block s _ l ls h.2.0 h.2.2)
-statement_begins s (for_loop names e body) l ls rest h = ap begins_statement (by_block s _ l ls h.2.0 h.2.4)
+statement_begins s (for_loop names e body other) l ls rest h = ap begins_statement (by_block s _ l ls h.2.0 h.2.4)
 statement_begins s (with e name body) l ls rest h = ap begins_statement (by_block s _ l ls h.2.0 h.2.4)
 
 pub no_statement_begins : (s : List ℕ) (l : Lexeme) (ls : List Lexeme) → begins_statement l.token ≡ false → NothingReads s (l ∷ ls)

@@ -7,7 +7,7 @@ use Rattle.upon_types.specs.Expression.{Expression}
 use Rattle.upon_types.specs.Tree.{Statement, raw, inline_expr, include, if_else, for_loop, with, Statements, no_statements, statement_then, Else, no_else, otherwise}
 use Rattle.upon_language.specs.Cut.{Lexeme}
 use Rattle.upon_language.specs.Tokens.{from_to}
-use Rattle.upon_language.specs.Grammar.{BeginsBlock, IsWordTag, IsCondition, IsIfTag, IsElseIfTag, AreLoopVars, IsForTag, IsWithTag, AreGlobals, IsStatement, AreStatements, IsElse, IsElseIf, IsIfAfterElse}
+use Rattle.upon_language.specs.Grammar.{BeginsBlock, IsWordTag, IsCondition, IsIfTag, IsElseIfTag, AreLoopVars, IsForTag, IsWithTag, AreGlobals, IsStatement, AreStatements, IsElse, IsForElse, IsElseIf, IsIfAfterElse}
 use Rattle.upon_language.proofs.Computation.ReadTokens.{Left, then_read, when, or_read, both_read, read_when, one_read, first_span, same_span, one_span, read_by, read_at, goes_read, by_read, at_read, read_keyword, keyword_read, read_name, read_text, name_read, text_read}
 use Rattle.upon_language.proofs.Computation.ReadExpressions.{read_expression, expression_read}
 
@@ -103,7 +103,7 @@ abbrev mutual
   read_statement s (inline_expr e span) before = then_read (then_read (read_by BeginExpr before) (read_expression s e)) (read_end_expr span (first_span before))
   read_statement s (include name context) before = then_read (then_read (then_read (read_begins s (codes "include") before) (read_text s name)) (read_context s context)) (read_by EndBlock)
   read_statement s (if_else negated e body other) before = then_read (then_read (read_if_tag s negated e before) (read_statements s body)) (read_else s other)
-  read_statement s (for_loop names e body) before = then_read (then_read (read_for_tag s names e before) (read_statements s body)) (read_word_tag s (codes "endfor"))
+  read_statement s (for_loop names e body other) before = then_read (then_read (read_for_tag s names e before) (read_statements s body)) (read_for_else s other)
   read_statement s (with e name body) before = then_read (then_read (read_with_tag s e name before) (read_statements s body)) (read_word_tag s (codes "endwith"))
 
   pub read_statements : List ℕ → Statements → List Lexeme → Left
@@ -113,6 +113,10 @@ abbrev mutual
   pub read_else : List ℕ → Else → List Lexeme → Left
   read_else s no_else before = read_word_tag s (codes "endif") before
   read_else s (otherwise body) before = or_read (then_read (then_read (read_word_tag s (codes "else") before) (read_statements s body)) (read_word_tag s (codes "endif"))) (read_else_if s body before)
+
+  pub read_for_else : List ℕ → Else → List Lexeme → Left
+  read_for_else s no_else before = read_word_tag s (codes "endfor") before
+  read_for_else s (otherwise body) before = then_read (then_read (read_word_tag s (codes "else") before) (read_statements s body)) (read_word_tag s (codes "endfor"))
 
   pub read_else_if : List ℕ → Statements → List Lexeme → Left
   read_else_if s no_statements before = None
@@ -140,10 +144,10 @@ mutual
       let b = both_read (then_read (read_if_tag s negated e before) (read_statements s body)) (read_else s other) rest h in
       let a = both_read (read_if_tag s negated e before) (read_statements s body) b.0 b.1 in
       (a.0, b.0, if_tag_read s negated e before a.0 a.1, statements_read s body a.0 b.0 a.2, else_read s other b.0 rest b.2)
-  statement_read s (for_loop names e body) before rest h =
-      let b = both_read (then_read (read_for_tag s names e before) (read_statements s body)) (read_word_tag s (codes "endfor")) rest h in
+  statement_read s (for_loop names e body other) before rest h =
+      let b = both_read (then_read (read_for_tag s names e before) (read_statements s body)) (read_for_else s other) rest h in
       let a = both_read (read_for_tag s names e before) (read_statements s body) b.0 b.1 in
-      (a.0, b.0, for_tag_read s names e before a.0 a.1, statements_read s body a.0 b.0 a.2, word_tag_read s (codes "endfor") b.0 rest b.2)
+      (a.0, b.0, for_tag_read s names e before a.0 a.1, statements_read s body a.0 b.0 a.2, for_else_read s other b.0 rest b.2)
   statement_read s (with e name body) before rest h =
       let b = both_read (then_read (read_with_tag s e name before) (read_statements s body)) (read_word_tag s (codes "endwith")) rest h in
       let a = both_read (read_with_tag s e name before) (read_statements s body) b.0 b.1 in
@@ -164,6 +168,13 @@ mutual
             inl (a.0, b.0, word_tag_read s (codes "else") before a.0 a.1, statements_read s body a.0 b.0 a.2, word_tag_read s (codes "endif") b.0 rest b.2)
         | inr k ↦ inr (else_if_read s body before rest k)
       ]
+
+  for_else_read : (s : List ℕ) (other : Else) (before rest : List Lexeme) → read_for_else s other before ≡ Some rest → IsForElse s other before rest
+  for_else_read s no_else before rest h = word_tag_read s (codes "endfor") before rest h
+  for_else_read s (otherwise body) before rest h =
+      let b = both_read (then_read (read_word_tag s (codes "else") before) (read_statements s body)) (read_word_tag s (codes "endfor")) rest h in
+      let a = both_read (read_word_tag s (codes "else") before) (read_statements s body) b.0 b.1 in
+      (a.0, b.0, word_tag_read s (codes "else") before a.0 a.1, statements_read s body a.0 b.0 a.2, word_tag_read s (codes "endfor") b.0 rest b.2)
 
   else_if_read : (s : List ℕ) (ts : Statements) (before rest : List Lexeme) → read_else_if s ts before ≡ Some rest → IsElseIf s ts before rest
   else_if_read s no_statements before rest h = absurd cc

@@ -37,12 +37,17 @@ unfolding computing
 else_if = has_tree_tested _ _ (lex BeginBlock 0 2 ∷ lex Whitespace 2 3 ∷ lex Keyword 3 5 ∷ lex Whitespace 5 6 ∷ lex Ident 6 7 ∷ lex Whitespace 7 8 ∷ lex EndBlock 8 10 ∷ lex BeginBlock 10 12 ∷ lex Whitespace 12 13 ∷ lex Keyword 13 17 ∷ lex Whitespace 17 18 ∷ lex Keyword 18 20 ∷ lex Whitespace 20 21 ∷ lex Ident 21 22 ∷ lex Whitespace 22 23 ∷ lex EndBlock 23 25 ∷ lex BeginBlock 25 27 ∷ lex Whitespace 27 28 ∷ lex Keyword 28 33 ∷ lex Whitespace 33 34 ∷ lex EndBlock 34 36 ∷ []) _ refl
 
 -- `{% for k, v in m %}{{ loop.index }}{% endfor %}`: the two names are from the first to the second
-for_pairs : HasTree default_delimiters (codes "{% for k, v in m %}{{ loop.index }}{% endfor %}") (one (for_loop (key_value (word (codes "k") 7 8) (word (codes "v") 10 11) (at 7 11)) (base (name (codes "m") 15 16)) (one (shows (var (bare (codes "loop") 22 26) (step Direct (by_key (word (codes "index") 27 32)) 26 32 ∷ [])) 19 35))))
+for_pairs : HasTree default_delimiters (codes "{% for k, v in m %}{{ loop.index }}{% endfor %}") (one (for_loop (key_value (word (codes "k") 7 8) (word (codes "v") 10 11) (at 7 11)) (base (name (codes "m") 15 16)) (one (shows (var (bare (codes "loop") 22 26) (step Direct (by_key (word (codes "index") 27 32)) 26 32 ∷ [])) 19 35)) no_else))
 unfolding computing
 for_pairs = has_tree_tested _ _ (lex BeginBlock 0 2 ∷ lex Whitespace 2 3 ∷ lex Keyword 3 6 ∷ lex Whitespace 6 7 ∷ lex Ident 7 8 ∷ lex Comma 8 9 ∷ lex Whitespace 9 10 ∷ lex Ident 10 11 ∷ lex Whitespace 11 12 ∷ lex Keyword 12 14 ∷ lex Whitespace 14 15 ∷ lex Ident 15 16 ∷ lex Whitespace 16 17 ∷ lex EndBlock 17 19 ∷ lex BeginExpr 19 21 ∷ lex Whitespace 21 22 ∷ lex Ident 22 26 ∷ lex Dot 26 27 ∷ lex Ident 27 32 ∷ lex Whitespace 32 33 ∷ lex EndExpr 33 35 ∷ lex BeginBlock 35 37 ∷ lex Whitespace 37 38 ∷ lex Keyword 38 44 ∷ lex Whitespace 44 45 ∷ lex EndBlock 45 47 ∷ []) _ refl
 
+-- `{% for i in m %}a{% else %}b{% endfor %}`
+for_else : HasTree default_delimiters (codes "{% for i in m %}a{% else %}b{% endfor %}") (one (for_loop (item (word (codes "i") 7 8)) (base (name (codes "m") 12 13)) (one (raw (at 16 17))) (otherwise (one (raw (at 27 28))))))
+unfolding computing
+for_else = has_tree_tested _ _ (lex BeginBlock 0 2 ∷ lex Whitespace 2 3 ∷ lex Keyword 3 6 ∷ lex Whitespace 6 7 ∷ lex Ident 7 8 ∷ lex Whitespace 8 9 ∷ lex Keyword 9 11 ∷ lex Whitespace 11 12 ∷ lex Ident 12 13 ∷ lex Whitespace 13 14 ∷ lex EndBlock 14 16 ∷ lex Raw 16 17 ∷ lex BeginBlock 17 19 ∷ lex Whitespace 19 20 ∷ lex Keyword 20 24 ∷ lex Whitespace 24 25 ∷ lex EndBlock 25 27 ∷ lex Raw 27 28 ∷ lex BeginBlock 28 30 ∷ lex Whitespace 30 31 ∷ lex Keyword 31 37 ∷ lex Whitespace 37 38 ∷ lex EndBlock 38 40 ∷ []) _ refl
+
 -- `{% for i in [1, 2] %}{% endfor %}`
-for_items : HasTree default_delimiters (codes "{% for i in [1, 2] %}{% endfor %}") (one (for_loop (item (word (codes "i") 7 8)) (base (list (two_bases (number (pos 1) 13 14) (number (pos 2) 16 17)) (at 12 18))) no_statements))
+for_items : HasTree default_delimiters (codes "{% for i in [1, 2] %}{% endfor %}") (one (for_loop (item (word (codes "i") 7 8)) (base (list (two_bases (number (pos 1) 13 14) (number (pos 2) 16 17)) (at 12 18))) no_statements no_else))
 unfolding computing
 for_items = has_tree_tested _ _ (lex BeginBlock 0 2 ∷ lex Whitespace 2 3 ∷ lex Keyword 3 6 ∷ lex Whitespace 6 7 ∷ lex Ident 7 8 ∷ lex Whitespace 8 9 ∷ lex Keyword 9 11 ∷ lex Whitespace 11 12 ∷ lex OpenBracket 12 13 ∷ lex Number 13 14 ∷ lex Comma 14 15 ∷ lex Whitespace 15 16 ∷ lex Number 16 17 ∷ lex CloseBracket 17 18 ∷ lex Whitespace 18 19 ∷ lex EndBlock 19 21 ∷ lex BeginBlock 21 23 ∷ lex Whitespace 23 24 ∷ lex Keyword 24 30 ∷ lex Whitespace 30 31 ∷ lex EndBlock 31 33 ∷ []) _ refl
 

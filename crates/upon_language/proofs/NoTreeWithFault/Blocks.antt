@@ -6,7 +6,7 @@ use Rattle.upon_types.specs.Expression.{Expression}
 use Rattle.upon_types.specs.Tree.{Statement, raw, inline_expr, include, if_else, for_loop, with, Statements, no_statements, statement_then, Else, no_else, otherwise}
 use Rattle.upon_language.specs.Cut.{Lexeme}
 use Rattle.upon_language.specs.Expressions.{IsExpression}
-use Rattle.upon_language.specs.Grammar.{IsStatement, AreStatements, IsElse, IsElseIf, IsIfAfterElse}
+use Rattle.upon_language.specs.Grammar.{IsStatement, AreStatements, IsElse, IsForElse, IsElseIf, IsIfAfterElse}
 use Rattle.upon_language.proofs.NoTreeWithFault.Fine.{Passes}
 use Rattle.upon_language.specs.Blocks.{if_block, for_block, with_block, OpenBlock, blocks_from}
 use Rattle.upon_language.proofs.NoTreeWithFault.TagBlocks.{AllTaken, Walks, walks_then, walks_nothing, walks_one, opening, walks_endif, walks_endfor, walks_endwith, walks_plain_else, walks_if, walks_for, walks_with, walks_else_if, walks_include, walks_inline}
@@ -22,10 +22,10 @@ module _ (s : List ℕ) (passes : (e : Expression) (ts rest : List Lexeme) → I
         let o = walks_if s passes negated e a ts g.0 g.2 in
         let b = opening s if_block false o.0 ∷ a in
         walks_then s a b a ts g.0 rest o.1 (walks_then s b b a g.0 g.1 rest (walks_statements body b g.0 g.1 g.3) (walks_else other o.0 a g.1 rest g.4))
-    walks_statement (for_loop names e body) a ts rest g =
+    walks_statement (for_loop names e body other) a ts rest g =
         let o = walks_for s passes names e a ts g.0 g.2 in
         let b = opening s for_block false o.0 ∷ a in
-        walks_then s a b a ts g.0 rest o.1 (walks_then s b b a g.0 g.1 rest (walks_statements body b g.0 g.1 g.3) (walks_endfor s a o.0 g.1 rest g.4))
+        walks_then s a b a ts g.0 rest o.1 (walks_then s b b a g.0 g.1 rest (walks_statements body b g.0 g.1 g.3) (walks_for_else other o.0 a g.1 rest g.4))
     walks_statement (with e name body) a ts rest g =
         let o = walks_with s passes e name a ts g.0 g.2 in
         let b = opening s with_block false o.0 ∷ a in
@@ -40,8 +40,15 @@ module _ (s : List ℕ) (passes : (e : Expression) (ts rest : List Lexeme) → I
     walks_else (otherwise body) span a ts rest (inl g) =
         let b = opening s if_block false span ∷ a in
         let c = opening s if_block true span ∷ a in
-        walks_then s b c a ts g.0 rest (walks_plain_else s a span ts g.0 g.2) (walks_then s c c a g.0 g.1 rest (walks_statements body c g.0 g.1 g.3) (walks_endif s a true span g.1 rest g.4))
+        walks_then s b c a ts g.0 rest (walks_plain_else s if_block a span ts g.0 refl g.2) (walks_then s c c a g.0 g.1 rest (walks_statements body c g.0 g.1 g.3) (walks_endif s a true span g.1 rest g.4))
     walks_else (otherwise body) span a ts rest (inr g) = walks_other_if body span a ts rest g
+
+    walks_for_else : (other : Else) (span : Span) (a : List OpenBlock) (ts rest : List Lexeme) → IsForElse s other ts rest → Walks s (opening s for_block false span ∷ a) ts a rest
+    walks_for_else no_else span a ts rest g = walks_endfor s a false span ts rest g
+    walks_for_else (otherwise body) span a ts rest g =
+        let b = opening s for_block false span ∷ a in
+        let c = opening s for_block true span ∷ a in
+        walks_then s b c a ts g.0 rest (walks_plain_else s for_block a span ts g.0 refl g.2) (walks_then s c c a g.0 g.1 rest (walks_statements body c g.0 g.1 g.3) (walks_endfor s a true span g.1 rest g.4))
 
     walks_other_if : (body : Statements) (span : Span) (a : List OpenBlock) (ts rest : List Lexeme) → IsElseIf s body ts rest → Walks s (opening s if_block false span ∷ a) ts a rest
     walks_other_if no_statements span a ts rest g = absurd g
@@ -55,7 +62,7 @@ module _ (s : List ℕ) (passes : (e : Expression) (ts rest : List Lexeme) → I
     walks_if_after (raw place) span a ts rest g = absurd g
     walks_if_after (inline_expr e place) span a ts rest g = absurd g
     walks_if_after (include name context) span a ts rest g = absurd g
-    walks_if_after (for_loop names e body) span a ts rest g = absurd g
+    walks_if_after (for_loop names e body other) span a ts rest g = absurd g
     walks_if_after (with e name body) span a ts rest g = absurd g
 
   -- after statements the same blocks are open as before

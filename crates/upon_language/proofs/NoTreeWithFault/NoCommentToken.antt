@@ -6,7 +6,7 @@ use Rattle.upon_types.specs.Tree.{Statement, raw, inline_expr, include, if_else,
 use Rattle.upon_language.specs.Cut.{Lexeme}
 use Rattle.upon_language.specs.Reading.{brackets_from}
 use Rattle.upon_language.specs.Tokens.{begins_comment}
-use Rattle.upon_language.specs.Grammar.{IsStatement, AreStatements, IsElse, IsElseIf, IsIfAfterElse}
+use Rattle.upon_language.specs.Grammar.{IsStatement, AreStatements, IsElse, IsForElse, IsElseIf, IsIfAfterElse}
 use Rattle.upon_language.specs.Tags.{IsTag, an_inline, an_include, an_if, an_else_if, an_else, an_endif, a_for, an_endfor, a_with, an_endwith}
 use Rattle.upon_language.proofs.NoTreeWithFault.Fine.{TokenFine, Fine}
 use Rattle.upon_language.proofs.NoTreeWithFault.FineAt.{last_or, fine_at}
@@ -85,7 +85,7 @@ module _ (s : List ℕ) (b : Lexeme) (more : List Lexeme) (comment : b.token ≡
     lacks_statement (inline_expr e span) ts rest g = lacks_tag ts rest (an_inline e span g)
     lacks_statement (include name context) ts rest g = lacks_tag ts rest (an_include name context g)
     lacks_statement (if_else negated e body other) ts rest g = tag_then ts g.0 rest (an_if negated e g.2) (lacks_then g.0 g.1 rest (statements_tail s body g.0 g.1 g.3) (lacks_statements body g.0 g.1 g.3) (lacks_else other g.1 rest g.4))
-    lacks_statement (for_loop names e body) ts rest g = tag_then ts g.0 rest (a_for names e g.2) (lacks_then g.0 g.1 rest (statements_tail s body g.0 g.1 g.3) (lacks_statements body g.0 g.1 g.3) (lacks_tag g.1 rest (an_endfor g.4)))
+    lacks_statement (for_loop names e body other) ts rest g = tag_then ts g.0 rest (a_for names e g.2) (lacks_then g.0 g.1 rest (statements_tail s body g.0 g.1 g.3) (lacks_statements body g.0 g.1 g.3) (lacks_for_else other g.1 rest g.4))
     lacks_statement (with e name body) ts rest g = tag_then ts g.0 rest (a_with e name g.2) (lacks_then g.0 g.1 rest (statements_tail s body g.0 g.1 g.3) (lacks_statements body g.0 g.1 g.3) (lacks_tag g.1 rest (an_endwith g.4)))
 
     lacks_statements : (tree : Statements) (ts rest : List Lexeme) → AreStatements s tree ts rest → Lacks ts rest
@@ -97,6 +97,10 @@ module _ (s : List ℕ) (b : Lexeme) (more : List Lexeme) (comment : b.token ≡
     lacks_else (otherwise body) ts rest (inl g) = tag_then ts g.0 rest (an_else g.2) (lacks_then g.0 g.1 rest (statements_tail s body g.0 g.1 g.3) (lacks_statements body g.0 g.1 g.3) (lacks_tag g.1 rest (an_endif g.4)))
     lacks_else (otherwise body) ts rest (inr g) = lacks_else_if body ts rest g
 
+    lacks_for_else : (other : Else) (ts rest : List Lexeme) → IsForElse s other ts rest → Lacks ts rest
+    lacks_for_else no_else ts rest g = lacks_tag ts rest (an_endfor g)
+    lacks_for_else (otherwise body) ts rest g = tag_then ts g.0 rest (an_else g.2) (lacks_then g.0 g.1 rest (statements_tail s body g.0 g.1 g.3) (lacks_statements body g.0 g.1 g.3) (lacks_tag g.1 rest (an_endfor g.4)))
+
     lacks_else_if : (body : Statements) (ts rest : List Lexeme) → IsElseIf s body ts rest → Lacks ts rest
     lacks_else_if no_statements ts rest g = absurd g
     lacks_else_if (statement_then t no_statements) ts rest g = lacks_if t ts rest g
@@ -107,7 +111,7 @@ module _ (s : List ℕ) (b : Lexeme) (more : List Lexeme) (comment : b.token ≡
     lacks_if (raw span) ts rest g = absurd g
     lacks_if (inline_expr e span) ts rest g = absurd g
     lacks_if (include name context) ts rest g = absurd g
-    lacks_if (for_loop names e body) ts rest g = absurd g
+    lacks_if (for_loop names e body other) ts rest g = absurd g
     lacks_if (with e name body) ts rest g = absurd g
 
 pub no_comment : (s : List ℕ) (b : Lexeme) (more : List Lexeme) → b.token ≡ BeginComment → (tree : Statements) (ts rest : List Lexeme) → AreStatements s tree ts rest → Tail ts (b ∷ more) → length rest < length (b ∷ more) → ⊥

@@ -13,7 +13,7 @@ use Rattle.upon_language.specs.Expressions.{IsExpression}
 use Rattle.upon_language.specs.Grammar.{BeginsBlock, IsWordTag, IsCondition, IsIfTag, IsElseIfTag, AreLoopVars, IsForTag, IsWithTag, AreGlobals, IsStatement}
 use Rattle.upon_language.specs.Reading.{brackets_after}
 use Rattle.upon_language.proofs.NoTreeWithFault.Fine.{TokenFine, Fine, Passes}
-use Rattle.upon_language.specs.Blocks.{Block, if_block, for_block, with_block, OpenBlock, Closer, else_if, plain_else, else_by, closer_by, takes, end_from, at_begin, by_word, by_closer, blocks_from}
+use Rattle.upon_language.specs.Blocks.{Block, if_block, for_block, with_block, OpenBlock, Closer, else_if, plain_else, else_by, closer_by, block_takes, takes, end_from, at_begin, by_word, by_closer, blocks_from}
 
 abbrev pub begins_block : Token → Bool
 begins_block BeginBlock = true
@@ -134,8 +134,9 @@ module _ (s : List ℕ) where
   walks_endif a true span ts rest g = walks_close (opening if_block true span ∷ a) a (codes "endif") ts rest g (λ mid h. refl) (λ begin mid h. refl)
   walks_endif a false span ts rest g = walks_close (opening if_block false span ∷ a) a (codes "endif") ts rest g (λ mid h. refl) (λ begin mid h. refl)
 
-  pub walks_endfor : (a : List OpenBlock) (span : Span) (ts rest : List Lexeme) → IsWordTag s (codes "endfor") ts rest → Walks s (opening for_block false span ∷ a) ts a rest
-  walks_endfor a span ts rest g = walks_close (opening for_block false span ∷ a) a (codes "endfor") ts rest g (λ mid h. refl) (λ begin mid h. refl)
+  pub walks_endfor : (a : List OpenBlock) (has_else : Bool) (span : Span) (ts rest : List Lexeme) → IsWordTag s (codes "endfor") ts rest → Walks s (opening for_block has_else span ∷ a) ts a rest
+  walks_endfor a true span ts rest g = walks_close (opening for_block true span ∷ a) a (codes "endfor") ts rest g (λ mid h. refl) (λ begin mid h. refl)
+  walks_endfor a false span ts rest g = walks_close (opening for_block false span ∷ a) a (codes "endfor") ts rest g (λ mid h. refl) (λ begin mid h. refl)
 
   pub walks_endwith : (a : List OpenBlock) (span : Span) (ts rest : List Lexeme) → IsWordTag s (codes "endwith") ts rest → Walks s (opening with_block false span ∷ a) ts a rest
   walks_endwith a span ts rest g = walks_close (opening with_block false span ∷ a) a (codes "endwith") ts rest g (λ mid h. refl) (λ begin mid h. refl)
@@ -146,10 +147,11 @@ module _ (s : List ℕ) where
   pub else_at : (t : Token) (span : Span) (ts rest : List Lexeme) → Goes t span ts rest → else_by s ts ≡ else_token t
   else_at t span ts rest g = ap (else_by s) g.is ∙ ap else_token g.of_token
 
-  pub walks_plain_else : (a : List OpenBlock) (span : Span) (ts rest : List Lexeme) → IsWordTag s (codes "else") ts rest → Walks s (opening if_block false span ∷ a) ts (opening if_block true span ∷ a) rest
-  walks_plain_else a span ts rest g = walks_close (opening if_block false span ∷ a) (opening if_block true span ∷ a) (codes "else") ts rest g
-      (λ mid h. ap (takes (opening if_block false span ∷ a)) (else_at EndBlock h.0 mid rest h.1))
-      (λ begin mid h. ap (λ (x : Closer). by_closer (Some x) (opening if_block false span ∷ a)) (else_at EndBlock h.0 mid rest h.1))
+  -- the `else` of an `if` or a `for`
+  pub walks_plain_else : (kind : Block) (a : List OpenBlock) (span : Span) (ts rest : List Lexeme) → block_takes kind false plain_else ≡ true → IsWordTag s (codes "else") ts rest → Walks s (opening kind false span ∷ a) ts (opening kind true span ∷ a) rest
+  walks_plain_else kind a span ts rest takes_it g = walks_close (opening kind false span ∷ a) (opening kind true span ∷ a) (codes "else") ts rest g
+      (λ mid h. ap (takes (opening kind false span ∷ a)) (else_at EndBlock h.0 mid rest h.1) ∙ takes_it)
+      (λ begin mid h. ap (λ (x : Closer). by_closer (Some x) (opening kind false span ∷ a)) (else_at EndBlock h.0 mid rest h.1))
 
 -- with what is known of expressions: none of their tokens begins a block
 module _ (s : List ℕ) (passes : (e : Expression) (ts rest : List Lexeme) → IsExpression s e ts rest → Passes s ts rest) where

@@ -3,7 +3,7 @@ use Rattle.std.proofs.Common.{◌≡◌, inl, inr, ℕ, ◌<◌, ◌≤◌, List
 use Rattle.upon_types.specs.declared.types.token.Token.TheVariants.{Raw}
 use Rattle.upon_types.specs.Tree.{Statement, raw, inline_expr, include, if_else, for_loop, with, Statements, no_statements, statement_then, Else, no_else, otherwise}
 use Rattle.upon_language.specs.Cut.{Lexeme}
-use Rattle.upon_language.specs.Grammar.{IsStatement, AreStatements, IsElse, IsElseIf, IsIfAfterElse}
+use Rattle.upon_language.specs.Grammar.{IsStatement, AreStatements, IsElse, IsForElse, IsElseIf, IsIfAfterElse}
 use Rattle.upon_language.specs.Tags.{IsTag, an_inline, an_include, an_if, an_else_if, an_else, an_endif, a_for, an_endfor, a_with, an_endwith}
 use Rattle.upon_language.proofs.NoTreeWithFault.Tails.{Tail, tail_same, tail_one, tail_then, longer_or_tail, only_one}
 use Rattle.upon_language.proofs.NoTreeWithFault.TagShapes.{begins_a_tag, tag_shape}
@@ -19,7 +19,7 @@ module _ (s : List ℕ) where
     statement_tail (inline_expr e span) ts rest g = tag_tail ts rest (an_inline e span g)
     statement_tail (include name context) ts rest g = tag_tail ts rest (an_include name context g)
     statement_tail (if_else negated e body other) ts rest g = tail_then ts g.0 rest (tag_tail ts g.0 (an_if negated e g.2)) (tail_then g.0 g.1 rest (statements_tail body g.0 g.1 g.3) (else_tail other g.1 rest g.4))
-    statement_tail (for_loop names e body) ts rest g = tail_then ts g.0 rest (tag_tail ts g.0 (a_for names e g.2)) (tail_then g.0 g.1 rest (statements_tail body g.0 g.1 g.3) (tag_tail g.1 rest (an_endfor g.4)))
+    statement_tail (for_loop names e body other) ts rest g = tail_then ts g.0 rest (tag_tail ts g.0 (a_for names e g.2)) (tail_then g.0 g.1 rest (statements_tail body g.0 g.1 g.3) (for_else_tail other g.1 rest g.4))
     statement_tail (with e name body) ts rest g = tail_then ts g.0 rest (tag_tail ts g.0 (a_with e name g.2)) (tail_then g.0 g.1 rest (statements_tail body g.0 g.1 g.3) (tag_tail g.1 rest (an_endwith g.4)))
 
     pub statements_tail : (tree : Statements) (ts rest : List Lexeme) → AreStatements s tree ts rest → Tail ts rest
@@ -31,6 +31,10 @@ module _ (s : List ℕ) where
     else_tail (otherwise body) ts rest (inl g) = tail_then ts g.0 rest (tag_tail ts g.0 (an_else g.2)) (tail_then g.0 g.1 rest (statements_tail body g.0 g.1 g.3) (tag_tail g.1 rest (an_endif g.4)))
     else_tail (otherwise body) ts rest (inr g) = else_if_tail body ts rest g
 
+    for_else_tail : (other : Else) (ts rest : List Lexeme) → IsForElse s other ts rest → Tail ts rest
+    for_else_tail no_else ts rest g = tag_tail ts rest (an_endfor g)
+    for_else_tail (otherwise body) ts rest g = tail_then ts g.0 rest (tag_tail ts g.0 (an_else g.2)) (tail_then g.0 g.1 rest (statements_tail body g.0 g.1 g.3) (tag_tail g.1 rest (an_endfor g.4)))
+
     else_if_tail : (body : Statements) (ts rest : List Lexeme) → IsElseIf s body ts rest → Tail ts rest
     else_if_tail no_statements ts rest g = absurd g
     else_if_tail (statement_then t no_statements) ts rest g = if_tail t ts rest g
@@ -41,7 +45,7 @@ module _ (s : List ℕ) where
     if_tail (raw span) ts rest g = absurd g
     if_tail (inline_expr e span) ts rest g = absurd g
     if_tail (include name context) ts rest g = absurd g
-    if_tail (for_loop names e body) ts rest g = absurd g
+    if_tail (for_loop names e body other) ts rest g = absurd g
     if_tail (with e name body) ts rest g = absurd g
 
 module _ (s : List ℕ) (b : Lexeme) (more : List Lexeme) (begins : begins_a_tag b.token ≡ true) where
@@ -84,11 +88,11 @@ module _ (s : List ℕ) (b : Lexeme) (more : List Lexeme) (begins : begins_a_tag
         let behind = statements_tail s body g.0 g.1 g.3 in
         let last = else_tail s other g.1 rest g.4 in
         found_then ts g.0 rest (tag_tail s ts g.0 tag) (tail_then g.0 g.1 rest behind last) (found_tag ts g.0 tag) (found_then g.0 g.1 rest behind last (found_statements body g.0 g.1 g.3) (found_else other g.1 rest g.4))
-    found_statement (for_loop names e body) ts rest g =
+    found_statement (for_loop names e body other) ts rest g =
         let tag = a_for names e g.2 in
         let behind = statements_tail s body g.0 g.1 g.3 in
-        let last = an_endfor g.4 in
-        found_then ts g.0 rest (tag_tail s ts g.0 tag) (tail_then g.0 g.1 rest behind (tag_tail s g.1 rest last)) (found_tag ts g.0 tag) (found_then g.0 g.1 rest behind (tag_tail s g.1 rest last) (found_statements body g.0 g.1 g.3) (found_tag g.1 rest last))
+        let last = for_else_tail s other g.1 rest g.4 in
+        found_then ts g.0 rest (tag_tail s ts g.0 tag) (tail_then g.0 g.1 rest behind last) (found_tag ts g.0 tag) (found_then g.0 g.1 rest behind last (found_statements body g.0 g.1 g.3) (found_for_else other g.1 rest g.4))
     found_statement (with e name body) ts rest g =
         let tag = a_with e name g.2 in
         let behind = statements_tail s body g.0 g.1 g.3 in
@@ -108,6 +112,14 @@ module _ (s : List ℕ) (b : Lexeme) (more : List Lexeme) (begins : begins_a_tag
         found_then ts g.0 rest (tag_tail s ts g.0 tag) (tail_then g.0 g.1 rest behind (tag_tail s g.1 rest last)) (found_tag ts g.0 tag) (found_then g.0 g.1 rest behind (tag_tail s g.1 rest last) (found_statements body g.0 g.1 g.3) (found_tag g.1 rest last))
     found_else (otherwise body) ts rest (inr g) = found_else_if body ts rest g
 
+    found_for_else : (other : Else) (ts rest : List Lexeme) → IsForElse s other ts rest → Finds ts rest
+    found_for_else no_else ts rest g = found_tag ts rest (an_endfor g)
+    found_for_else (otherwise body) ts rest g =
+        let tag = an_else g.2 in
+        let behind = statements_tail s body g.0 g.1 g.3 in
+        let last = an_endfor g.4 in
+        found_then ts g.0 rest (tag_tail s ts g.0 tag) (tail_then g.0 g.1 rest behind (tag_tail s g.1 rest last)) (found_tag ts g.0 tag) (found_then g.0 g.1 rest behind (tag_tail s g.1 rest last) (found_statements body g.0 g.1 g.3) (found_tag g.1 rest last))
+
     found_else_if : (body : Statements) (ts rest : List Lexeme) → IsElseIf s body ts rest → Finds ts rest
     found_else_if no_statements ts rest g = absurd g
     found_else_if (statement_then t no_statements) ts rest g = found_if t ts rest g
@@ -122,5 +134,5 @@ module _ (s : List ℕ) (b : Lexeme) (more : List Lexeme) (begins : begins_a_tag
     found_if (raw span) ts rest g = absurd g
     found_if (inline_expr e span) ts rest g = absurd g
     found_if (include name context) ts rest g = absurd g
-    found_if (for_loop names e body) ts rest g = absurd g
+    found_if (for_loop names e body other) ts rest g = absurd g
     found_if (with e name body) ts rest g = absurd g

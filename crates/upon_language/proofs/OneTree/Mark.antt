@@ -35,7 +35,7 @@ mark (raw span) = text
 mark (inline_expr e span) = shown
 mark (include name context) = block (codes "include")
 mark (if_else negated e body other) = block (codes "if")
-mark (for_loop names e body) = block (codes "for")
+mark (for_loop names e body other) = block (codes "for")
 mark (with e name body) = block (codes "with")
 
 -- the words that begin a statement
@@ -48,7 +48,7 @@ mark_begins (raw span) = refl
 mark_begins (inline_expr e span) = refl
 mark_begins (include name context) = refl
 mark_begins (if_else negated e body other) = refl
-mark_begins (for_loop names e body) = refl
+mark_begins (for_loop names e body other) = refl
 mark_begins (with e name body) = refl
 
 differ : (m n : Mark) → Some m ≡ Some n → begins m ≡ false → begins n ≡ true → ⊥
@@ -71,7 +71,7 @@ module _ (s : List ℕ) where
   statement_mark (inline_expr e span) ts r h = goes_mark BeginExpr h.0 ts h.2 h.4
   statement_mark (include name context) ts r h = block_mark (codes "include") ts h.0 h.3
   statement_mark (if_else negated e body other) ts r h = block_mark (codes "if") ts h.2.0 h.2.2
-  statement_mark (for_loop names e body) ts r h = block_mark (codes "for") ts h.2.0 h.2.4
+  statement_mark (for_loop names e body other) ts r h = block_mark (codes "for") ts h.2.0 h.2.4
   statement_mark (with e name body) ts r h = block_mark (codes "with") ts h.2.0 h.2.4
 
   pub same_mark : (t u : Statement) (ts us r x : List Lexeme) → ts ≡ us → IsStatement s t ts r → IsStatement s u us x → Some (mark t) ≡ Some (mark u)

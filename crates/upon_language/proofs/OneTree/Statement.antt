@@ -7,7 +7,7 @@ use Rattle.upon_types.specs.Expression.{Expression}
 use Rattle.upon_types.specs.Tree.{Statement, raw, inline_expr, include, if_else, for_loop, with, Statements, no_statements, statement_then, Else, no_else, otherwise}
 use Rattle.upon_language.specs.Cut.{Lexeme}
 use Rattle.upon_language.specs.Tokens.{GoesKeyword, from_to}
-use Rattle.upon_language.specs.Grammar.{BeginsBlock, IsWordTag, IsStatement, AreStatements, IsElse, IsElseIf, IsIfAfterElse}
+use Rattle.upon_language.specs.Grammar.{BeginsBlock, IsWordTag, IsStatement, AreStatements, IsElse, IsForElse, IsElseIf, IsIfAfterElse}
 use Rattle.upon_language.proofs.OneTree.Token.{one_goes, one_string}
 use Rattle.upon_language.proofs.OneTree.Expression.{one_expression}
 use Rattle.upon_language.proofs.OneTree.Mark.{block, begins, same_mark, NoStatement, block_begins_none}
@@ -22,6 +22,9 @@ OneStatements s a = (b : Statements) (ts us r x : List Lexeme) → ts ≡ us →
 abbrev pub OneElse : List ℕ → Else → Type 0
 OneElse s a = (b : Else) (ts us r x : List Lexeme) → ts ≡ us → IsElse s a ts r → IsElse s b us x → (a ≡ b) × (r ≡ x)
 
+abbrev pub OneForElse : List ℕ → Else → Type 0
+OneForElse s a = (b : Else) (ts us r x : List Lexeme) → ts ≡ us → IsForElse s a ts r → IsForElse s b us x → (a ≡ b) × (r ≡ x)
+
 abbrev pub OneElseIf : List ℕ → Statements → Type 0
 OneElseIf s a = (b : Statements) (ts us r x : List Lexeme) → ts ≡ us → IsElseIf s a ts r → IsElseIf s b us x → (a ≡ b) × (r ≡ x)
 
@@ -30,6 +33,9 @@ OneIfAfterElse s t = (u : Statement) (ts us r x : List Lexeme) → ts ≡ us →
 
 else_is_no_endif : codes "else" ≡ codes "endif" → ⊥
 else_is_no_endif e = cc
+
+else_is_no_endfor : codes "else" ≡ codes "endfor" → ⊥
+else_is_no_endfor e = cc
 
 module _ (s : List ℕ) where
   -- `else` and after it `if`
@@ -51,6 +57,11 @@ module _ (s : List ℕ) where
   else_ends_body no_else ts r h = word_ends_body (codes "endif") ts r refl h
   else_ends_body (otherwise body) ts r (inl h) = block_begins_none s (codes "else") ts h.2.0 refl h.2.1
   else_ends_body (otherwise body) ts r (inr h) = let b = else_if_begins body ts r h in block_begins_none s (codes "else") ts b.0 refl b.2
+
+  -- a body of a `for` ends where its other branch or its end begins
+  for_else_ends_body : (other : Else) (ts r : List Lexeme) → IsForElse s other ts r → NoStatement s ts
+  for_else_ends_body no_else ts r h = word_ends_body (codes "endfor") ts r refl h
+  for_else_ends_body (otherwise body) ts r h = word_ends_body (codes "else") ts h.0 refl h.2
 
   -- a body and the other branch or the end of an `if`
   one_branches : (body rest : Statements) (a b : Else) (ts us after after' r x : List Lexeme) → OneStatements s body → OneElse s a → ts ≡ us
@@ -108,15 +119,17 @@ module _ (s : List ℕ) where
       ((λ i. if_else (sign i) (tree i) (inside i) (behind i)), p.2)
   one_if_after_else negated e body other bodies others u ts us r x same h k = absurd k
 
-  pub one_for : (names : LoopVars) (e : Expression) (body : Statements) → OneStatements s body → OneStatement s (for_loop names e body)
-  one_for names e body bodies (for_loop words f rest) ts us r x same h k =
+  pub one_for : (names : LoopVars) (e : Expression) (body : Statements) (other : Else) → OneStatements s body → OneForElse s other → OneStatement s (for_loop names e body other)
+  one_for names e body other bodies others (for_loop words f rest last) ts us r x same h k =
       let t = one_for_tag s names words e f ts us h.0 k.0 same h.2 k.2 in
-      let o = bodies rest h.0 k.0 h.1 k.1 t.2 h.3 (word_ends_body (codes "endfor") h.1 r refl h.4) k.3 (word_ends_body (codes "endfor") k.1 x refl k.4) in
+      let o = bodies rest h.0 k.0 h.1 k.1 t.2 h.3 (for_else_ends_body other h.1 r h.4) k.3 (for_else_ends_body last k.1 x k.4) in
+      let p = others last h.1 k.1 r x o.1 h.4 k.4 in
       let named : names ≡ words = t.0 in
       let tree : e ≡ f = t.1 in
       let inside : body ≡ rest = o.0 in
-      ((λ i. for_loop (named i) (tree i) (inside i)), one_word_tag s (codes "endfor") h.1 k.1 r x o.1 h.4 k.4)
-  one_for names e body bodies u ts us r x same h k = let e = same_mark s (for_loop names e body) u ts us r x same h k in absurd (cc)
+      let behind : other ≡ last = p.0 in
+      ((λ i. for_loop (named i) (tree i) (inside i) (behind i)), p.1)
+  one_for names e body other bodies others u ts us r x same h k = let e = same_mark s (for_loop names e body other) u ts us r x same h k in absurd (cc)
 
   pub one_with : (e : Expression) (name : Ident) (body : Statements) → OneStatements s body → OneStatement s (with e name body)
   one_with e name body bodies (with f word rest) ts us r x same h k =
@@ -155,3 +168,17 @@ module _ (s : List ℕ) where
   one_otherwise body bodies chain (otherwise rest) ts us r x same (inl h) (inr k) = absurd (else_is_no_else_if rest ts us h.0 x same h.2 k)
   one_otherwise body bodies chain (otherwise rest) ts us r x same (inr h) (inl k) = absurd (else_is_no_else_if body us ts k.0 r (sym same) k.2 h)
   one_otherwise body bodies chain (otherwise rest) ts us r x same (inr h) (inr k) = let o = chain rest ts us r x same h k in (ap otherwise o.0, o.1)
+
+  endfor_is_no_else : (ts us r start : List Lexeme) → ts ≡ us → IsWordTag s (codes "endfor") ts r → BeginsBlock s (codes "else") us start → ⊥
+  endfor_is_no_else ts us r start same h k = else_is_no_endfor (sym (one_begins_block s (codes "endfor") (codes "else") ts us h.0 start same h.1 k).0)
+
+  pub one_endfor : OneForElse s no_else
+  one_endfor no_else ts us r x same h k = (refl, one_word_tag s (codes "endfor") ts us r x same h k)
+  one_endfor (otherwise body) ts us r x same h k = absurd (endfor_is_no_else ts us r k.2.0 same h k.2.1)
+
+  pub one_for_otherwise : (body : Statements) → OneStatements s body → OneForElse s (otherwise body)
+  one_for_otherwise body bodies no_else ts us r x same h k = absurd (endfor_is_no_else us ts x h.2.0 (sym same) k h.2.1)
+  one_for_otherwise body bodies (otherwise rest) ts us r x same h k =
+      let start = one_word_tag s (codes "else") ts us h.0 k.0 same h.2 k.2 in
+      let o = bodies rest h.0 k.0 h.1 k.1 start h.3 (word_ends_body (codes "endfor") h.1 r refl h.4) k.3 (word_ends_body (codes "endfor") k.1 x refl k.4) in
+      (ap otherwise o.0, one_word_tag s (codes "endfor") h.1 k.1 r x o.1 h.4 k.4)

@@ -4,7 +4,7 @@ use Rattle.upon_types.specs.Tree.{Statement, raw, inline_expr, include, if_else,
 use Rattle.upon_language.specs.Cut.{Lexeme}
 use Rattle.upon_language.specs.Grammar.{AreStatements}
 use Rattle.upon_language.proofs.OneTree.Mark.{end_begins_none}
-use Rattle.upon_language.proofs.OneTree.Statement.{OneStatement, OneStatements, OneElse, OneElseIf, OneIfAfterElse, one_raw, one_inline, one_include, one_if, one_if_after_else, one_for, one_with, one_endif, one_otherwise}
+use Rattle.upon_language.proofs.OneTree.Statement.{OneStatement, OneStatements, OneElse, OneForElse, OneElseIf, OneIfAfterElse, one_raw, one_inline, one_include, one_if, one_if_after_else, one_for, one_with, one_endif, one_otherwise, one_endfor, one_for_otherwise}
 
 module _ (s : List ℕ) where
   end_of_statements : OneStatements s no_statements
@@ -31,7 +31,7 @@ module _ (s : List ℕ) where
     statement (inline_expr e span) = one_inline s e span
     statement (include name context) = one_include s name context
     statement (if_else negated e body other) = one_if s negated e body other (statements body) (branch other)
-    statement (for_loop names e body) = one_for s names e body (statements body)
+    statement (for_loop names e body other) = one_for s names e body other (statements body) (for_branch other)
     statement (with e name body) = one_with s e name body (statements body)
 
     statements : (a : Statements) → OneStatements s a
@@ -41,6 +41,10 @@ module _ (s : List ℕ) where
     branch : (a : Else) → OneElse s a
     branch no_else = one_endif s
     branch (otherwise body) = one_otherwise s body (statements body) (chain body)
+
+    for_branch : (a : Else) → OneForElse s a
+    for_branch no_else = one_endfor s
+    for_branch (otherwise body) = one_for_otherwise s body (statements body)
 
     -- an `else if` is an `if` alone in the other branch
     chain : (a : Statements) → OneElseIf s a

@@ -14,7 +14,7 @@ use Rattle.upon_language.specs.LiesIn.{HasUtf8}
 use Rattle.upon_language.specs.Cut.{Lexeme, outside}
 use Rattle.upon_language.specs.Tokens.{GoesKeyword}
 use Rattle.upon_language.specs.Expressions.{IsExpression}
-use Rattle.upon_language.specs.Grammar.{BeginsBlock, IsWordTag, IsCondition, IsIfTag, IsElseIfTag, AreLoopVars, IsForTag, IsWithTag, AreGlobals, IsStatement, AreStatements, IsElse, IsElseIf, IsIfAfterElse, HasTree}
+use Rattle.upon_language.specs.Grammar.{BeginsBlock, IsWordTag, IsCondition, IsIfTag, IsElseIfTag, AreLoopVars, IsForTag, IsWithTag, AreGlobals, IsStatement, AreStatements, IsElse, IsForElse, IsElseIf, IsIfAfterElse, HasTree}
 use Rattle.upon_language.specs.SpansLieIn.{ExpressionLiesIn, NamesLieIn, ContextLiesIn, StatementLiesIn, StatementsLieIn, ElseLiesIn}
 use Rattle.upon_language.proofs.Spans.Along.{Along, along_before, along_significant, Passed, goes_along, by_along}
 use Rattle.upon_language.proofs.Spans.Expressions.{from_to_lies, expression_along}
@@ -99,10 +99,11 @@ module _ (s : List ℕ) where
         let y = statements_along body p g.0 g.1 x.1 g.3 in
         let z = else_along other p g.1 rest y.1 g.4 in
         ((x.0, y.0, z.0), z.1)
-    statement_along (for_loop names e body) p ts rest h g =
+    statement_along (for_loop names e body other) p ts rest h g =
         let x = for_along names e p ts g.0 h g.2 in
         let y = statements_along body p g.0 g.1 x.2 g.3 in
-        ((x.0, x.1, y.0), word_tag_along (codes "endfor") p g.1 rest y.1 g.4)
+        let z = for_else_along other p g.1 rest y.1 g.4 in
+        ((x.0, x.1, y.0, z.0), z.1)
     statement_along (with e name body) p ts rest h g =
         let x = with_along e name p ts g.0 h g.2 in
         let y = statements_along body p g.0 g.1 x.2 g.3 in
@@ -121,6 +122,12 @@ module _ (s : List ℕ) where
         let y = statements_along body p g.0 g.1 (word_tag_along (codes "else") p ts g.0 h g.2) g.3 in
         (y.0, word_tag_along (codes "endif") p g.1 rest y.1 g.4)
     else_along (otherwise body) p ts rest h (inr g) = else_if_chain body p ts rest h g
+
+    for_else_along : (other : Else) (p : ℕ) (ts rest : List Lexeme) → Along s p ts → IsForElse s other ts rest → ElseLiesIn s other × Along s p rest
+    for_else_along no_else p ts rest h g = (tt, word_tag_along (codes "endfor") p ts rest h g)
+    for_else_along (otherwise body) p ts rest h g =
+        let y = statements_along body p g.0 g.1 (word_tag_along (codes "else") p ts g.0 h g.2) g.3 in
+        (y.0, word_tag_along (codes "endfor") p g.1 rest y.1 g.4)
 
     else_if_chain : (body : Statements) (p : ℕ) (ts rest : List Lexeme) → Along s p ts → IsElseIf s body ts rest → StatementsLieIn s body × Along s p rest
     else_if_chain no_statements p ts rest h g = absurd g

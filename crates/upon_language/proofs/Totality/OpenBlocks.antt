@@ -13,9 +13,9 @@ use Rattle.upon_language.proofs.NoTreeWithFault.FineExpression.{passes_expressio
 use Rattle.upon_language.proofs.NoTreeWithFault.ReadBefore.{has_end, Ended}
 use Rattle.upon_language.specs.Blocks.{Block, if_block, for_block, with_block, OpenBlock, Closer, else_if, plain_else, end_if, end_for, end_with, closer_by, closer_of, block_takes, takes, by_word, blocks_from}
 use Rattle.upon_language.proofs.NoTreeWithFault.Unclosed.{same_by_word, same_closer_by}
-use Rattle.upon_language.proofs.NoTreeWithFault.TagBlocks.{else_at, walks_begin, begins_block, is_word, stepped, word_next, closer_in, Closing, TokenTaken, AllTaken, Walks, walks_then, walks_one, walks_if, walks_for, walks_with, walks_else_if, walks_include, walks_inline, walks_endif, walks_plain_else}
+use Rattle.upon_language.proofs.NoTreeWithFault.TagBlocks.{else_at, walks_begin, begins_block, is_word, stepped, word_next, closer_in, Closing, TokenTaken, AllTaken, Walks, walks_then, walks_one, walks_if, walks_for, walks_with, walks_else_if, walks_include, walks_inline, walks_endif, walks_endfor, walks_plain_else}
 use Rattle.upon_language.proofs.Totality.TagMore.{inline_more, include_more, word_tag_more, if_tag_more, else_if_tag_more, for_tag_more, with_tag_more}
-use Rattle.upon_language.proofs.Totality.BlockTrees.{EndsBlocks, opening, statement_first, if_first, for_first, with_first, else_first, else_if_first, endif_first, endfor_first, endwith_first}
+use Rattle.upon_language.proofs.Totality.BlockTrees.{EndsBlocks, opening, statement_first, if_first, for_first, with_first, else_first, for_else_first, else_if_first, endif_first, endfor_first, endwith_first}
 use Rattle.upon_language.proofs.NoTreeWithFault.Unexpected.{end_within, else_within, word_ends_nothing}
 
 -- ---- with more tokens after
@@ -82,25 +82,28 @@ module _ (s : List ℕ) (all : List Lexeme) where
 
   closed_endif : (kind : Block) (has_else : Bool) (span : Span) (a : List OpenBlock) → IsWordTag s (codes "endif") all [] → block_takes kind has_else end_if ≡ true → TagStep s (opening kind has_else span ∷ a) all
   closed_endif if_block has_else span a g h = record { stack = a; walks = walks_endif s a has_else span all [] g; back = λ rest more. endif_first s a has_else span (all ++ rest) rest (word_tag_more s rest (codes "endif") all [] g) more }
-  closed_endif for_block has_else span a g h = absurd cc
+  closed_endif for_block true span a g h = absurd cc
+  closed_endif for_block false span a g h = absurd cc
   closed_endif with_block has_else span a g h = absurd cc
 
   closed_endfor : (kind : Block) (has_else : Bool) (span : Span) (a : List OpenBlock) → IsWordTag s (codes "endfor") all [] → block_takes kind has_else end_for ≡ true → TagStep s (opening kind has_else span ∷ a) all
   closed_endfor if_block true span a g h = absurd cc
   closed_endfor if_block false span a g h = absurd cc
-  closed_endfor for_block has_else span a g h = record { stack = a; walks = walks_close s (opening for_block has_else span ∷ a) a (codes "endfor") all [] g refl refl; back = λ rest more. endfor_first s a has_else span (all ++ rest) rest (word_tag_more s rest (codes "endfor") all [] g) more }
+  closed_endfor for_block has_else span a g h = record { stack = a; walks = walks_endfor s a has_else span all [] g; back = λ rest more. endfor_first s a has_else span (all ++ rest) rest (word_tag_more s rest (codes "endfor") all [] g) more }
   closed_endfor with_block has_else span a g h = absurd cc
 
   closed_endwith : (kind : Block) (has_else : Bool) (span : Span) (a : List OpenBlock) → IsWordTag s (codes "endwith") all [] → block_takes kind has_else end_with ≡ true → TagStep s (opening kind has_else span ∷ a) all
   closed_endwith if_block true span a g h = absurd cc
   closed_endwith if_block false span a g h = absurd cc
   closed_endwith with_block has_else span a g h = record { stack = a; walks = walks_close s (opening with_block has_else span ∷ a) a (codes "endwith") all [] g refl refl; back = λ rest more. endwith_first s a has_else span (all ++ rest) rest (word_tag_more s rest (codes "endwith") all [] g) more }
-  closed_endwith for_block has_else span a g h = absurd cc
+  closed_endwith for_block true span a g h = absurd cc
+  closed_endwith for_block false span a g h = absurd cc
 
   closed_else : (kind : Block) (has_else : Bool) (span : Span) (a : List OpenBlock) → IsWordTag s (codes "else") all [] → block_takes kind has_else plain_else ≡ true → TagStep s (opening kind has_else span ∷ a) all
   closed_else if_block true span a g h = absurd cc
-  closed_else if_block false span a g h = record { stack = opening if_block true span ∷ a; walks = walks_plain_else s a span all [] g; back = λ rest more. else_first s a span (all ++ rest) rest (word_tag_more s rest (codes "else") all [] g) more }
-  closed_else for_block has_else span a g h = absurd cc
+  closed_else if_block false span a g h = record { stack = opening if_block true span ∷ a; walks = walks_plain_else s if_block a span all [] refl g; back = λ rest more. else_first s a span (all ++ rest) rest (word_tag_more s rest (codes "else") all [] g) more }
+  closed_else for_block true span a g h = absurd cc
+  closed_else for_block false span a g h = record { stack = opening for_block true span ∷ a; walks = walks_plain_else s for_block a span all [] refl g; back = λ rest more. for_else_first s a span (all ++ rest) rest (word_tag_more s rest (codes "else") all [] g) more }
   closed_else with_block has_else span a g h = absurd cc
 
   -- which closing tag the tag is
@@ -126,7 +129,8 @@ module _ (s : List ℕ) (all : List Lexeme) where
   closed_else_if : (negated : Bool) (e : Expression) (kind : Block) (has_else : Bool) (span : Span) (a : List OpenBlock) → IsElseIfTag s negated e all [] → block_takes kind has_else else_if ≡ true → TagStep s (opening kind has_else span ∷ a) all
   closed_else_if negated e if_block true span a g h = absurd cc
   closed_else_if negated e if_block false span a g h = record { stack = opening if_block false span ∷ a; walks = walks_else_if s (passes_expression s) negated e span a all [] g; back = λ rest more. else_if_first s a span negated e (all ++ rest) rest (else_if_tag_more s rest negated e all [] g) more }
-  closed_else_if negated e for_block has_else span a g h = absurd cc
+  closed_else_if negated e for_block true span a g h = absurd cc
+  closed_else_if negated e for_block false span a g h = absurd cc
   closed_else_if negated e with_block has_else span a g h = absurd cc
 
   step_else_if : (negated : Bool) (e : Expression) (a : List OpenBlock) → IsElseIfTag s negated e all [] → takes a else_if ≡ true → TagStep s a all

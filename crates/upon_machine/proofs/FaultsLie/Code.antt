@@ -5,7 +5,7 @@ use Rattle.upon_types.specs.Expression.{Expression, base, filtered, Base, var, l
 use Rattle.upon_types.specs.Tree.{Statement, raw, inline_expr, include, if_else, for_loop, with, Statements, no_statements, statement_then, Else, no_else, otherwise}
 use Rattle.upon_types.specs.TreeSpans.{ExpressionSpans, BaseSpans, BasesSpans, ItemsSpans, ArgumentsSpans, StatementSpans, StatementsSpans, ElseSpans}
 use Rattle.upon_types.proofs.ExpressionSpans.{Covers, expression_place}
-use Rattle.upon_machine.specs.Code.{expression_code, base_code, bases_code, arguments_code, list_code, map_code, emission_code, base_emission_code, jump_unless, else_start, else_part, statement_code, statements_code, else_code, program_of}
+use Rattle.upon_machine.specs.Code.{expression_code, base_code, bases_code, arguments_code, list_code, map_code, emission_code, base_emission_code, jump_unless, else_start, else_part, turns, statement_code, statements_code, else_code, program_of}
 use Rattle.upon_machine.specs.Instr.{Instr, emit}
 use Rattle.upon_machine.specs.Spans.{InstrSpans, CodeSpans}
 
@@ -76,10 +76,16 @@ module _ (P : Span → Type 0) where
           let other : List Instr = else_code (else_start branch (start + 1 + length inner)) branch in
           joined (expression_code e) _ (expression_spans e h.0)
           (jump_spans negated (else_start branch (start + 1 + length inner)), joined inner _ (statements_spans (start + 1) body h.1) (else_spans branch (start + 1 + length inner) h.2))
-      statement_spans at (for_loop names e body) h =
+      statement_spans at (for_loop names e body no_else) h =
           let start : ℕ = at + length (expression_code e) in
           joined (expression_code e) _ (expression_spans e h.1)
           ((h.0, expression_place P covers e h.1), (tt, joined (statements_code (start + 1 + 1) body) _ (statements_spans (start + 1 + 1) body h.2) (tt, tt)))
+      statement_spans at (for_loop names e body (otherwise branch)) h =
+          let start : ℕ = at + length (expression_code e) in
+          let inner : List Instr = statements_code (start + 1 + 1 + 1) body in
+          let past : ℕ = start + 1 + 1 + 1 + length inner + 1 in
+          joined (expression_code e) _ (expression_spans e h.1)
+          ((h.0, expression_place P covers e h.1), (tt, joined (turns (start + 1 + 1) (past + length (statements_code past branch)) inner) _ (tt, joined inner _ (statements_spans (start + 1 + 1 + 1) body h.2) (tt, tt)) (statements_spans past branch h.3)))
       statement_spans at (with e word body) h =
           let start : ℕ = at + length (expression_code e) in
           joined (expression_code e) _ (expression_spans e h.0) (h.1, joined (statements_code (start + 1) body) _ (statements_spans (start + 1) body h.2) (tt, tt))

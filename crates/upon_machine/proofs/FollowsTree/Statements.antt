@@ -15,10 +15,10 @@ use Rattle.upon_types.specs.Truth.{truth}
 use Rattle.upon_meaning.specs.Alone.{running, on_template, included}
 use Rattle.upon_meaning.specs.Engine.{Template, Calls, Resolver}
 use Rattle.upon_meaning.specs.Evaluation.{Operand, evaluate}
-use Rattle.upon_meaning.specs.Meaning.{RunningTemplate, Body, choose, condition, each, each_of, over, on_value, with_value, statement_means, statements_mean, else_means}
+use Rattle.upon_meaning.specs.Meaning.{RunningTemplate, Body, choose, condition, each, each_or, over, on_value, with_value, statement_means, statements_mean, else_means}
 use Rattle.upon_meaning.specs.Outcome.{Outcome, States, states, too_deep_outcome}
-use Rattle.upon_machine.specs.Code.{expression_code, jump_unless, else_start, else_part, if_code, for_code, with_code, statement_code, statements_code, else_code, program_of}
-use Rattle.upon_machine.specs.Instr.{Instr, jump, emit_raw, loop_start, loop_next, with_start, with_end}
+use Rattle.upon_machine.specs.Code.{expression_code, jump_unless, else_start, else_part, if_code, turn_start, turns, for_code, with_code, statement_code, statements_code, else_code, program_of}
+use Rattle.upon_machine.specs.Instr.{Instr, jump, emit_raw, loop_start, loop_else, loop_next, with_start, with_end}
 use Rattle.upon_machine.specs.Instr.{include as enter, include_with as enter_with}
 use Rattle.upon_machine.specs.State.{Frame, scope, variable, loop, environment_of, turn_binds, Active, Caller, State}
 use Rattle.upon_machine.specs.Step.{goes, starts, enters, returns, act, step}
@@ -82,24 +82,85 @@ module _ {V T : Type 0} (calls : Calls V) (resolve : Resolver T) (root : Root) w
         (either (condition negated o.value) s place branch body other ops fs q a b (has_back code (place + 1) body tail has.1) (step_here place (o ∷ ops) fs q i has.0 ∙ jumps_unless (truth o.value) negated place (else_start branch (place + 1 + length body)) o ops fs q refl) ha hb)
 
     -- a loop, turn by turn
-    each_follows : (names : LoopVars) (span : Span) (place : ℕ) (inner : List Instr) (ops : List Operand) (fs : List Frame) (body : Body (States V T)) → HasAt code place (for_code names span place inner) → (count : ℕ) → ((index : ℕ) (bs : List Binding) (items : List (List Binding)) (q : States V T) → Follows calls resolve root (here (place + 1 + 1) ops (loop count (index + 1) (turn_binds index count bs) items ∷ fs) q) (body (iteration index count bs (environment_of root fs)) q) (λ q. here (place + 1 + 1 + length inner) ops (loop count (index + 1) (turn_binds index count bs) items ∷ fs) q)) → (index : ℕ) (now : List Binding) (items : List (List Binding)) (q : States V T) → Follows calls resolve root (here (place + 1) ops (loop count index now items ∷ fs) q) (each body count index items (environment_of root fs) q) (λ q. here (place + length (for_code names span place inner)) ops fs q)
-    each_follows names span place inner ops fs body has count h index now [] q =
-        let len : place + 1 + 1 + length inner + 1 ≡ place + length (for_code names span place inner) = omega (arith, length-append inner (jump (place + 1) ∷ [])) in
-        one calls resolve root _ _ [] (step_here (place + 1) ops (loop count index now [] ∷ fs) q (loop_next (place + 1 + 1 + length inner + 1)) has.1.0 ∙ ap (λ n. goes [] (here n ops fs q)) len)
-    each_follows names span place inner ops fs body has count h index now (bs ∷ items) q =
-        let back = (has_back code (place + 1 + 1) inner (jump (place + 1) ∷ []) has.1.1).0 in
+    each_follows : (turn past : ℕ) (inner : List Instr) (ops : List Operand) (fs : List Frame) (body : Body (States V T)) → HasAt code turn (turns turn past inner) → (count : ℕ) → ((index : ℕ) (bs : List Binding) (items : List (List Binding)) (q : States V T) → Follows calls resolve root (here (turn + 1) ops (loop count (index + 1) (turn_binds index count bs) items ∷ fs) q) (body (iteration index count bs (environment_of root fs)) q) (λ q. here (turn + 1 + length inner) ops (loop count (index + 1) (turn_binds index count bs) items ∷ fs) q)) → (index : ℕ) (now : List Binding) (items : List (List Binding)) (q : States V T) → Follows calls resolve root (here turn ops (loop count index now items ∷ fs) q) (each body count index items (environment_of root fs) q) (λ q. here past ops fs q)
+    each_follows turn past inner ops fs body has count h index now [] q =
+        one calls resolve root _ _ [] (step_here turn ops (loop count index now [] ∷ fs) q (loop_next past) has.0)
+    each_follows turn past inner ops fs body has count h index now (bs ∷ items) q =
+        let back = (has_back code (turn + 1) inner (jump turn ∷ []) has.1).0 in
         let o = body (iteration index count bs (environment_of root fs)) q in
         let inside : List Frame = loop count (index + 1) (turn_binds index count bs) items ∷ fs in
-        let s = here (place + 1) ops (loop count index now (bs ∷ items) ∷ fs) q in
-        let next = one calls resolve root s (here (place + 1 + 1) ops inside q) [] (step_here (place + 1) ops (loop count index now (bs ∷ items) ∷ fs) q (loop_next (place + 1 + 1 + length inner + 1)) has.1.0) in
-        let turned = comes_then calls resolve root s (here (place + 1 + 1) ops inside q) o (λ q. here (place + 1 + 1 + length inner) ops inside q) next (h index bs items q) in
-        let again = then_comes calls resolve root s o (λ q. here (place + 1 + 1 + length inner) ops inside q) (λ q. here (place + 1) ops inside q) turned (λ q'. one calls resolve root _ _ [] (step_here (place + 1 + 1 + length inner) ops inside q' (jump (place + 1)) back)) in
-        in_turn calls resolve root s o (λ q. each body count (index + 1) items (environment_of root fs) q) (λ q. here (place + 1) ops inside q) (λ q. here (place + length (for_code names span place inner)) ops fs q) again (λ q'. each_follows names span place inner ops fs body has count h (index + 1) (turn_binds index count bs) items q')
+        let s = here turn ops (loop count index now (bs ∷ items) ∷ fs) q in
+        let next = one calls resolve root s (here (turn + 1) ops inside q) [] (step_here turn ops (loop count index now (bs ∷ items) ∷ fs) q (loop_next past) has.0) in
+        let turned = comes_then calls resolve root s (here (turn + 1) ops inside q) o (λ q. here (turn + 1 + length inner) ops inside q) next (h index bs items q) in
+        let again = then_comes calls resolve root s o (λ q. here (turn + 1 + length inner) ops inside q) (λ q. here turn ops inside q) turned (λ q'. one calls resolve root _ _ [] (step_here (turn + 1 + length inner) ops inside q' (jump turn) back)) in
+        in_turn calls resolve root s o (λ q. each body count (index + 1) items (environment_of root fs) q) (λ q. here turn ops inside q) (λ q. here past ops fs q) again (λ q'. each_follows turn past inner ops fs body has count h (index + 1) (turn_binds index count bs) items q')
 
-    over_follows : (x : Finding (List (List Binding))) (names : LoopVars) (span : Span) (place : ℕ) (inner : List Instr) (o : Operand) (ops : List Operand) (fs : List Frame) (body : Body (States V T)) (q : States V T) → HasAt code place (for_code names span place inner) → step calls resolve root (here place (o ∷ ops) fs q) ≡ starts x (here place (o ∷ ops) fs q) ops → ((inside : Frame) (q : States V T) → Follows calls resolve root (here (place + 1 + 1) ops (inside ∷ fs) q) (body (environment_of root (inside ∷ fs)) q) (λ q. here (place + 1 + 1 + length inner) ops (inside ∷ fs) q)) → Follows calls resolve root (here place (o ∷ ops) fs q) (each_of body active.running x (environment_of root fs) q) (λ q. here (place + length (for_code names span place inner)) ops fs q)
-    over_follows (found items) names span place inner o ops fs body q has e h =
-        comes_then calls resolve root _ _ (each body (length items) 0 items (environment_of root fs) q) (λ q. here (place + length (for_code names span place inner)) ops fs q) (one calls resolve root _ (here (place + 1) ops (loop (length items) 0 [] items ∷ fs) q) [] e) (each_follows names span place inner ops fs body has (length items) (λ index bs items' q'. h (loop (length items) (index + 1) (turn_binds index (length items) bs) items') q') 0 [] items q)
-    over_follows (at_fault f) names span place inner o ops fs body q has e h = stop calls resolve root _ _ e
+    -- the parts of a loop in its code
+    start_at : (branch : Else) (names : LoopVars) (span : Span) (place : ℕ) (inner other : List Instr) → HasAt code place (for_code branch names span place inner other) → slice_get code place ≡ Some (loop_start names span)
+    start_at no_else names span place inner other has = has.0
+    start_at (otherwise branch) names span place inner other has = has.0
+
+    inner_at : (branch : Else) (names : LoopVars) (span : Span) (place : ℕ) (inner other : List Instr) → HasAt code place (for_code branch names span place inner other) → HasAt code (turn_start branch place + 1) inner
+    inner_at no_else names span place inner other has = has_front code (place + 1 + 1) inner _ has.1.1
+    inner_at (otherwise branch) names span place inner other has =
+        has_front code (place + 1 + 1 + 1) inner _ (has_front code (place + 1 + 1) (turns (place + 1 + 1) (place + 1 + 1 + 1 + length inner + 1 + length other) inner) other has.1.1).1
+
+    other_at : (branch : Else) (names : LoopVars) (span : Span) (place at : ℕ) (inner : List Instr) → HasAt code place (for_code branch names span place inner (else_code at branch)) → HasAt code (turn_start branch place + 1 + length inner + 1) (else_code at branch)
+    other_at no_else names span place at inner has = tt
+    other_at (otherwise branch) names span place at inner has =
+        let other = statements_code at branch in
+        let round = turns (place + 1 + 1) (place + 1 + 1 + 1 + length inner + 1 + length other) inner in
+        let e : place + 1 + 1 + length round ≡ place + 1 + 1 + 1 + length inner + 1 = omega (arith, length-append inner (jump (place + 1 + 1) ∷ [])) in
+        subst (λ n. HasAt code n other) e (has_back code (place + 1 + 1) round other has.1.1)
+
+    for_length : (branch : Else) (names : LoopVars) (span : Span) (place at : ℕ) (inner : List Instr) → turn_start branch place + 1 + length inner + 1 + length (else_code at branch) ≡ place + length (for_code branch names span place inner (else_code at branch))
+    for_length no_else names span place at inner = omega (arith, length-append inner (jump (place + 1) ∷ []))
+    for_length (otherwise branch) names span place at inner =
+        let other = statements_code at branch in
+        let round = turns (place + 1 + 1) (place + 1 + 1 + 1 + length inner + 1 + length other) inner in
+        omega (arith, length-append inner (jump (place + 1 + 1) ∷ []), length-append round other)
+
+    -- the turns of a loop that has items, after its start
+    turns_follow : (branch : Else) (names : LoopVars) (span : Span) (place at : ℕ) (inner : List Instr) (ops : List Operand) (fs : List Frame) (body : Body (States V T)) (bs : List Binding) (items : List (List Binding)) (q : States V T) → HasAt code place (for_code branch names span place inner (else_code at branch)) → ((inside : Frame) (q : States V T) → Follows calls resolve root (here (turn_start branch place + 1) ops (inside ∷ fs) q) (body (environment_of root (inside ∷ fs)) q) (λ q. here (turn_start branch place + 1 + length inner) ops (inside ∷ fs) q)) → Follows calls resolve root (here (place + 1) ops (loop (length (bs ∷ items)) 0 [] (bs ∷ items) ∷ fs) q) (each body (length (bs ∷ items)) 0 (bs ∷ items) (environment_of root fs) q) (λ q. here (place + length (for_code branch names span place inner (else_code at branch))) ops fs q)
+    turns_follow no_else names span place at inner ops fs body bs items q has h =
+        let count = length (bs ∷ items) in
+        let len : place + 1 + 1 + length inner + 1 ≡ place + length (for_code no_else names span place inner []) = omega (arith, length-append inner (jump (place + 1) ∷ [])) in
+        to_place _ (each body count 0 (bs ∷ items) (environment_of root fs) q) _ _ ops fs len
+        (each_follows (place + 1) (place + 1 + 1 + length inner + 1) inner ops fs body has.1 count (λ index bs' items' q'. h (loop count (index + 1) (turn_binds index count bs') items') q') 0 [] (bs ∷ items) q)
+    turns_follow (otherwise branch) names span place at inner ops fs body bs items q has h =
+        let count = length (bs ∷ items) in
+        let other = statements_code at branch in
+        let past = place + 1 + 1 + 1 + length inner + 1 + length other in
+        let round = turns (place + 1 + 1) past inner in
+        let o = each body count 0 (bs ∷ items) (environment_of root fs) q in
+        let s = here (place + 1) ops (loop count 0 [] (bs ∷ items) ∷ fs) q in
+        let on = one calls resolve root s (here (place + 1 + 1) ops (loop count 0 [] (bs ∷ items) ∷ fs) q) [] (step_here (place + 1) ops (loop count 0 [] (bs ∷ items) ∷ fs) q (loop_else (place + 1 + 1 + 1 + length inner + 1)) has.1.0) in
+        to_place s o past _ ops fs (for_length (otherwise branch) names span place at inner)
+        (comes_then calls resolve root s _ o (λ q. here past ops fs q) on
+        (each_follows (place + 1 + 1) past inner ops fs body (has_front code (place + 1 + 1) round other has.1.1) count (λ index bs' items' q'. h (loop count (index + 1) (turn_binds index count bs') items') q') 0 [] (bs ∷ items) q))
+
+    -- a loop without an item, after its start
+    none_comes : (branch : Else) (names : LoopVars) (span : Span) (place : ℕ) (inner other : List Instr) (ops : List Operand) (fs : List Frame) (q : States V T) → HasAt code place (for_code branch names span place inner other) → Comes calls resolve root (here (place + 1) ops (loop 0 0 [] [] ∷ fs) q) [] (here (turn_start branch place + 1 + length inner + 1) ops fs q)
+    none_comes no_else names span place inner other ops fs q has =
+        one calls resolve root _ _ [] (step_here (place + 1) ops (loop 0 0 [] [] ∷ fs) q (loop_next (place + 1 + 1 + length inner + 1)) has.1.0)
+    none_comes (otherwise branch) names span place inner other ops fs q has =
+        one calls resolve root _ _ [] (step_here (place + 1) ops (loop 0 0 [] [] ∷ fs) q (loop_else (place + 1 + 1 + 1 + length inner + 1)) has.1.0)
+
+    over_follows : (x : Finding (List (List Binding))) (branch : Else) (names : LoopVars) (span : Span) (place at : ℕ) (inner : List Instr) (o : Operand) (ops : List Operand) (fs : List Frame) (body other : Body (States V T)) (q : States V T) → HasAt code place (for_code branch names span place inner (else_code at branch)) → step calls resolve root (here place (o ∷ ops) fs q) ≡ starts x (here place (o ∷ ops) fs q) ops → ((inside : Frame) (q : States V T) → Follows calls resolve root (here (turn_start branch place + 1) ops (inside ∷ fs) q) (body (environment_of root (inside ∷ fs)) q) (λ q. here (turn_start branch place + 1 + length inner) ops (inside ∷ fs) q)) → Follows calls resolve root (here (turn_start branch place + 1 + length inner + 1) ops fs q) (other (environment_of root fs) q) (λ q. here (turn_start branch place + 1 + length inner + 1 + length (else_code at branch)) ops fs q) → Follows calls resolve root (here place (o ∷ ops) fs q) (each_or body other active.running x (environment_of root fs) q) (λ q. here (place + length (for_code branch names span place inner (else_code at branch))) ops fs q)
+    over_follows (found []) branch names span place at inner o ops fs body other q has e h k =
+        let m = other (environment_of root fs) q in
+        let end : States V T → State V T = λ q'. here (place + length (for_code branch names span place inner (else_code at branch))) ops fs q' in
+        let s = here place (o ∷ ops) fs q in
+        let empty = here (place + 1) ops (loop 0 0 [] [] ∷ fs) q in
+        let there = here (turn_start branch place + 1 + length inner + 1) ops fs q in
+        comes_then calls resolve root s empty m end (one calls resolve root s empty [] e)
+        (comes_then calls resolve root empty there m end (none_comes branch names span place inner (else_code at branch) ops fs q has)
+        (to_place there m _ _ ops fs (for_length branch names span place at inner) k))
+    over_follows (found (bs ∷ items)) branch names span place at inner o ops fs body other q has e h k =
+        let count = length (bs ∷ items) in
+        comes_then calls resolve root _ (here (place + 1) ops (loop count 0 [] (bs ∷ items) ∷ fs) q) (each body count 0 (bs ∷ items) (environment_of root fs) q) (λ q'. here (place + length (for_code branch names span place inner (else_code at branch))) ops fs q') (one calls resolve root _ _ [] e)
+        (turns_follow branch names span place at inner ops fs body bs items q has h)
+    over_follows (at_fault f) branch names span place at inner o ops fs body other q has e h k = stop calls resolve root _ _ e
 
     with_follows : (word : Ident) (place : ℕ) (inner : List Instr) (o : Operand) (ops : List Operand) (fs : List Frame) (m : Outcome (States V T)) (q : States V T) → HasAt code place (with_code word inner) → Follows calls resolve root (here (place + 1) ops (variable word o.value ∷ fs) q) m (λ q. here (place + 1 + length inner) ops (variable word o.value ∷ fs) q) → Follows calls resolve root (here place (o ∷ ops) fs q) m (λ q. here (place + length (with_code word inner)) ops fs q)
     with_follows word place inner o ops fs m q has h =
@@ -175,16 +236,21 @@ module _ {V T : Type 0} (calls : Calls V) (resolve : Resolver T) (root : Root) w
           to_place a callers (here_in code run left callers place [] fs s) (statement_means calls (included calls resolve left) run (if_else negated e body branch) (environment_of root fs) s) (p + length tail) _ [] fs len
           (with_expression a callers e place [] fs s tail (λ v q. choose (condition negated v) (statements_mean calls (included calls resolve left) run body (environment_of root fs)) (else_means calls (included calls resolve left) run branch (environment_of root fs)) q) (λ q. here_in code run left callers (p + length tail) [] fs q) has
           (λ o q has'. if_follows a callers negated p branch inner other o [] fs q (statements_mean calls (included calls resolve left) run body (environment_of root fs)) (else_means calls (included calls resolve left) run branch (environment_of root fs)) has' (statements_follows body code run callers (p + 1) fs q (has_front code (p + 1) inner _ has'.1)) (else_follows branch code run callers (p + 1 + length inner) fs q (has_back code (p + 1) inner _ has'.1))))
-      statement_follows (for_loop names e body) code run callers place fs s has =
+      statement_follows (for_loop names e body branch) code run callers place fs s has =
           let a = in_code code run in
           let p = place + length (expression_code e) in
-          let inner = statements_code (p + 1 + 1) body in
-          let tail = for_code names (expression_span e) p inner in
+          let inner = statements_code (turn_start branch p + 1) body in
+          let at = turn_start branch p + 1 + length inner + 1 in
+          let tail = for_code branch names (expression_span e) p inner (else_code at branch) in
           let means = statements_mean calls (included calls resolve left) run body in
+          let others = else_means calls (included calls resolve left) run branch in
           let len : p + length tail ≡ place + length (expression_code e ++ tail) = omega (arith, length-append (expression_code e) tail) in
-          to_place a callers (here_in code run left callers place [] fs s) (statement_means calls (included calls resolve left) run (for_loop names e body) (environment_of root fs) s) (p + length tail) _ [] fs len
-          (with_expression a callers e place [] fs s tail (λ v q. over means run names (expression_span e) (environment_of root fs) v q) (λ q. here_in code run left callers (p + length tail) [] fs q) has
-          (λ o q has'. over_follows a callers (items_of names o.value (expression_span e)) names (expression_span e) p inner o [] fs means q has' (step_here a callers p (o ∷ []) fs q (loop_start names (expression_span e)) has'.0) (λ inside q'. statements_follows body code run callers (p + 1 + 1) (inside ∷ fs) q' (has_front code (p + 1 + 1) inner _ has'.1.1))))
+          to_place a callers (here_in code run left callers place [] fs s) (statement_means calls (included calls resolve left) run (for_loop names e body branch) (environment_of root fs) s) (p + length tail) _ [] fs len
+          (with_expression a callers e place [] fs s tail (λ v q. over means others run names (expression_span e) (environment_of root fs) v q) (λ q. here_in code run left callers (p + length tail) [] fs q) has
+          (λ o q has'. over_follows a callers (items_of names o.value (expression_span e)) branch names (expression_span e) p at inner o [] fs means others q has'
+          (step_here a callers p (o ∷ []) fs q (loop_start names (expression_span e)) (start_at a callers branch names (expression_span e) p inner (else_code at branch) has'))
+          (λ inside q'. statements_follows body code run callers (turn_start branch p + 1) (inside ∷ fs) q' (inner_at a callers branch names (expression_span e) p inner (else_code at branch) has'))
+          (branch_follows branch code run callers at fs q (other_at a callers branch names (expression_span e) p at inner has'))))
       statement_follows (with e word body) code run callers place fs s has =
           let a = in_code code run in
           let p = place + length (expression_code e) in
@@ -194,6 +260,13 @@ module _ {V T : Type 0} (calls : Calls V) (resolve : Resolver T) (root : Root) w
           to_place a callers (here_in code run left callers place [] fs s) (statement_means calls (included calls resolve left) run (with e word body) (environment_of root fs) s) (p + length tail) _ [] fs len
           (with_expression a callers e place [] fs s tail (λ v q. statements_mean calls (included calls resolve left) run body (with_name word v (environment_of root fs)) q) (λ q. here_in code run left callers (p + length tail) [] fs q) has
           (λ o q has'. with_follows a callers word p inner o [] fs _ q has' (statements_follows body code run callers (p + 1) (variable word o.value ∷ fs) q (has_front code (p + 1) inner _ has'.1))))
+
+      -- the other branch of a loop
+      branch_follows : (branch : Else) (code : List Instr) (run : RunningTemplate) (callers : List Caller) (place : ℕ) (fs : List Frame) (s : States V T) → HasAt code place (else_code place branch) → Follows calls resolve root (here_in code run left callers place [] fs s) (else_means calls (included calls resolve left) run branch (environment_of root fs) s) (λ s. here_in code run left callers (place + length (else_code place branch)) [] fs s)
+      branch_follows no_else code run callers place fs s has =
+          let e : place ≡ place + 0 = omega arith in
+          subst (λ n. Comes calls resolve root (here_in code run left callers place [] fs s) [] (here_in code run left callers n [] fs s)) e (comes_here calls resolve root (here_in code run left callers place [] fs s))
+      branch_follows (otherwise body) code run callers place fs s has = statements_follows body code run callers place fs s has
 
       -- the other case, where the body ends at this span
       else_follows : (branch : Else) (code : List Instr) (run : RunningTemplate) (callers : List Caller) (place : ℕ) (fs : List Frame) (s : States V T) → HasAt code place (else_part branch place (else_code (else_start branch place) branch)) → Follows calls resolve root (here_in code run left callers (else_start branch place) [] fs s) (else_means calls (included calls resolve left) run branch (environment_of root fs) s) (λ s. here_in code run left callers (place + length (else_part branch place (else_code (else_start branch place) branch))) [] fs s)

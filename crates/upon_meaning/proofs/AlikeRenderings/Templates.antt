@@ -4,7 +4,7 @@ use Rattle.upon_types.specs.declared.types.Span.{Span}
 use Rattle.upon_types.specs.Expression.{Expression, expression_span}
 use Rattle.upon_types.specs.Fault.{Fault}
 use Rattle.upon_types.specs.Path.{Ident, LoopVars, item, key_value}
-use Rattle.upon_types.specs.Tree.{Statement, raw, inline_expr, include, if_else, for_loop, with, Statements, no_statements, statement_then, no_else, otherwise}
+use Rattle.upon_types.specs.Tree.{Statement, raw, inline_expr, include, if_else, for_loop, with, Statements, no_statements, statement_then, Else, no_else, otherwise}
 use Rattle.upon_types.specs.Truth.{truth}
 use Rattle.upon_types.specs.Val.{Val, none_val, bool_val, int_val, text_val, list_val, map_val, entry_list}
 use Rattle.upon_render.specs.Environment.{Binding, binding, plain, key_text, Environment, Root, root_environment, alone_over, with_name, iteration}
@@ -13,12 +13,12 @@ use Rattle.upon_render.specs.Items.{items_of}
 use Rattle.upon_render.specs.LookupFaults.{wrong}
 use Rattle.upon_render.specs.Source.{SourceAnswer, says, refuses}
 use Rattle.upon_render.specs.Vals.{val_list}
-use Rattle.upon_meaning.specs.Alike.{WordsAlike, NamesAlike, ExpressionsAlike, IsEmpty, StatementAlike, StatementsAlike, without_span, EndsAlike, OutcomesAlike}
+use Rattle.upon_meaning.specs.Alike.{WordsAlike, NamesAlike, ExpressionsAlike, IsEmpty, StatementAlike, OthersAlike, StatementsAlike, without_span, EndsAlike, OutcomesAlike}
 use Rattle.upon_meaning.specs.Alone.{running, on_template, with_template, included, alone_within}
 use Rattle.upon_meaning.specs.Emission.{emit}
 use Rattle.upon_meaning.specs.Engine.{Template, Calls, Resolver}
 use Rattle.upon_meaning.specs.Evaluation.{Operand, evaluate}
-use Rattle.upon_meaning.specs.Meaning.{RunningTemplate, fault_in, ends_in, Inclusion, Body, choose, condition, each, each_of, on_value, with_value, statement_means, statements_mean}
+use Rattle.upon_meaning.specs.Meaning.{RunningTemplate, fault_in, ends_in, Inclusion, Body, choose, condition, each, each_of, each_or, on_value, with_value, statement_means, statements_mean, else_means}
 use Rattle.upon_meaning.specs.Outcome.{End, good, fails, too_deep, Outcome, States, states, text_outcome, too_deep_outcome, with_text_before, go_on, then_do}
 use Rattle.upon_meaning.proofs.AlikeRenderings.Emissions.{emit_alike}
 use Rattle.upon_meaning.proofs.AlikeRenderings.Expressions.{SameValue, value_alike}
@@ -115,6 +115,17 @@ module _ {V T : Type 0} (calls : Calls V) (i : Inclusion V T) (from from' : Runn
   each_of_alike body body' k (found items) (at_fault g) env s h = absurd h
   each_of_alike body body' k (at_fault f) (found items') env s h = absurd h
 
+  each_or_alike : (body body' other other' : Body (States V T)) → ((env : Environment) (s : States V T) → OutcomesAlike (body env s) (body' env s)) → ((env : Environment) (s : States V T) → OutcomesAlike (other env s) (other' env s)) → (x y : Finding (List (List Binding))) (env : Environment) (s : States V T) → FoundAlike One x y → OutcomesAlike (each_or body other from x env s) (each_or body' other' from' y env s)
+  each_or_alike body body' other other' k l (found []) (found []) env s h = l env s
+  each_or_alike body body' other other' k l (found []) (found (bs ∷ items)) env s h = absurd cc
+  each_or_alike body body' other other' k l (found (bs ∷ items)) (found []) env s h = absurd cc
+  each_or_alike body body' other other' k l (found (bs ∷ items)) (found (bs' ∷ items')) env s h = each_of_alike body body' k (found (bs ∷ items)) (found (bs' ∷ items')) env s h
+  each_or_alike body body' other other' k l (at_fault f) (at_fault g) env s h = each_of_alike body body' k (at_fault f) (at_fault g) env s h
+  each_or_alike body body' other other' k l (found []) (at_fault g) env s h = absurd h
+  each_or_alike body body' other other' k l (found (bs ∷ items)) (at_fault g) env s h = absurd h
+  each_or_alike body body' other other' k l (at_fault f) (found []) env s h = absurd h
+  each_or_alike body body' other other' k l (at_fault f) (found (bs ∷ items)) env s h = absurd h
+
   abbrev Means : Statements → Statements → Environment → States V T → Type 0
   Means ts us env s = OutcomesAlike (statements_mean calls i from ts env s) (statements_mean calls i from' us env s)
 
@@ -152,13 +163,19 @@ module _ {V T : Type 0} (calls : Calls V) (i : Inclusion V T) (from from' : Runn
         in_value e e' env s _ _ e_alike (λ v s'. straight m m' v _ _ _ _ s' same.0 (statements_alike a a' same.1 env s') (outcome_itself (text_outcome [] s')))
     statement_alike (if_else m e a no_else) (if_else m' e' a' no_else) (e_alike, inr round) env s =
         in_value e e' env s _ _ e_alike (λ v s'. turned m m' v _ _ _ _ s' round.0 (beside_nothing a round.1 env s') (nothing_beside a' round.2 env s'))
-    statement_alike (for_loop names e body) (for_loop names' e' body') h env s =
+    statement_alike (for_loop names e body other) (for_loop names' e' body' other') h env s =
         in_value e e' env s _ _ h.1
-        (λ v s'. each_of_alike (statements_mean calls i from body) (statements_mean calls i from' body') (statements_alike body body' h.2) (items_of names v (expression_span e)) (items_of names' v (expression_span e')) env s' (items_alike names names' v (expression_span e) (expression_span e') h.0))
+        (λ v s'. each_or_alike (statements_mean calls i from body) (statements_mean calls i from' body') (else_means calls i from other) (else_means calls i from' other') (statements_alike body body' h.2) (others_alike other other' h.3) (items_of names v (expression_span e)) (items_of names' v (expression_span e')) env s' (items_alike names names' v (expression_span e) (expression_span e') h.0))
     statement_alike (with e word body) (with e' word' body') h env s =
         in_value e e' env s _ _ h.0
         (λ v s'. subst (λ t. OutcomesAlike (statements_mean calls i from body (with_name word v env) s') (statements_mean calls i from' body' (with_name (record word' { text = t }) v env) s')) h.1 (statements_alike body body' h.2 (with_name word v env) s'))
     statement_alike _ _ h env s = absurd h
+
+    others_alike : (a b : Else) → OthersAlike from.source from'.source a b → (env : Environment) (s : States V T) → OutcomesAlike (else_means calls i from a env s) (else_means calls i from' b env s)
+    others_alike no_else no_else h env s = outcome_itself (text_outcome [] s)
+    others_alike no_else (otherwise b) h env s = nothing_beside b h env s
+    others_alike (otherwise a) no_else h env s = beside_nothing a h env s
+    others_alike (otherwise a) (otherwise b) h env s = statements_alike a b h env s
 
     pub statements_alike : (ts us : Statements) → StatementsAlike from.source from'.source ts us → (env : Environment) (s : States V T) → Means ts us env s
     statements_alike no_statements no_statements h env s = outcome_itself (text_outcome [] s)

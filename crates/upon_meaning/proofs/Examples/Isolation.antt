@@ -3,7 +3,7 @@ use Rattle.std.proofs.Common.{◌≡◌, pos, [], ◌∷◌, Some, None, refl, c
 use Rattle.upon_types.specs.Expression.{base, var, list}
 use Rattle.upon_types.specs.Fault.{render, fault_with_name}
 use Rattle.upon_types.specs.Path.{item}
-use Rattle.upon_types.specs.Tree.{include, for_loop}
+use Rattle.upon_types.specs.Tree.{include, for_loop, no_else}
 use Rattle.upon_types.specs.Val.{none_val, int_val}
 use Rattle.upon_meaning.proofs.Computing.{computing}
 use Rattle.upon_meaning.proofs.Examples.ShortContexts.{at, word, quoted, first, name, dot, number, bases, statements, shows, map_of, template, engine, rendered, gives, breaks, fault_at}
@@ -18,11 +18,11 @@ unfolding computing
 other_entries_again = refl
 
 -- t = `{{ loop.index }}`, in `{% for x in [1] %}{% include "t" with 5 %}{% endfor %}`: the loop's state is not seen
-state_hidden : rendered (engine ((codes "t", template (codes "{{ loop.index }}") (shows 0 16 (var (first 3 (codes "loop")) (dot 7 (codes "index") ∷ [])) ∷ [])) ∷ []) []) (template (codes "{% for x in [1] %}{% include \"t\" with 5 %}{% endfor %}") (for_loop (item (word 7 (codes "x"))) (base (list (bases (number 13 14 (pos 1) ∷ [])) (at 12 15))) (statements (include (quoted 29 (codes "t")) (Some (base (number 38 39 (pos 5)))) ∷ [])) ∷ [])) none_val ≡ breaks [] (fault_with_name (codes "t") (fault_at render (codes "not found in this scope") 3 7))
+state_hidden : rendered (engine ((codes "t", template (codes "{{ loop.index }}") (shows 0 16 (var (first 3 (codes "loop")) (dot 7 (codes "index") ∷ [])) ∷ [])) ∷ []) []) (template (codes "{% for x in [1] %}{% include \"t\" with 5 %}{% endfor %}") (for_loop (item (word 7 (codes "x"))) (base (list (bases (number 13 14 (pos 1) ∷ [])) (at 12 15))) (statements (include (quoted 29 (codes "t")) (Some (base (number 38 39 (pos 5)))) ∷ [])) no_else ∷ [])) none_val ≡ breaks [] (fault_with_name (codes "t") (fault_at render (codes "not found in this scope") 3 7))
 unfolding computing
 state_hidden = refl
 
 -- t = `{{ loop.index }}`, in `{% for x in [1] %}{% include "t" %}{% endfor %}`: a plain include sees it
-state_seen : rendered (engine ((codes "t", template (codes "{{ loop.index }}") (shows 0 16 (var (first 3 (codes "loop")) (dot 7 (codes "index") ∷ [])) ∷ [])) ∷ []) []) (template (codes "{% for x in [1] %}{% include \"t\" %}{% endfor %}") (for_loop (item (word 7 (codes "x"))) (base (list (bases (number 13 14 (pos 1) ∷ [])) (at 12 15))) (statements (include (quoted 29 (codes "t")) None ∷ [])) ∷ [])) none_val ≡ gives (codes "0")
+state_seen : rendered (engine ((codes "t", template (codes "{{ loop.index }}") (shows 0 16 (var (first 3 (codes "loop")) (dot 7 (codes "index") ∷ [])) ∷ [])) ∷ []) []) (template (codes "{% for x in [1] %}{% include \"t\" %}{% endfor %}") (for_loop (item (word 7 (codes "x"))) (base (list (bases (number 13 14 (pos 1) ∷ [])) (at 12 15))) (statements (include (quoted 29 (codes "t")) None ∷ [])) no_else ∷ [])) none_val ≡ gives (codes "0")
 unfolding computing
 state_seen = refl

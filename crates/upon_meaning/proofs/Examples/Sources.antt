@@ -3,7 +3,7 @@ use Rattle.std.proofs.Common.{◌≡◌, ℕ, ◌+◌, pos, List, [], ◌∷◌,
 use Rattle.upon_types.specs.Expression.{base, var, list}
 use Rattle.upon_types.specs.Fault.{render, fault_with_name, fault_with_picture}
 use Rattle.upon_types.specs.Path.{item}
-use Rattle.upon_types.specs.Tree.{include, for_loop}
+use Rattle.upon_types.specs.Tree.{include, for_loop, no_else}
 use Rattle.upon_types.specs.Val.{Val, none_val, int_val, text_val}
 use Rattle.upon_render.specs.Environment.{context, value_source}
 use Rattle.upon_render.specs.Finding.{Reply, reply}
@@ -28,7 +28,7 @@ in_turn : ℕ → List ValueMember → Reply ℕ (SourceAnswer Val)
 in_turn asked path = reply (says (int_val (pos (asked + 1)))) (asked + 1)
 
 -- `{{ a }}{% for a in [9] %}{{ a }}{% endfor %}{{ a }}`: it is asked twice, as the loop binds the name
-asked_twice : alone (rendering_of {T = Unit {0}} (engine [] []) in_turn None) (template (codes "{{ a }}{% for a in [9] %}{{ a }}{% endfor %}{{ a }}") (shows 0 7 (name 3 (codes "a")) ∷ for_loop (item (word 14 (codes "a"))) (base (list (bases (number 20 21 (pos 9) ∷ [])) (at 19 22))) (statements (shows 25 32 (name 28 (codes "a")) ∷ [])) ∷ shows 44 51 (name 47 (codes "a")) ∷ [])) None value_source (states 0 tt) ≡ record { text = codes "192"; end = good; next = states 2 tt }
+asked_twice : alone (rendering_of {T = Unit {0}} (engine [] []) in_turn None) (template (codes "{{ a }}{% for a in [9] %}{{ a }}{% endfor %}{{ a }}") (shows 0 7 (name 3 (codes "a")) ∷ for_loop (item (word 14 (codes "a"))) (base (list (bases (number 20 21 (pos 9) ∷ [])) (at 19 22))) (statements (shows 25 32 (name 28 (codes "a")) ∷ [])) no_else ∷ shows 44 51 (name 47 (codes "a")) ∷ [])) None value_source (states 0 tt) ≡ record { text = codes "192"; end = good; next = states 2 tt }
 unfolding computing in_turn
 asked_twice = refl
 

@@ -57,7 +57,7 @@ module _ (P : Span → Type 0) (all : (span : Span) → P span) where
     of_statement (inline_expr e span) = (of_expression e, all span)
     of_statement (include word value) = (all word.span, of_given value)
     of_statement (if_else negated e body other) = (of_expression e, of_statements body, of_else other)
-    of_statement (for_loop names e body) = (of_names names, of_expression e, of_statements body)
+    of_statement (for_loop names e body other) = (of_names names, of_expression e, of_statements body, of_else other)
     of_statement (with e word body) = (of_expression e, all word.span, of_statements body)
 
     pub of_statements : (ts : Statements) → StatementsSpans P ts

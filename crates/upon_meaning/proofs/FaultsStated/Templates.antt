@@ -17,7 +17,7 @@ use Rattle.upon_meaning.specs.Alone.{running, on_template, included, alone_withi
 use Rattle.upon_meaning.specs.Emission.{emit}
 use Rattle.upon_meaning.specs.Engine.{Template, Calls, Resolver}
 use Rattle.upon_meaning.specs.Evaluation.{Operand, evaluate}
-use Rattle.upon_meaning.specs.Meaning.{RunningTemplate, fault_in, ends_in, Inclusion, Body, choose, condition, each, each_of, on_value, statement_means, statements_mean, else_means}
+use Rattle.upon_meaning.specs.Meaning.{RunningTemplate, fault_in, ends_in, Inclusion, Body, choose, condition, each, each_of, each_or, on_value, statement_means, statements_mean, else_means}
 use Rattle.upon_meaning.specs.Outcome.{End, good, fails, too_deep, Outcome, States, states, go_on, then_do}
 use Rattle.upon_meaning.specs.RenderFaults.{IsStated, list_item_into_two, map_item_into_one, not_iterable, template_refused, Runs, itself, EndStated}
 use Rattle.upon_meaning.specs.RenderFaults.{included as of_include}
@@ -83,6 +83,11 @@ module _ {V T : Type 0} (calls : Calls V) (resolve : Resolver T) where
       items_stated body k (found items) env s x = each_stated body k (length items) 0 items env s
       items_stated body k (at_fault f) env s x = told_stated from runs f x
 
+      items_or_stated : (body other : Body (States V T)) → ((env : Environment) (s : States V T) → Stated (body env s).end) → ((env : Environment) (s : States V T) → Stated (other env s).end) → (x : Finding (List (List Binding))) (env : Environment) (s : States V T) → FoundFine calls resolve (Lies from.source) Any x → Stated (each_or body other from x env s).end
+      items_or_stated body other k l (found []) env s x = l env s
+      items_or_stated body other k l (found (bs ∷ items)) env s x = items_stated body k (found (bs ∷ items)) env s x
+      items_or_stated body other k l (at_fault f) env s x = told_stated from runs f x
+
       in_expression : (e : Expression) (env : Environment) (s : States V T) (go : Val → States V T → Outcome (States V T)) → ExpressionSpans (Lies from.source) e → ((v : Val) (s : States V T) → Stated (go v s).end) → Stated (on_value from (evaluate calls e env s.values).answer (states (evaluate calls e env s.values).next s.templates) go).end
       in_expression e env s go x k = value_stated (evaluate calls e env s.values).answer _ go (expression_fine calls resolve (Lies from.source) (covers from.source) env e s.values x) k
 
@@ -93,9 +98,9 @@ module _ {V T : Type 0} (calls : Calls V) (resolve : Resolver T) where
         statement_stated (include word None) x env s = h word x.0 env s
         statement_stated (include word (Some e)) x env s = in_expression e env s _ x.1 (λ v s'. h word x.0 (alone_over v) s')
         statement_stated (if_else n e a b) x env s = in_expression e env s _ x.0 (λ v s'. choose_stated (condition n v) _ _ (statements_stated a x.1 env) (else_stated b x.2 env) s')
-        statement_stated (for_loop names e body) x env s =
+        statement_stated (for_loop names e body other) x env s =
             in_expression e env s _ x.1
-            (λ v s'. items_stated (statements_mean calls i from body) (statements_stated body x.2) (items_of names v (expression_span e)) env s' (items_fine (Lies from.source) names v (expression_span e) x.0 (expression_place (Lies from.source) (covers from.source) e x.1)))
+            (λ v s'. items_or_stated (statements_mean calls i from body) (else_means calls i from other) (statements_stated body x.2) (else_stated other x.3) (items_of names v (expression_span e)) env s' (items_fine (Lies from.source) names v (expression_span e) x.0 (expression_place (Lies from.source) (covers from.source) e x.1)))
         statement_stated (with e word body) x env s = in_expression e env s _ x.0 (λ v s'. statements_stated body x.2 (with_name word v env) s')
 
         statements_stated : (ts : Statements) → StatementsSpans (Lies from.source) ts → (env : Environment) (s : States V T) → Stated (statements_mean calls i from ts env s).end

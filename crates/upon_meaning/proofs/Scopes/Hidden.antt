@@ -6,7 +6,7 @@ use Rattle.upon_types.specs.declared.types.Span.{Span}
 use Rattle.upon_types.specs.declared.types.ast.path.AccessOp.{AccessOp}
 use Rattle.upon_types.specs.Expression.{Expression, expression_span}
 use Rattle.upon_types.specs.Path.{Ident, Access, by_index, by_key, Member, LoopVars, item, key_value}
-use Rattle.upon_types.specs.Tree.{Statements, for_loop, with}
+use Rattle.upon_types.specs.Tree.{Statements, Else, for_loop, with}
 use Rattle.upon_types.specs.Val.{Val, none_val, bool_val, int_val, text_val, list_val, map_val}
 use Rattle.upon_render.specs.Environment.{Bound, Binding, binding, plain, loop_state, Environment, bind, bind_all, with_name, iteration}
 use Rattle.upon_render.specs.Finding.{Finding, found, at_fault}
@@ -18,7 +18,7 @@ use Rattle.upon_types.specs.Val.{entry_list}
 use Rattle.upon_meaning.specs.Alone.{included}
 use Rattle.upon_meaning.specs.Engine.{Calls, Resolver}
 use Rattle.upon_meaning.specs.Evaluation.{evaluate}
-use Rattle.upon_meaning.specs.Meaning.{RunningTemplate, with_value, each, each_of, statement_means, statements_mean}
+use Rattle.upon_meaning.specs.Meaning.{RunningTemplate, with_value, each, each_of, each_or, over, statement_means, statements_mean, else_means}
 use Rattle.upon_meaning.specs.Names.{ExpressionReads}
 use Rattle.upon_meaning.specs.Outcome.{Outcome, States, then_do}
 use Rattle.upon_meaning.specs.Shadowing.{Binds, LoopBinds}
@@ -110,11 +110,17 @@ module _ {V T : Type 0} (calls : Calls V) (resolve : Resolver T) (left : ℕ) (r
   found_hides body (found items) s all = each_hides body (length items) 0 items s all
   found_hides body (at_fault f) s all = refl
 
-  pub for_hides : (names : LoopVars) (e : Expression) (body : Statements) (s : States V T) → LoopBinds name names → (ExpressionReads name e → ⊥) →
-      statement_means calls (included calls resolve left) running (for_loop names e body) there s ≡ statement_means calls (included calls resolve left) running (for_loop names e body) gone s
-  for_hides names e body s binds unread =
+  found_or_hides : (body : Statements) (other : Else) (x : Finding (List (List Binding))) (s : States V T) → FoundBinds name x → each_or (means body) (else_means calls (included calls resolve left) running other) running x there s ≡ each_or (means body) (λ e. else_means calls (included calls resolve left) running other there) running x gone s
+  found_or_hides body other (found []) s all = refl
+  found_or_hides body other (found (bs ∷ items)) s all = found_hides body (found (bs ∷ items)) s all
+  found_or_hides body other (at_fault f) s all = refl
+
+  pub for_hides : (names : LoopVars) (e : Expression) (body : Statements) (other : Else) (s : States V T) → LoopBinds name names → (ExpressionReads name e → ⊥) →
+      statement_means calls (included calls resolve left) running (for_loop names e body other) there s
+      ≡ with_value running s.templates (evaluate calls e gone s.values) (λ v q. over (means body) (λ e. else_means calls (included calls resolve left) running other there) running names (expression_span e) gone v q)
+  for_hides names e body other s binds unread =
       λ i. with_value running s.templates (same_expression e unread s.values i)
-      (λ v s'. found_hides body (items_of names v (expression_span e)) s' (items_bind name names v (expression_span e) binds) i)
+      (λ v s'. found_or_hides body other (items_of names v (expression_span e)) s' (items_bind name names v (expression_span e) binds) i)
 
   pub with_hides : (e : Expression) (word : Ident) (body : Statements) (s : States V T) → word.text ≡ name → (ExpressionReads name e → ⊥) →
       statement_means calls (included calls resolve left) running (with e word body) there s ≡ statement_means calls (included calls resolve left) running (with e word body) gone s

@@ -5,7 +5,7 @@ use Rattle.upon_types.specs.declared.types.Span.{Span}
 use Rattle.upon_types.specs.declared.types.ast.path.AccessOp.{AccessOp}
 use Rattle.upon_types.specs.Expression.{Expression, expression_span}
 use Rattle.upon_types.specs.Path.{Access, by_index, by_key, Member, LoopVars}
-use Rattle.upon_types.specs.Tree.{Statements, for_loop}
+use Rattle.upon_types.specs.Tree.{Statements, Else, for_loop}
 use Rattle.upon_render.specs.Environment.{Binding, loop_state, Environment, first_bound, iteration}
 use Rattle.upon_render.specs.Finding.{Finding, found, at_fault}
 use Rattle.upon_render.specs.Items.{items_of}
@@ -14,7 +14,7 @@ use Rattle.upon_render.specs.Source.{Source}
 use Rattle.upon_meaning.specs.Alone.{included}
 use Rattle.upon_meaning.specs.Engine.{Calls, Resolver}
 use Rattle.upon_meaning.specs.Evaluation.{evaluate}
-use Rattle.upon_meaning.specs.Meaning.{RunningTemplate, with_value, each, each_of, statement_means, statements_mean}
+use Rattle.upon_meaning.specs.Meaning.{RunningTemplate, with_value, each, each_of, each_or, statement_means, statements_mean, else_means}
 use Rattle.upon_meaning.specs.Outcome.{Outcome, States, then_do}
 use Rattle.upon_meaning.specs.Shadowing.{without, items_without}
 use Rattle.upon_meaning.proofs.SameIncludes.{alike_body}
@@ -67,7 +67,12 @@ module _ {V T : Type 0} (calls : Calls V) (resolve : Resolver T) (left : ℕ) (r
   found_unseen (found items) s = each_unseen (length items) 0 items s ∙ ap (λ n. each means n 0 (map (without (codes "loop")) items) env s) (counted items)
   found_unseen (at_fault f) s = refl
 
-  pub loop_unseen : (names : LoopVars) (e : Expression) (s : States V T) →
-      statement_means calls (included calls resolve left) running (for_loop names e body) env s
-      ≡ with_value running s.templates (evaluate calls e env s.values) (λ v q. each_of means running (items_without (codes "loop") (items_of names v (expression_span e))) env q)
-  loop_unseen names e s = λ i. with_value running s.templates (evaluate calls e env s.values) (λ v q. found_unseen (items_of names v (expression_span e)) q i)
+  found_or_unseen : (other : Environment → States V T → Outcome (States V T)) (x : Finding (List (List Binding))) (s : States V T) → each_or means other running x env s ≡ each_or means other running (items_without (codes "loop") x) env s
+  found_or_unseen other (found []) s = refl
+  found_or_unseen other (found (bs ∷ items)) s = found_unseen (found (bs ∷ items)) s
+  found_or_unseen other (at_fault f) s = refl
+
+  pub loop_unseen : (names : LoopVars) (e : Expression) (other : Else) (s : States V T) →
+      statement_means calls (included calls resolve left) running (for_loop names e body other) env s
+      ≡ with_value running s.templates (evaluate calls e env s.values) (λ v q. each_or means (else_means calls (included calls resolve left) running other) running (items_without (codes "loop") (items_of names v (expression_span e))) env q)
+  loop_unseen names e other s = λ i. with_value running s.templates (evaluate calls e env s.values) (λ v q. found_or_unseen (else_means calls (included calls resolve left) running other) (items_of names v (expression_span e)) q i)

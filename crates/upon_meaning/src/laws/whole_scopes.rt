@@ -4,7 +4,7 @@ ghost use Rattle.std.specs.Prelude.{◌≡◌, ℕ, List, Some, codes};
 ghost use Rattle.upon_types.specs.declared.types.Span.{Span};
 ghost use Rattle.upon_types.specs.Expression.{Expression, base, var, expression_span};
 ghost use Rattle.upon_types.specs.Path.{Ident, Member, LoopVars};
-ghost use Rattle.upon_types.specs.Tree.{Statement, Statements, inline_expr, include, for_loop, with, statement_then};
+ghost use Rattle.upon_types.specs.Tree.{Statement, Statements, Else, inline_expr, include, for_loop, with, statement_then};
 ghost use Rattle.upon_render.specs.Environment.{Bound, Binding, Environment, binding, bind, bind_all, with_name, iteration};
 ghost use Rattle.upon_render.specs.Items.{items_of};
 ghost use Rattle.upon_render.specs.Lookup.{bound_value, state_walk};
@@ -12,7 +12,7 @@ ghost use Rattle.upon_render.specs.Walk.{walk};
 ghost use Rattle.upon_meaning.specs.Alone.{included};
 ghost use Rattle.upon_meaning.specs.Engine.{Calls, Resolver};
 ghost use Rattle.upon_meaning.specs.Evaluation.{evaluate};
-ghost use Rattle.upon_meaning.specs.Meaning.{RunningTemplate, Inclusion, with_value, each_of, statement_means, statements_mean};
+ghost use Rattle.upon_meaning.specs.Meaning.{RunningTemplate, Inclusion, with_value, each_or, over, statement_means, statements_mean, else_means};
 ghost use Rattle.upon_meaning.specs.Names.{IsName, ExpressionReads};
 ghost use Rattle.upon_meaning.specs.Outcome.{States, then_do};
 ghost use Rattle.upon_meaning.specs.Shadowing.{Binds, LoopBinds, items_without, path_shown};
@@ -28,13 +28,16 @@ pub fn with_hides<V, T>()
 {}
 
 /// A `for` whose expression does not read the name means the same with an outer variable as without it, where the name is
-/// that of one of its variables or `loop`.
+/// that of one of its variables or `loop`, but for its `else` branch, which is outside the loop and sees the outer variable.
 pub fn for_hides<V, T>()
     ensures { (calls : Calls V) (resolve : Resolver T) (left : ℕ) (running : RunningTemplate) (names : LoopVars) (e : Expression)
-        (body : Statements) (name : List ℕ) (between : List Binding) (outer : Bound) (env : Environment) (s : States V T)
-        → LoopBinds name names → (ExpressionReads name e → ⊥)
-        → statement_means calls (included calls resolve left) running (for_loop names e body) (bind_all between (bind (binding name outer) env)) s
-        ≡ statement_means calls (included calls resolve left) running (for_loop names e body) (bind_all between env) s }
+        (body : Statements) (other : Else) (name : List ℕ) (between : List Binding) (outer : Bound) (env : Environment)
+        (s : States V T) → LoopBinds name names → (ExpressionReads name e → ⊥)
+        → statement_means calls (included calls resolve left) running (for_loop names e body other) (bind_all between (bind (binding name outer) env)) s
+        ≡ with_value running s.templates (evaluate calls e (bind_all between env) s.values)
+        (λ v q. over (statements_mean calls (included calls resolve left) running body)
+        (λ _. else_means calls (included calls resolve left) running other (bind_all between (bind (binding name outer) env)))
+        running names (expression_span e) (bind_all between env) v q) }
 {}
 
 /// In the body of a `with`, after any statement, a path that begins with its name is one in its value. So a variable that
@@ -81,10 +84,11 @@ pub fn loop_body_finds<V, T>()
 /// A `for` means what it means where no item binds `loop`: a variable of that name is never seen.
 pub fn loop_variable_hidden<V, T>()
     ensures { (calls : Calls V) (resolve : Resolver T) (left : ℕ) (running : RunningTemplate) (body : Statements) (env : Environment)
-        (names : LoopVars) (e : Expression) (s : States V T)
-        → statement_means calls (included calls resolve left) running (for_loop names e body) env s
+        (names : LoopVars) (e : Expression) (other : Else) (s : States V T)
+        → statement_means calls (included calls resolve left) running (for_loop names e body other) env s
         ≡ with_value running s.templates (evaluate calls e env s.values)
-        (λ v q. each_of (statements_mean calls (included calls resolve left) running body) running
+        (λ v q. each_or (statements_mean calls (included calls resolve left) running body)
+        (else_means calls (included calls resolve left) running other) running
         (items_without (codes "loop") (items_of names v (expression_span e))) env q) }
 {}
 

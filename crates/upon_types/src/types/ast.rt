@@ -66,13 +66,14 @@ pub struct IfElse {
     pub else_branch: Option<Scope>,
 }
 
-/// Statements that are shown for each item of a value.
+/// Statements that are shown for each item of a value, and others that are shown where it has none.
 #[cycle(statement)]
 #[derive(Drop)]
 pub struct ForLoop {
     pub vars: LoopVars,
     pub iterable: Expr,
     pub body: Scope,
+    pub else_branch: Option<Scope>,
 }
 
 /// Statements in which the value of an expression has a name.

@@ -1,7 +1,7 @@
 // The blocks that are open at an offset of a template, and what a tag does to them.
 ghost use Rattle.std.specs.Prelude.{◌≡◌, [], ◌∷◌, ◌++◌, true, false, option_map, string_bytes, codes, IfOk};
 ghost use Rattle.std.specs.Prelude.{MatchOption};
-ghost use Rattle.upon_language.specs.Blocks.{takes, block_takes, if_takes, after_closer, outermost, block_word};
+ghost use Rattle.upon_language.specs.Blocks.{takes, block_takes, if_takes, for_takes, after_closer, outermost, block_word};
 ghost use Rattle.upon_language.specs.Blocks.{closer_words, plain_else, end_if};
 ghost use Rattle.upon_language.specs.Wanted.{in_quotes};
 ghost use Rattle.upon_tags.specs.BlockTags.{tag_of};
@@ -119,9 +119,22 @@ impl OpenBlock {
     {
         match self.kind {
             Kind::If => if_takes(self.has_else, closer),
-            Kind::For => matches!(closer, Closing::EndFor),
+            Kind::For => for_takes(self.has_else, closer),
             Kind::With => matches!(closer, Closing::EndWith),
         }
+    }
+}
+
+// Whether a `for` takes a closing tag.
+fn for_takes(has_else: bool, closer: Closing) -> bool
+    ensures { result ≡ for_takes has_else (closer_of closer) }
+{
+    match closer {
+        Closing::EndFor => true,
+        Closing::Else => !has_else,
+        Closing::ElseIf => false,
+        Closing::EndIf => false,
+        Closing::EndWith => false,
     }
 }
 

@@ -4,14 +4,14 @@ ghost use Rattle.std.specs.Prelude.{◌≡◌, ◌<◌, ℕ, List, [], Option, I
 ghost use Rattle.upon_types.specs.Ast.{scope_of, else_of, statement_of};
 ghost use Rattle.upon_types.specs.AstExpression.{expression_of};
 ghost use Rattle.upon_types.specs.AstPath.{ident_of, loop_vars_of};
-ghost use Rattle.upon_types.specs.Tree.{if_else, statement_then, no_statements};
+ghost use Rattle.upon_types.specs.Tree.{if_else, for_loop, statement_then, no_statements};
 ghost use Rattle.upon_language.specs.Cut.{Lexeme};
 ghost use Rattle.upon_language.specs.Grammar.{AreStatements};
 ghost use Rattle.upon_tags.specs.BlockTags.{if_tag, else_if_tag, else_tag, for_tag, with_tag};
 ghost use Rattle.upon_syntax.specs.Pieces.{block_piece};
 ghost use Rattle.upon_tags.specs.BlockTags.{tag_of};
 ghost use Rattle.upon_syntax.specs.Pieces.{piece_of, pieces_of, ArePieces, LeaveOpen};
-ghost use Rattle.upon_syntax.specs.PieceTrees.{statements_back, MayPrecede, Pushes, Enters, Leaves, ReadsPiece};
+ghost use Rattle.upon_syntax.specs.PieceTrees.{statements_back, branch_of, with_branch, MayPrecede, Pushes, Enters, Leaves, ReadsPiece};
 
 use crate::compile::parse::piece::Piece;
 use std::alloc::{AllocError, Global};
@@ -36,7 +36,8 @@ pub fn tree_of_pieces(alloc: Global, mut pieces: Vec<Piece>) -> Result<Scope, Al
 enum BlockEnd {
     /// Of an `if`, with its other branch, if it has one.
     If(Option<Scope>),
-    For,
+    /// Of a `for`, with its other branch, if it has one.
+    For(Option<Scope>),
     With,
 }
 
@@ -92,7 +93,7 @@ impl TreeBuilder {
             Tag::Else => self.read_else(),
             Tag::EndIf => self.enter(BlockEnd::If(None)),
             Tag::For(vars, iterable) => self.read_for(vars, iterable),
-            Tag::EndFor => self.enter(BlockEnd::For),
+            Tag::EndFor => self.enter(BlockEnd::For(None)),
             Tag::With(expr, name) => self.read_with(expr, name),
             Tag::EndWith => self.enter(BlockEnd::With),
             Tag::Include(include) => self.push(Stmt::Include(include)),
@@ -124,8 +125,8 @@ impl TreeBuilder {
         requires { MayPrecede (block_piece else_tag) self }
         ensures { IfOk result (ReadsPiece (block_piece else_tag) self) }
     {
-        let (other, _end, outer) = self.leave();
-        outer.enter(BlockEnd::If(Some(other)))
+        let (other, end, outer) = self.leave();
+        outer.enter(with_branch(end, other))
     }
 
     // Reads the tag of a `for`, which is then whole.
@@ -133,12 +134,8 @@ impl TreeBuilder {
         requires { MayPrecede (block_piece (for_tag (loop_vars_of vars) (expression_of iterable))) self }
         ensures { IfOk result (ReadsPiece (block_piece (for_tag (loop_vars_of vars) (expression_of iterable))) self) }
     {
-        let (body, _end, outer) = self.leave();
-        outer.push(Stmt::ForLoop(ForLoop {
-            vars,
-            iterable,
-            body,
-        }))
+        let (body, end, outer) = self.leave();
+        outer.push(for_stmt(vars, iterable, body, other_branch(end)))
     }
 
     // Reads the tag of a `with`, which is then whole.
@@ -201,15 +198,25 @@ impl TreeBuilder {
     }
 }
 
-// The other branch of an `if`, which is before its end.
+// The other branch of an `if` or a `for`, which is before its end; a `with` has none.
 fn other_branch(end: BlockEnd) -> Option<Scope>
-    requires { (other : Option Scope) × (end ≡ BlockEnd.If other) }
-    ensures { end ≡ BlockEnd.If result }
+    ensures { result ≡ branch_of end }
 {
     match end {
         BlockEnd::If(other) => other,
-        BlockEnd::For => unreachable!(),
-        BlockEnd::With => unreachable!(),
+        BlockEnd::For(other) => other,
+        BlockEnd::With => None,
+    }
+}
+
+// The end of an `if` or a `for`, with the other branch that is before it.
+fn with_branch(end: BlockEnd, other: Scope) -> BlockEnd
+    ensures { result ≡ with_branch other end }
+{
+    match end {
+        BlockEnd::If(_) => BlockEnd::If(Some(other)),
+        BlockEnd::For(_) => BlockEnd::For(Some(other)),
+        BlockEnd::With => BlockEnd::With,
     }
 }
 
@@ -222,6 +229,19 @@ fn if_stmt(cond: Condition, then_branch: Scope, else_branch: Option<Scope>) -> S
         not: cond.not,
         cond: cond.expr,
         then_branch,
+        else_branch,
+    })
+}
+
+// The statement of a `for`.
+fn for_stmt(vars: LoopVars, iterable: Expr, body: Scope, else_branch: Option<Scope>) -> Stmt
+    ensures { statement_of result
+        ≡ for_loop (loop_vars_of vars) (expression_of iterable) (scope_of body) (else_of else_branch) }
+{
+    Stmt::ForLoop(ForLoop {
+        vars,
+        iterable,
+        body,
         else_branch,
     })
 }

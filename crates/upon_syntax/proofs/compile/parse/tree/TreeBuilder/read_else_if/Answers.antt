@@ -15,5 +15,5 @@ returns c =
     let e = expression_of c.args.cond.expr in
     let chain = c.in_ok-chain.chain in
     IfOk-weaker c.enter.result (Enters (If (Some chain)) left.2) (ReadsPiece (block_piece (else_if_tag negated e)) c.args.self)
-    (λ new p. reads_else_if c.args.self left.2 new negated e left.0 chain c.other_branch.result left.1 c.if_stmt.result c.leave-then_branch.ensures c.other_branch.ensures p c.in_ok-chain.ensures c.if_stmt.ensures)
+    (λ new p. reads_else_if c.args.self left.2 new negated e left.0 chain c.other_branch.result left.1 c.if_stmt.result c.leave-then_branch.ensures c.requires c.other_branch.ensures p c.in_ok-chain.ensures c.if_stmt.ensures)
     c.enter.ensures

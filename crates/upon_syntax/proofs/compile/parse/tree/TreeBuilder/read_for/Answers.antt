@@ -1,10 +1,6 @@
-use Rattle.std.proofs.Common.{◌∙◌}
 use Rattle.std.proofs.lemmas.Result.{IfOk-weaker}
 use Rattle.upon_types.specs.AstExpression.{expression_of}
 use Rattle.upon_types.specs.AstPath.{loop_vars_of}
-use Rattle.upon_types.specs.declared.types.ast.ForLoop.{ForLoop, roll-ForLoop}
-use Rattle.upon_types.specs.declared.types.ast.Stmt as stmt
-use Rattle.upon_types.proofs.Trees.{view-ForLoop, for_of-out}
 use Rattle.upon_tags.specs.BlockTags.{for_tag}
 use Rattle.upon_syntax.specs.Pieces.{block_piece}
 use Rattle.upon_syntax.specs.PieceTrees.{Pushes, ReadsPiece}
@@ -16,7 +12,6 @@ returns c =
     let left = c.leave-body.result in
     let names = loop_vars_of c.args.vars in
     let e = expression_of c.args.iterable in
-    let whole : ForLoop = roll-ForLoop (record { vars = c.args.vars; iterable = c.args.iterable; body = left.0 }) in
-    IfOk-weaker c.push.result (Pushes (stmt.ForLoop whole) left.2) (ReadsPiece (block_piece (for_tag names e)) c.args.self)
-    (λ new p. reads_for c.args.self left.2 new names e left.0 left.1 (stmt.ForLoop whole) c.leave-body.ensures c.requires p (view-ForLoop whole ∙ for_of-out whole))
+    IfOk-weaker c.push.result (Pushes c.for_stmt.result left.2) (ReadsPiece (block_piece (for_tag names e)) c.args.self)
+    (λ new p. reads_for c.args.self left.2 new names e left.0 c.other_branch.result left.1 c.for_stmt.result c.leave-body.ensures c.requires c.other_branch.ensures p c.for_stmt.ensures)
     c.push.ensures

@@ -12,5 +12,5 @@ returns c =
     let negated = c.args.cond.not in
     let e = expression_of c.args.cond.expr in
     IfOk-weaker c.push.result (Pushes c.if_stmt.result left.2) (ReadsPiece (block_piece (if_tag negated e)) c.args.self)
-    (λ new p. reads_if c.args.self left.2 new negated e left.0 c.other_branch.result left.1 c.if_stmt.result c.leave-then_branch.ensures c.other_branch.ensures p c.if_stmt.ensures)
+    (λ new p. reads_if c.args.self left.2 new negated e left.0 c.other_branch.result left.1 c.if_stmt.result c.leave-then_branch.ensures c.requires c.other_branch.ensures p c.if_stmt.ensures)
     c.push.ensures

@@ -1,0 +1,4 @@
+pub mod TreeKept
+pub mod FaultKept
+pub mod MeaningKept
+pub mod RenderingKept

@@ -1,0 +1,24 @@
+-- When all that a template reaches was a template before `for .. else`.
+use Rattle.std.specs.Prelude.{◌≡◌, ℕ, List, Option, option_map}
+use Rattle.upon_render.specs.Source.{says}
+use Rattle.upon_meaning.specs.Engine.{Resolver, Table}
+use Rattle.upon_meaning.specs.Includes.{Includes, Reaches}
+use Rattle.upon_before.specs.Tree.{Statements}
+use Rattle.upon_before.specs.Alone.{Template, Resolver as ResolverBefore, Table as TableBefore}
+use Rattle.upon_before.specs.Now.{statements_now, template_now, reply_now}
+
+-- a tree includes no name but these
+abbrev pub IncludesOnly : (List ℕ → Type 0) → Statements → Type 0
+IncludesOnly names tree = (name : List ℕ) → Includes name (statements_now tree) → names name
+
+-- under these names both answer alike in all states, and the templates that answer include no name but these
+pub record AnswersAlike {T : Type 0} (names : List ℕ → Type 0) (before : ResolverBefore T) (now : Resolver T)
+    : Type 0 where
+  pub same : (q : T) (name : List ℕ) → names name → now q name ≡ reply_now (before q name)
+  pub closed : (q : T) (name : List ℕ) (t : Template) → names name → (before q name).answer ≡ says t
+      → IncludesOnly names t.tree
+
+-- under each name that a template reaches both tables hold the same, or neither holds any
+abbrev pub HoldAlike : Statements → TableBefore → Table → Type 0
+HoldAlike tree before now = (name : List ℕ) → Reaches now (statements_now tree) name
+    → now name ≡ option_map template_now (before name)

@@ -1,0 +1,7 @@
+pub mod Tree
+pub mod Grammar
+pub mod Faults
+pub mod Meaning
+pub mod Alone
+pub mod Now
+pub mod Kept
