@@ -13,3 +13,4 @@ pub mod Runs
 pub mod OnTheWay
 pub mod AtStart
 pub mod Writes
+pub mod Fewer

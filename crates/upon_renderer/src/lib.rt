@@ -9,3 +9,4 @@ pub mod report;
 pub mod run;
 pub mod source;
 mod step;
+mod steps;

@@ -8,7 +8,9 @@ use crate::failure::{Failure, stopped};
 use crate::machine::{Flow, Machine};
 use crate::source::ProgramSource;
 use crate::step::step;
-use std::alloc::{AllocError, Global};
+use crate::steps::Steps;
+use std::alloc::Global;
+use std::marker::Brand;
 use upon_calls::callables::Callables;
 use upon_fmt::output::Output;
 use upon_render::source::ValueSource;
@@ -35,7 +37,7 @@ fn end_of(flow: Flow) -> Option<Ending>
     }
 }
 
-// Runs the machine's program to its end. A run of `u64::MAX` steps is given up, as out of memory.
+// Runs the machine's program to its end.
 pub(crate) fn run<'r, V: ValueSource, T: ProgramSource<'r>, C: Callables, W: Output>(
     alloc: Global,
     callables: &C,
@@ -52,7 +54,8 @@ pub(crate) fn run<'r, V: ValueSource, T: ProgramSource<'r>, C: Callables, W: Out
         known.outcome
         (state_of V.value_state T.template_state known.values machine.new).asked }
 {
-    'steps: for _ in 0..u64::MAX {
+    let mut left = Steps::some::<_, _, Brand>(callables, &*machine);
+    'steps: loop {
         let running = machine.running;
         match step(alloc, callables, machine, out) {
             Err(stop) => return Err(stopped(alloc, running, stop)),
@@ -62,6 +65,6 @@ pub(crate) fn run<'r, V: ValueSource, T: ProgramSource<'r>, C: Callables, W: Out
                 }
             }
         }
+        left = Steps::less(&left);
     }
-    Err(Failure::Error(AllocError.into()))
 }

@@ -1,9 +1,27 @@
-use Rattle.std.proofs.Common.{◌≡◌}
+use Rattle.std.proofs.Common.{◌≡◌, ◌<◌}
+use Rattle.upon_render.specs.Roots.{pure_root}
+use Rattle.upon_render.specs.Stack.{root_of}
+use Rattle.upon_machine.specs.Run.{steps}
 use Rattle.upon_renderer.specs.Acts.{calls_of}
 use Rattle.upon_renderer.specs.Keeps.{Kept}
+use Rattle.upon_renderer.specs.Machine.{state_of}
 use Rattle.upon_renderer.specs.Runs.{Known, Starts}
 use Rattle.upon_renderer.proofs.OnTheWay.{OnTheWay}
 use Rattle.upon_renderer.proofs.run.run.Given as goal
+
+-- the run ends within so many steps
+abbrev pub ghosts-some : goal.ghosts-some
+ghosts-some g a = record {
+  holds = λ n.
+      (known : Known g.V.ValueSource.State g.T.ProgramSource.State)
+      × Starts
+      g.V.ValueSource.ask g.V.ValueSource.value_state g.T.ProgramSource.template_state (g.T.ProgramSource.resolve a._b.now.templates)
+      (g.C.Callables.callables a._a.now) (g.C.Callables.default_formatter a._a.now) known a._b.now
+      × (n ≡ known.count);
+}
+
+abbrev pub decreases-steps : goal.decreases-steps
+decreases-steps g l = l.left.left
 
 abbrev pub invariant-steps : goal.invariant-steps
 invariant-steps g l = record {
@@ -18,4 +36,13 @@ invariant-steps g l = record {
       g.V.ValueSource.ask g.V.ValueSource.value_state g.V.ValueSource.holds g.T.ProgramSource.template_state g.T.ProgramSource.resolve g.T.ProgramSource.holds
       (calls_of (g.C.Callables.callables l.fn.callables) (g.C.Callables.default_formatter l.fn.callables) known.ask)
       known.values known.count known.outcome l.initial.machine (g.W.Output.given l.initial.out) (g.W.Output.given l.out) l.machine;
+  enough :
+      (known : Known g.V.ValueSource.State g.T.ProgramSource.State)
+      × Starts
+      g.V.ValueSource.ask g.V.ValueSource.value_state g.T.ProgramSource.template_state (g.T.ProgramSource.resolve l.initial.machine.templates)
+      (g.C.Callables.callables l.fn.callables) (g.C.Callables.default_formatter l.fn.callables) known l.initial.machine
+      × (steps
+      (calls_of (g.C.Callables.callables l.fn.callables) (g.C.Callables.default_formatter l.fn.callables) known.ask)
+      (g.T.ProgramSource.resolve l.initial.machine.templates) (pure_root (root_of l.initial.machine.stack)) known.count
+      (state_of g.V.ValueSource.value_state g.T.ProgramSource.template_state known.values l.machine) < l.left.left);
 }
