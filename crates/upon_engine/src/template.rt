@@ -4,9 +4,6 @@ ghost use Rattle.std.specs.Cow.{cow_str_bytes};
 ghost use Rattle.upon_lexer.specs.Syntax.{syntax_delimiters};
 ghost use Rattle.upon_compiled.specs.Compiled.{HasProgram};
 
-#[cfg(test)]
-mod parts;
-
 use std::borrow::CowStr;
 use upon_instructions::types::program::Instr;
 use upon_syntax::types::syntax::Syntax;
@@ -44,7 +41,13 @@ impl<'s> Template<'s> {
         ensures source { result.now ≡ template_source self.now }
         ensures has_tree { ∥ HasTree (template_syntax self.now) (template_source self.now) (template_tree self.now) ∥₁ }
     {
-        self.source.as_str()
+        // No field but these: a template keeps no tree.
+        let Template {
+            source,
+            syntax: _,
+            instrs: _,
+        } = self;
+        source.as_str()
     }
 
     /// Its instructions.
