@@ -1,11 +1,14 @@
-// What the language keeps under the delimiters of the default syntax.
-ghost use Rattle.std.specs.Prelude.{◌≡◌, ◌⊎◌, ℕ, List};
+// What the language keeps under the delimiters of the default syntax, and what the trie of any delimiters has.
+ghost use Rattle.std.specs.Prelude.{◌≡◌, ◌⊎◌, ℕ, List, length};
 ghost use Rattle.std.specs.Str.{IsUtf8};
 ghost use Rattle.upon_types.specs.declared.types.Span.{Span};
 ghost use Rattle.upon_types.specs.Tree.{Statements};
 ghost use Rattle.upon_language.specs.Grammar.{HasTree};
 ghost use Rattle.upon_language.specs.FirstFault.{IsFirstFault};
 ghost use Rattle.upon_language.specs.DefaultDelimiters.{default_delimiters};
+ghost use Rattle.upon_language.specs.Search.{DelimiterText};
+ghost use Rattle.upon_lexer.specs.Grown.{nodes_of};
+ghost use Rattle.upon_lexer.specs.Trie.{IsTrieOf};
 
 /// Under the default delimiters a UTF-8 text has exactly one tree and no first fault, or exactly one first fault and no
 /// tree.
@@ -17,4 +20,10 @@ pub fn default_one_answer()
         ⊎ ((span : Span) × (reason : List ℕ) × IsFirstFault default_delimiters s span reason
         × ((other : Span) (words : List ℕ) → IsFirstFault default_delimiters s other words → (span ≡ other) × (reason ≡ words))
         × ((tree : Statements) → HasTree default_delimiters s tree → ⊥)) }
+{}
+
+/// The trie of any delimiters leads by the text of each to a node, by no two texts to one node, and the node of a text has
+/// the first delimiter with that text.
+pub fn trie_of_any_delimiters()
+    ensures { (delimiters : List DelimiterText) → IsTrieOf (length delimiters) delimiters (nodes_of delimiters) }
 {}
