@@ -45,16 +45,15 @@ impl FewBytes {
         if byte == self.first || byte == self.second || byte == self.third {
             return Some(self);
         }
-        if self.second == self.first {
+        if self.third == self.second {
             return Some(FewBytes {
-                second: byte,
                 third: byte,
                 ..self
             });
         }
-        if self.third == self.second {
+        if self.second == self.first {
             return Some(FewBytes {
-                third: byte,
+                second: byte,
                 ..self
             });
         }
