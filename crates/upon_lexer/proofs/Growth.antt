@@ -130,16 +130,16 @@ module _ (nodes : List Node) (n b : ℕ) (linked : IsLinked nodes) (inside : n <
         let new = grown nodes n b in
         let Goal : Type 0 = (Leads nodes x (c ∷ t) m) ⊎ ((m ≡ length nodes) × ((u : List ℕ) × (c ∷ t ≡ u ++ b ∷ []) × Leads nodes x u n)) in
         let old_child : child_of new x c ≡ child_of nodes x c → Goal = λ same.
-            let From : ℕ → Type 0 = λ y. Leads new y t m in
-            let some : 0 < child_of nodes x c = omega (arith, same, leads.0) in
-            elim (leads_new (child_of nodes x c) t m (child_inside nodes linked x c below) (subst From same leads.1)) [
-              | inl old ↦ inl (some, old)
-              | inr w ↦ inr (w.0, (c ∷ w.1.0, ap (λ r. c ∷ r) w.1.1, (some, w.1.2)))
-            ] in
+        let From : ℕ → Type 0 = λ y. Leads new y t m in
+        let some : 0 < child_of nodes x c = omega (arith, same, leads.0) in
+        elim (leads_new (child_of nodes x c) t m (child_inside nodes linked x c below) (subst From same leads.1)) [
+          | inl old ↦ inl (some, old)
+          | inr w ↦ inr (w.0, (c ∷ w.1.0, ap (λ r. c ∷ r) w.1.1, (some, w.1.2)))
+        ] in
         let new_child : x ≡ n → b ≡ c → child_of new x c ≡ length nodes → Goal = λ at byte same.
-            let From : ℕ → Type 0 = λ y. Leads new y t m in
-            let ends = from_made t m (subst From same leads.1) in
-            inr (sym ends.1, ([], ap (λ r. c ∷ r) ends.0 ∙ ap (λ y. y ∷ []) (sym byte), at)) in
+        let From : ℕ → Type 0 = λ y. Leads new y t m in
+        let ends = from_made t m (subst From same leads.1) in
+        inr (sym ends.1, ([], ap (λ r. c ∷ r) ends.0 ∙ ap (λ y. y ∷ []) (sym byte), at)) in
         elim (same_or_not x n) [
           | inr other ↦ old_child (child-other x c below other)
           | inl at ↦ elim (same_or_not b c) [

@@ -43,30 +43,30 @@ module _ (k : ℕ) (ds : List DelimiterText) (nodes : List Node) (trie : IsTrieO
   grown-trie =
       let new = grown nodes n b in
       let one_new : (t u : List ℕ) (m : ℕ) → Leads new 0 t m → Leads new 0 u m → t ≡ u = λ t u m first second.
-          elim (leads_new nodes n b trie.linked here absent 0 t m trie.linked.some first) [
-            | inl old ↦ elim (leads_new nodes n b trie.linked here absent 0 u m trie.linked.some second) [
-              | inl other ↦ trie.one t u m old other
-              | inr w ↦ absurd (omega (arith, w.0, leads_inside nodes trie.linked 0 t m trie.linked.some old))
-            ]
-            | inr v ↦ elim (leads_new nodes n b trie.linked here absent 0 u m trie.linked.some second) [
-              | inl other ↦ absurd (omega (arith, v.0, leads_inside nodes trie.linked 0 u m trie.linked.some other))
-              | inr w ↦ v.1.1 ∙ ap (λ r. r ++ b ∷ []) (trie.one v.1.0 w.1.0 n v.1.2 w.1.2) ∙ sym w.1.1
-            ]
-          ] in
+      elim (leads_new nodes n b trie.linked here absent 0 t m trie.linked.some first) [
+        | inl old ↦ elim (leads_new nodes n b trie.linked here absent 0 u m trie.linked.some second) [
+          | inl other ↦ trie.one t u m old other
+          | inr w ↦ absurd (omega (arith, w.0, leads_inside nodes trie.linked 0 t m trie.linked.some old))
+        ]
+        | inr v ↦ elim (leads_new nodes n b trie.linked here absent 0 u m trie.linked.some second) [
+          | inl other ↦ absurd (omega (arith, v.0, leads_inside nodes trie.linked 0 u m trie.linked.some other))
+          | inr w ↦ v.1.1 ∙ ap (λ r. r ++ b ∷ []) (trie.one v.1.0 w.1.0 n v.1.2 w.1.2) ∙ sym w.1.1
+        ]
+      ] in
       let pairs_new : (t : List ℕ) (m : ℕ) → Leads new 0 t m → IsFirstWith k ds t (node_at new m).pair = λ t m leads.
-          elim (leads_new nodes n b trie.linked here absent 0 t m trie.linked.some leads) [
-            | inl old ↦
-                let inside = leads_inside nodes trie.linked 0 t m trie.linked.some old in
-                let First : Option ℕ → Type 0 = λ o. IsFirstWith k ds t o in
-                subst First (sym (pair_same m inside)) (trie.pairs t m old)
-            | inr w ↦
-                let First : Option ℕ → Type 0 = λ o. IsFirstWith k ds t o in
-                let none : IsFirstWith k ds t None = λ j below same. no_text j below
-                    (same ∙ w.1.1 ∙ ap (λ r. r ++ b ∷ []) (trie.one w.1.0 p n w.1.2 at)) in
-                let is : (node_at new m).pair ≡ None =
-                    ap (λ x. (node_at new x).pair) w.0 ∙ ap (λ (x : Node). x.pair) (grown-made nodes n b trie.linked here) in
-                subst First (sym is) none
-          ] in
+      elim (leads_new nodes n b trie.linked here absent 0 t m trie.linked.some leads) [
+        | inl old ↦
+            let inside = leads_inside nodes trie.linked 0 t m trie.linked.some old in
+            let First : Option ℕ → Type 0 = λ o. IsFirstWith k ds t o in
+            subst First (sym (pair_same m inside)) (trie.pairs t m old)
+        | inr w ↦
+            let First : Option ℕ → Type 0 = λ o. IsFirstWith k ds t o in
+            let none : IsFirstWith k ds t None = λ j below same. no_text j below
+            (same ∙ w.1.1 ∙ ap (λ r. r ++ b ∷ []) (trie.one w.1.0 p n w.1.2 at)) in
+            let is : (node_at new m).pair ≡ None =
+            ap (λ x. (node_at new x).pair) w.0 ∙ ap (λ (x : Node). x.pair) (grown-made nodes n b trie.linked here) in
+            subst First (sym is) none
+      ] in
       record {
         linked = grown-linked nodes n b trie.linked here;
         covers = λ i below. let old = trie.covers i below in
@@ -85,17 +85,18 @@ module _ (k : ℕ) (ds : List DelimiterText) (nodes : List Node) (trie : IsTrieO
       let new = grown nodes n b in
       let inside = here k ds nodes trie n b p at absent in
       let is : child_of new n b ≡ length nodes =
-          child-here nodes n b trie.linked inside b
-          ∙ ap (λ v. cond v (length nodes) (child_of nodes n b)) (eq-eqb b b refl) in
-      let some : 0 < child_of new n b = omega (arith, is, inside) in
-      (grown-trie k ds nodes trie n b p at absent,
-      leads_append new 0 p (b ∷ []) n (length nodes)
-        (leads_still nodes n b trie.linked inside absent 0 p n trie.linked.some at) (some, is))
+      child-here nodes n b trie.linked inside b
+      ∙ ap (λ v. cond v (length nodes) (child_of nodes n b)) (eq-eqb b b refl) in
+      let some : 0 < child_of new n b = omega (arith, is, inside) in (
+        grown-trie k ds nodes trie n b p at absent,
+        leads_append new 0 p (b ∷ []) n (length nodes)
+            (leads_still nodes n b trie.linked inside absent 0 p n trie.linked.some at) (some, is),
+      )
   child_case (suc v) is =
       let some : 0 < child_of nodes n b = omega (arith, is) in
       let Has : Bool → Type 0 = λ w.
-          IsTrieOf k ds (cond w (grown nodes n b) nodes)
-          × Leads (cond w (grown nodes n b) nodes) 0 (p ++ b ∷ []) (cond w (length nodes) (suc v)) in
+      IsTrieOf k ds (cond w (grown nodes n b) nodes)
+      × Leads (cond w (grown nodes n b) nodes) 0 (p ++ b ∷ []) (cond w (length nodes) (suc v)) in
       let differs : suc v ≢ 0 = omega arith in
       subst Has (sym (ne_eqb (suc v) 0 differs)) (trie, leads_append nodes 0 p (b ∷ []) n (suc v) at (some, is))
 
@@ -114,7 +115,7 @@ with_path-trie k ds nodes n p (b ∷ t) trie at =
     let new = with_child nodes n b in
     let m = made_child nodes n b in
     let rest = with_path-trie k ds new m (p ++ b ∷ []) t
-        (with_child-trie k ds nodes trie n b p at) (with_child-leads k ds nodes trie n b p at) in
+    (with_child-trie k ds nodes trie n b p at) (with_child-leads k ds nodes trie n b p at) in
     let To : List ℕ → Type 0 = λ r. Leads (with_path new m t) 0 r (path_end new m t) in
     (rest.0, subst To (append_assoc p (b ∷ []) t) rest.1)
 
@@ -175,8 +176,8 @@ module _ (k : ℕ) (ds : List DelimiterText) (nodes : List Node) (trie : IsTrieO
       let first = (node_at nodes x).child in
       ap (λ y. sibling_with written y c) (child_same x)
       ∙ unchanged nodes written trie.linked written-linked
-        (record { longer = omega (arith, written-length); bytes = λ m below. byte_same m; siblings = λ m below. sibling_same m })
-        c first first (omega arith) (trie.linked.children x inside)
+      (record { longer = omega (arith, written-length); bytes = λ m below. byte_same m; siblings = λ m below. sibling_same m })
+      c first first (omega arith) (trie.linked.children x inside)
 
   to_written : (t : List ℕ) (m : ℕ) → Leads nodes 0 t m → Leads written 0 t m
   to_written t m = leads_on nodes written trie.linked (λ x c inside some. children_stay x c inside) 0 t m trie.linked.some
@@ -211,10 +212,10 @@ module _ (k : ℕ) (ds : List DelimiterText) (nodes : List Node) (trie : IsTrieO
   unfolding mark
   mark_case None is =
       let first_here : (t : List ℕ) → Leads nodes 0 t n → IsFirstWith (k + 1) ds t (Some k) = λ t leads.
-          let same : t ≡ text_at ds k = trie.one t (text_at ds k) n leads at in
-          let First : Option ℕ → Type 0 = λ o. IsFirstWith k ds t o in
-          let none : IsFirstWith k ds t None = subst First is (trie.pairs t n leads) in
-          (omega arith, sym same, none) in
+      let same : t ≡ text_at ds k = trie.one t (text_at ds k) n leads at in
+      let First : Option ℕ → Type 0 = λ o. IsFirstWith k ds t o in
+      let none : IsFirstWith k ds t None = subst First is (trie.pairs t n leads) in
+      (omega arith, sym same, none) in
       record {
         linked = written-linked;
         covers = covers_more written to_written;
@@ -226,19 +227,19 @@ module _ (k : ℕ) (ds : List DelimiterText) (nodes : List Node) (trie : IsTrieO
               | inl e ↦
                   let Old : ℕ → Type 0 = λ x. Leads nodes 0 t x in
                   let pair : (node_at written m).pair ≡ Some k =
-                      ap (λ x. (node_at written x).pair) e ∙ ap (λ (x : Node). x.pair) written-here in
+                  ap (λ x. (node_at written x).pair) e ∙ ap (λ (x : Node). x.pair) written-here in
                   subst First (sym pair) (first_here t (subst Old e old))
               | inr other ↦
                   subst First (sym (ap (λ (x : Node). x.pair) (written-other m other)))
-                    (other_node t m old (differs_at t m old other) _ (trie.pairs t m old))
+                  (other_node t m old (differs_at t m old other) _ (trie.pairs t m old))
             ];
       }
   mark_case (Some i) is =
       let still_first : (t : List ℕ) → Leads nodes 0 t n → IsFirstWith (k + 1) ds t (node_at nodes n).pair = λ t leads.
-          let First : Option ℕ → Type 0 = λ o. IsFirstWith k ds t o in
-          let More : Option ℕ → Type 0 = λ o. IsFirstWith (k + 1) ds t o in
-          let first : IsFirstWith k ds t (Some i) = subst First is (trie.pairs t n leads) in
-          subst More (sym is) (omega (arith, first.0), first.1, first.2) in
+      let First : Option ℕ → Type 0 = λ o. IsFirstWith k ds t o in
+      let More : Option ℕ → Type 0 = λ o. IsFirstWith (k + 1) ds t o in
+      let first : IsFirstWith k ds t (Some i) = subst First is (trie.pairs t n leads) in
+      subst More (sym is) (omega (arith, first.0), first.1, first.2) in
       record {
         linked = trie.linked;
         covers = covers_more nodes (λ t m leads. leads);
@@ -272,12 +273,12 @@ with_texts-trie ds qs [] k nodes all count trie =
     subst At (count ∙ ap length (sym (all ∙ append-nil qs))) trie
 with_texts-trie ds qs (p ∷ ps) k nodes all count trie =
     let text : text_at ds k ≡ p.text =
-        ap (λ xs. text_at xs k) all ∙ ap (λ x. text_at (qs ++ p ∷ ps) x) count ∙ text_at-seam qs p ps in
+    ap (λ xs. text_at xs k) all ∙ ap (λ x. text_at (qs ++ p ∷ ps) x) count ∙ text_at-seam qs p ps in
     let Has : List ℕ → Type 0 = λ t. IsTrieOf (k + 1) ds (with_text nodes t k) in
     with_texts-trie ds (qs ++ p ∷ []) ps (k + 1) (with_text nodes p.text k)
-      (all ∙ sym (append_assoc qs (p ∷ []) ps))
-      (ap (λ x. x + 1) count ∙ sym (length_push qs p))
-      (subst Has text (with_text-trie k ds nodes trie))
+    (all ∙ sym (append_assoc qs (p ∷ []) ps))
+    (ap (λ x. x + 1) count ∙ sym (length_push qs p))
+    (subst Has text (with_text-trie k ds nodes trie))
 
 blank_child : (n c : ℕ) → child_of (blank ∷ []) n c ≡ 0
 blank_child zero c = sibling_with-zero (blank ∷ []) c

@@ -26,33 +26,37 @@ module _ (ds : List DelimiterText) (nodes : List Node) (trie : IsTrieOf (length 
     | inr same ↦ none j inside (is_read (text_at ds j) occurs same)
   ]
   add_none none (Some found) before =
-      let best = before.0 in
-      (record {
-        in_range = best.in_range;
-        occurs = best.occurs;
-        longest = λ j inside short occurs. elim (less_or_same (length (text_at ds j)) k short) [
-          | inl less ↦ best.longest j inside less occurs
-          | inr same ↦ absurd (none j inside (is_read (text_at ds j) occurs same))
-        ];
-        earliest = λ j earlier short occurs. elim (less_or_same (length (text_at ds j)) k short) [
-          | inl less ↦ best.earliest j earlier less occurs
-          | inr same ↦ absurd (none j (omega (arith, earlier, best.in_range)) (is_read (text_at ds j) occurs same))
-        ];
-      }, before.1)
+      let best = before.0 in (
+        record {
+          in_range = best.in_range;
+          occurs = best.occurs;
+          longest = λ j inside short occurs. elim (less_or_same (length (text_at ds j)) k short) [
+            | inl less ↦ best.longest j inside less occurs
+            | inr same ↦ absurd (none j inside (is_read (text_at ds j) occurs same))
+          ];
+          earliest = λ j earlier short occurs. elim (less_or_same (length (text_at ds j)) k short) [
+            | inl less ↦ best.earliest j earlier less occurs
+            | inr same ↦ absurd (none j (omega (arith, earlier, best.in_range)) (is_read (text_at ds j) occurs same))
+          ];
+        },
+        before.1,
+      )
 
   add_some : (i : ℕ) → k ≤ length (drop p s) → IsFirstWith (length ds) ds (take k (drop p s)) (Some i)
       → LongestShorter (k + 1) ds s p (Some (i, p + k))
   add_some i room first =
-      let size : length (text_at ds i) ≡ k = omega (arith, ap length first.1, length-take k (drop p s)) in
-      (record {
-        in_range = first.0;
-        occurs = first.1 ∙ ap (λ n. take n (drop p s)) (sym size);
-        longest = λ j inside short occurs. omega (arith, short, size);
-        earliest = λ j earlier short occurs. elim (less_or_same (length (text_at ds j)) k short) [
-          | inl less ↦ omega (arith, less, size)
-          | inr same ↦ absurd (first.2 j earlier (is_read (text_at ds j) occurs same))
-        ];
-      }, ap (λ n. p + n) (sym size))
+      let size : length (text_at ds i) ≡ k = omega (arith, ap length first.1, length-take k (drop p s)) in (
+        record {
+          in_range = first.0;
+          occurs = first.1 ∙ ap (λ n. take n (drop p s)) (sym size);
+          longest = λ j inside short occurs. omega (arith, short, size);
+          earliest = λ j earlier short occurs. elim (less_or_same (length (text_at ds j)) k short) [
+            | inl less ↦ omega (arith, less, size)
+            | inr same ↦ absurd (first.2 j earlier (is_read (text_at ds j) occurs same))
+          ];
+        },
+        ap (λ n. p + n) (sym size),
+      )
 
   add_case : (o : Option ℕ) (longest : Option (ℕ × ℕ)) → k ≤ length (drop p s) → IsFirstWith (length ds) ds (take k (drop p s)) o
       → LongestShorter k ds s p longest → LongestShorter (k + 1) ds s p (longer_of o (p + k) longest)
@@ -73,14 +77,14 @@ module _ (ds : List DelimiterText) (nodes : List Node) (trie : IsTrieOf (length 
         let t = text_at ds j in
         let b = get_or s (p + k) 0 in
         let front : take k t ≡ take k (drop p s) =
-            ap (λ x. take k x) occurs ∙ take-take k (length t) (drop p s) (omega (arith, long)) in
+        ap (λ x. take k x) occurs ∙ take-take k (length t) (drop p s) (omega (arith, long)) in
         let byte : get_or t k 0 ≡ b =
-            ap (λ x. get_or x k 0) occurs ∙ get_or-take (length t) (drop p s) k 0 (omega (arith, long)) ∙ get_or-drop p s k 0 in
+        ap (λ x. get_or x k 0) occurs ∙ get_or-take (length t) (drop p s) k 0 (omega (arith, long)) ∙ get_or-drop p s k 0 in
         let split : t ≡ take k (drop p s) ++ b ∷ drop (k + 1) t =
-            sym (take-append-drop k t)
-            ∙ ap (λ x. take k t ++ x) (drop_more t k 0 (omega (arith, long)))
-            ∙ ap (λ x. take k t ++ x ∷ drop (k + 1) t) byte
-            ∙ ap (λ x. x ++ b ∷ drop (k + 1) t) front in
+        sym (take-append-drop k t)
+        ∙ ap (λ x. take k t ++ x) (drop_more t k 0 (omega (arith, long)))
+        ∙ ap (λ x. take k t ++ x ∷ drop (k + 1) t) byte
+        ∙ ap (λ x. x ++ b ∷ drop (k + 1) t) front in
         let covered = trie.covers j inside in
         let To : List ℕ → Type 0 = λ x. Leads nodes 0 x covered.0 in
         let parts = leads_split nodes 0 (take k (drop p s)) (b ∷ drop (k + 1) t) covered.0 (subst To split covered.1) in
@@ -100,13 +104,15 @@ pub longest_of_all : (ds : List DelimiterText) (s : List ℕ) (p k : ℕ) (longe
     → LongestShorter k ds s p longest → LongestAt ds s p longest
 longest_of_all ds s p k None short none = λ j inside occurs. none j inside (short j inside occurs) occurs
 longest_of_all ds s p k (Some found) short before =
-    let best = before.0 in
-    (record {
-      in_range = best.in_range;
-      occurs = best.occurs;
-      longest = λ j inside occurs. best.longest j inside (short j inside occurs) occurs;
-      earliest = λ j earlier occurs. best.earliest j earlier (short j (omega (arith, earlier, best.in_range)) occurs) occurs;
-    }, before.1)
+    let best = before.0 in (
+      record {
+        in_range = best.in_range;
+        occurs = best.occurs;
+        longest = λ j inside occurs. best.longest j inside (short j inside occurs) occurs;
+        earliest = λ j earlier occurs. best.earliest j earlier (short j (omega (arith, earlier, best.in_range)) occurs) occurs;
+      },
+      before.1,
+    )
 
 pub none_shorter : (ds : List DelimiterText) (s : List ℕ) (p : ℕ) → LongestShorter 0 ds s p None
 none_shorter ds s p j inside short occurs = absurd (omega (arith, short))
@@ -128,9 +134,9 @@ module _ (nodes : List Node) (s : List ℕ) (at end m : ℕ) (after : at ≤ end
       let child : 0 < child_of nodes m b = omega (arith, is, some) in
       let byte : get_or (drop at s) (end - at) 0 ≡ b = get_or-drop at s (end - at) 0 ∙ ap (λ x. get_or s x 0) here in
       let read : take (end + 1 - at) (drop at s) ≡ take (end - at) (drop at s) ++ b ∷ [] =
-          ap (λ x. take x (drop at s)) further
-          ∙ take_more (drop at s) (end - at) 0 (omega (arith, room, after, length-drop at s))
-          ∙ ap (λ x. take (end - at) (drop at s) ++ x ∷ []) byte in
+      ap (λ x. take x (drop at s)) further
+      ∙ take_more (drop at s) (end - at) 0 (omega (arith, room, after, length-drop at s))
+      ∙ ap (λ x. take (end - at) (drop at s) ++ x ∷ []) byte in
       let To : List ℕ → Type 0 = λ t. Leads nodes 0 t next in
       subst To (sym read) (leads_append nodes 0 (take (end - at) (drop at s)) (b ∷ []) m next leads (child, sym is))
 
@@ -150,7 +156,7 @@ module _ (nodes : List Node) (s : List ℕ) (at end m : ℕ) (after : at ≤ end
     all_known inside absent =
         longest_of_all ds s at (end - at + 1) now
         (no_longer ds nodes trie s at (end - at) m leads (omega (arith, inside, after))
-          (ap (λ x. child_of nodes m (get_or s x 0)) here ∙ absent))
+        (ap (λ x. child_of nodes m (get_or s x 0)) here ∙ absent))
         known_more
 
     pub whole_known : length s ≤ end → LongestAt ds s at now

@@ -35,10 +35,10 @@ module _ (few : FewBytes) (s bytes : List ℕ) (at k : ℕ) (same : bytes ≡ s)
       let within : q - at < k = omega (arith, after, below) in
       let here : at + (q - at) ≡ q = omega (arith, after) in
       let byte : get_or (take (length bytes - at) (drop at bytes)) (q - at) 0 ≡ get_or s q 0 =
-          get_or-take (length bytes - at) (drop at bytes) (q - at) 0 (omega (arith, within, room))
-          ∙ get_or-drop at bytes (q - at) 0
-          ∙ ap (λ x. get_or bytes x 0) here
-          ∙ ap (λ x. get_or x q 0) same in
+      get_or-take (length bytes - at) (drop at bytes) (q - at) 0 (omega (arith, within, room))
+      ∙ get_or-drop at bytes (q - at) 0
+      ∙ ap (λ x. get_or bytes x 0) here
+      ∙ ap (λ x. get_or x q 0) same in
       none (q - at) (omega arith) within (ap (λ b. is_byte3 few.first few.second few.third b) byte ∙ one)
 
 -- no delimiter begins where none of the bytes is
@@ -65,19 +65,43 @@ by_index (p ∷ ps) each zero inside = each.0
 by_index (p ∷ ps) each (suc i) inside = by_index ps each.1 i (omega (arith, inside))
 
 default_braces : EachHasBrace default_delimiters
-default_braces =
-    ((0, lit≤ tt, lit< tt, refl), (
-    (0, lit≤ tt, lit< tt, refl), (
-    (0, lit≤ tt, lit< tt, refl), (
-    (1, lit≤ tt, lit< tt, refl), (
-    (0, lit≤ tt, lit< tt, refl), (
-    (1, lit≤ tt, lit< tt, refl), (
-    (0, lit≤ tt, lit< tt, refl), (
-    (2, lit≤ tt, lit< tt, refl), (
-    (0, lit≤ tt, lit< tt, refl), (
-    (1, lit≤ tt, lit< tt, refl), (
-    (0, lit≤ tt, lit< tt, refl), (
-    (2, lit≤ tt, lit< tt, refl), tt))))))))))))
+default_braces = (
+  (0, lit≤ tt, lit< tt, refl),
+  (
+    (0, lit≤ tt, lit< tt, refl),
+    (
+      (0, lit≤ tt, lit< tt, refl),
+      (
+        (1, lit≤ tt, lit< tt, refl),
+        (
+          (0, lit≤ tt, lit< tt, refl),
+          (
+            (1, lit≤ tt, lit< tt, refl),
+            (
+              (0, lit≤ tt, lit< tt, refl),
+              (
+                (2, lit≤ tt, lit< tt, refl),
+                (
+                  (0, lit≤ tt, lit< tt, refl),
+                  (
+                    (1, lit≤ tt, lit< tt, refl),
+                    (
+                      (0, lit≤ tt, lit< tt, refl),
+                      (
+                        (2, lit≤ tt, lit< tt, refl),
+                        tt,
+                      ),
+                    ),
+                  ),
+                ),
+              ),
+            ),
+          ),
+        ),
+      ),
+    ),
+  ),
+)
 
 module _ (s bytes : List ℕ) (at k : ℕ) (same : bytes ≡ s) (room : k ≤ length bytes - at)
     (none : Nowhere (Passes (is_byte2 123 125) (take (length bytes - at) (drop at bytes))) 0 k) where
@@ -88,11 +112,11 @@ module _ (s bytes : List ℕ) (at k : ℕ) (same : bytes ≡ s) (room : k ≤ le
       let within : p < k = omega (arith, after, below) in
       let here : at + p ≡ q + j = omega (arith, after) in
       let byte : get_or (take (length bytes - at) (drop at bytes)) p 0 ≡ get_or d j 0 =
-          get_or-take (length bytes - at) (drop at bytes) p 0 (omega (arith, within, room))
-          ∙ get_or-drop at bytes p 0
-          ∙ ap (λ x. get_or bytes x 0) here
-          ∙ ap (λ x. get_or x (q + j) 0) same
-          ∙ sym (occurs_reads s q d j occurs inside) in
+      get_or-take (length bytes - at) (drop at bytes) p 0 (omega (arith, within, room))
+      ∙ get_or-drop at bytes p 0
+      ∙ ap (λ x. get_or bytes x 0) here
+      ∙ ap (λ x. get_or x (q + j) 0) same
+      ∙ sym (occurs_reads s q d j occurs inside) in
       none p (omega arith) within (ap (λ b. is_byte2 123 125 b) byte ∙ brace)
 
   pub brace_near : NoneFrom default_delimiters s at (at + (k - 2))

@@ -17,8 +17,8 @@ grown_is nodes longer n b len read x inside absent is_len is_read is_pushed is_x
     let new : Node = record { byte = b; child = 0; sibling = first; pair = None } in
     let all = nodes ++ new ∷ [] in
     let is_longer : longer ≡ all = is_pushed
-        ∙ ap (λ f. nodes ++ record { byte = b; child = 0; sibling = f; pair = None } ∷ [])
-            (ap (λ (y : Node). y.child) (get_or_read nodes n read inside is_read blank)) in
+    ∙ ap (λ f. nodes ++ record { byte = b; child = 0; sibling = f; pair = None } ∷ [])
+    (ap (λ (y : Node). y.child) (get_or_read nodes n read inside is_read blank)) in
     let there : n < length longer = omega (arith, inside, ap length is_longer, length_push nodes new) in
     let is_old : x ≡ node_at all n = get_or_read longer n x there is_x blank ∙ ap (λ l. node_at l n) is_longer in
     ap (λ l. set l n (record x { child = len })) is_longer

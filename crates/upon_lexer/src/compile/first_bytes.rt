@@ -67,7 +67,12 @@ impl FewBytes {
         ensures within { result ≤ length source.now }
         ensures none { (q : ℕ) → at ≤ q → q < result → IsOneOf self (slice_index source.now q) → ⊥ }
     {
-        match memchr::memchr3(self.first, self.second, self.third, &source.as_bytes()[at..]) {
+        match memchr::memchr3(
+            self.first,
+            self.second,
+            self.third,
+            &source.as_bytes()[at..],
+        ) {
             Some(found) => at + found,
             None => source.len(),
         }

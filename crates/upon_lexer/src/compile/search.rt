@@ -57,6 +57,14 @@ impl Searcher {
         &self.syntax
     }
 
+    /// Returns the same syntax, and gives up the searcher. No memory is taken.
+    pub fn into_syntax(self) -> Syntax
+        ensures { syntax_delimiters result ≡ searcher_delimiters self }
+    {
+        let Searcher { syntax, way: _ } = self;
+        syntax
+    }
+
     /// The first delimiter at or after an offset, which is a character boundary of the text: its kind and its span, in
     /// bytes. At the least offset where one occurs, it is the one with the longest text, and of equal texts the one listed
     /// first.

@@ -5,8 +5,7 @@ ghost use Rattle.upon_lexer.specs.Grown.{nodes_of};
 ghost use Rattle.upon_lexer.specs.SetTexts.{nothing_set, with_expr, with_block, with_comment, pair_delimiters, built_delimiters};
 ghost use Rattle.upon_lexer.specs.TagTexts.{pair_of, HaveBytes};
 
-use super::trie;
-use super::{Entries, Entry, Nodes, Syntax};
+use super::{Entries, Entry, Nodes, Syntax, trie};
 use std::alloc::{AllocError, Global};
 use upon_types::types::Delimiter;
 

@@ -70,7 +70,12 @@ pub(crate) fn child_or_new(nodes: &mut Vec<Node>, of: usize, byte: u8) -> Result
 }
 
 // The delimiter that a node holds, with the offset of its end; else the one that is known.
-fn longer(nodes: &[Node], node: usize, end: usize, longest: Option<(usize, usize)>) -> Option<(usize, usize)>
+fn longer(
+    nodes: &[Node],
+    node: usize,
+    end: usize,
+    longest: Option<(usize, usize)>,
+) -> Option<(usize, usize)>
     requires { node < length nodes.now }
     ensures { result ≡ longer_of (node_at nodes.now node).pair end longest }
 {

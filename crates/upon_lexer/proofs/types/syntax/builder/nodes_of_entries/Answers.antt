@@ -25,9 +25,9 @@ loop-i-preserved c =
     let inside : i < length items = search rules in
     let listed : i < length ds = omega (arith, inside, length-map items delimiter_text_of) in
     let same : t ≡ text_at ds i =
-        c.as_bytes.ensures.value
-        ∙ ap (λ (e : Entry). string_bytes e.text) c.index-entry.ensures
-        ∙ sym (text_of_entry delimiter_text_of items i c.index-entry.result.now inside) in
+    c.as_bytes.ensures.value
+    ∙ ap (λ (e : Entry). string_bytes e.text) c.index-entry.ensures
+    ∙ sym (text_of_entry delimiter_text_of items i c.index-entry.result.now inside) in
     record {
       trie = next_trie ds i c.loop-i.nodes.items c.insert.new.nodes.items t same c.in_ok-insert.ensures c.loop-i.invariant.trie;
       nodes = next_nodes ds i c.loop-i.nodes.items c.insert.new.nodes.items t same c.in_ok-insert.ensures listed c.loop-i.invariant.nodes;
@@ -38,4 +38,4 @@ returns c =
     let items = c.args.entries.now.items in
     let past : length items ≤ c.loop-i.i = search rules in
     last_nodes (map delimiter_text_of items) c.loop-i.i c.loop-i.nodes.items
-        (omega (arith, past, length-map items delimiter_text_of)) c.loop-i.invariant.nodes
+    (omega (arith, past, length-map items delimiter_text_of)) c.loop-i.invariant.nodes

@@ -38,9 +38,9 @@ returns-then-is_none c =
     let i = c.loop-byte.byte-index in
     let past = c.loop-byte-test.false in
     marked_is nodes n c.args.pair c.loop-byte.invariant.inside c.index.result.now c.index.ensures
-        c.index_mut.result.now c.index_mut.ensures.value c.if-is_none.ensures
+    c.index_mut.result.now c.index_mut.ensures.value c.if-is_none.ensures
     ∙ same_marked nodes (with_path c.args.nodes.now.items 0 text) n (path_end c.args.nodes.now.items 0 text) c.args.pair
-        (path_whole nodes n i text past ∙ c.loop-byte.invariant.nodes) (end_whole nodes n i text past ∙ c.loop-byte.invariant.ends)
+    (path_whole nodes n i text past ∙ c.loop-byte.invariant.nodes) (end_whole nodes n i text past ∙ c.loop-byte.invariant.ends)
 
 pub returns-else-is_none : goal.returns-else-is_none
 returns-else-is_none c =
@@ -51,4 +51,4 @@ returns-else-is_none c =
     let past = c.loop-byte-test.false in
     not_marked nodes n c.args.pair c.loop-byte.invariant.inside c.index.result.now c.index.ensures c.if-is_none.ensures
     ∙ same_marked nodes (with_path c.args.nodes.now.items 0 text) n (path_end c.args.nodes.now.items 0 text) c.args.pair
-        (path_whole nodes n i text past ∙ c.loop-byte.invariant.nodes) (end_whole nodes n i text past ∙ c.loop-byte.invariant.ends)
+    (path_whole nodes n i text past ∙ c.loop-byte.invariant.nodes) (end_whole nodes n i text past ∙ c.loop-byte.invariant.ends)

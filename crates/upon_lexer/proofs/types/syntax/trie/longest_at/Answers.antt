@@ -27,8 +27,8 @@ returns-then-node-eq0 c = λ ds trie.
     let kept = c.loop-end.invariant in
     let inside = c.loop-end-test.true in
     all_known c.args.nodes.now c.args.source.now c.args.at c.loop-end.end c.loop-end.node c.loop-end.auto.end kept.leads ds trie
-        c.loop-end.longest c.longer-longest.result (kept.longest ds trie) c.longer-longest.ensures (omega (arith, inside))
-        inside (sym c.child-node.ensures ∙ c.if-node-eq0.true)
+    c.loop-end.longest c.longer-longest.result (kept.longest ds trie) c.longer-longest.ensures (omega (arith, inside))
+    inside (sym c.child-node.ensures ∙ c.if-node-eq0.true)
 
 pub returns : goal.returns
 returns c = λ ds trie.
@@ -39,5 +39,5 @@ returns c = λ ds trie.
     let within : end ≤ length s = c.loop-end.auto.end-end c.requires.offset in
     let same : length s ≡ end = omega (arith, past, within) in
     whole_known c.args.nodes.now s c.args.at end c.loop-end.node c.loop-end.auto.end kept.leads ds trie
-        c.loop-end.longest c.longer.result (kept.longest ds trie)
-        (c.longer.ensures ∙ ap (λ x. longer_of (node_at c.args.nodes.now c.loop-end.node).pair x c.loop-end.longest) same) within past
+    c.loop-end.longest c.longer.result (kept.longest ds trie)
+    (c.longer.ensures ∙ ap (λ x. longer_of (node_at c.args.nodes.now c.loop-end.node).pair x c.loop-end.longest) same) within past
