@@ -1,4 +1,5 @@
-// The language and its meaning before `for .. else`, as they were, and that both are kept.
+// The language and its meaning before `for .. else`, and that both are kept. The definitions in specs/ are those of the
+// commit 0244436, text for text; `checks/before` shows that.
 #![tactic(auto)]
 
 pub mod laws;
