@@ -1,12 +1,12 @@
 -- A fault of today is one of before, and a fault of before is one of today or an `else` in a `for`.
-use Rattle.std.proofs.Common.{◌≡◌, ◌⊎◌, inl, inr, ℕ, List, [], ◌∷◌, Bool, true, false, refl, sym, ap, ◌∙◌}
+use Rattle.std.proofs.Common.{◌≡◌, ◌⊎◌, inl, inr, ℕ, List, [], ◌∷◌, Bool, true, false, refl}
 use Rattle.upon_types.specs.declared.types.Span.{Span}
 use Rattle.upon_language.specs.Search.{DelimiterText}
 use Rattle.upon_language.specs.Tokens.{significant}
 use Rattle.upon_language.specs.Reading.{before_tag}
 use Rattle.upon_language.specs.Blocks.{Block, if_block, for_block, with_block, OpenBlock, Closer, else_if, plain_else, end_if, end_for, end_with, block_takes, takes, open_blocks}
 use Rattle.upon_language.specs.FirstFault.{SyntaxFault, unexpected_end, unclosed_tag, unclosed_bracket, unexpected_close, unexpected_character, undelimited_string, unexpected_token, unexpected_eof, empty_comment, comment_eof, wrong_number, wrong_index, wrong_escape, unclosed_block, unexpected_block, Holds, IsFirstFault}
-use Rattle.upon_before.specs.Faults.{block_takes as block_took, takes as took, UnexpectedBlock as WasUnexpected, Holds as Held, IsFirstFault as WasFirstFault, ElseInFor}
+use Rattle.upon_before.specs.Faults.{block_takes as block_took, takes as took, Holds as Held, IsFirstFault as WasFirstFault, ElseInFor}
 
 block_less : (kind : Block) (has_else : Bool) (closer : Closer) → block_takes kind has_else closer ≡ false → block_took kind has_else closer ≡ false
 block_less if_block has_else closer h = h

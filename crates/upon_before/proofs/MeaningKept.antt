@@ -3,19 +3,19 @@ use Rattle.std.proofs.Common.{◌≡◌, ℕ, zero, suc, List, [], ◌∷◌, Op
 use Rattle.upon_types.specs.Expression.{expression_span}
 use Rattle.upon_types.specs.Path.{Ident}
 use Rattle.upon_render.specs.Environment.{Binding, Environment, Root, root_environment, alone_over, with_name}
-use Rattle.upon_render.specs.Finding.{Finding, found, at_fault, Reply}
+use Rattle.upon_render.specs.Finding.{Finding, found, at_fault}
 use Rattle.upon_render.specs.Items.{items_of}
 use Rattle.upon_render.specs.Source.{SourceAnswer, says, refuses}
 use Rattle.upon_meaning.specs.Alone.{included, running, on_template, with_template, alone_within}
 use Rattle.upon_meaning.specs.Engine.{Template, Calls, Resolver}
 use Rattle.upon_meaning.specs.Evaluation.{evaluate}
 use Rattle.upon_meaning.specs.Includes.{StatementIncludes, Includes, ElseIncludes}
-use Rattle.upon_meaning.specs.Meaning.{RunningTemplate, Inclusion, Body, with_value, choose, condition, each_of, each_or, over, statement_means, statements_mean, else_means}
+use Rattle.upon_meaning.specs.Meaning.{RunningTemplate, Inclusion, Body, with_value, choose, condition, each_of, each_or, statement_means, statements_mean, else_means}
 use Rattle.upon_meaning.specs.Outcome.{Outcome, States, states, text_outcome, then_do, too_deep_outcome}
 use Rattle.upon_before.specs.Tree.{Statement as StatementBefore, raw as raw_before, inline_expr as inline_before, include as include_before, if_else as if_before, for_loop as for_before, with as with_before, Statements as StatementsBefore, no_statements as none_before, statement_then as then_before, Else as ElseBefore, no_else as no_else_before, otherwise as otherwise_before}
 use Rattle.upon_before.specs.Meaning.{statement_means as statement_meant, statements_mean as statements_meant, else_means as else_meant}
 use Rattle.upon_before.specs.Alone.{Template as TemplateBefore, Resolver as ResolverBefore, running as running_before, on_template as on_template_before, included as included_before, alone_within as alone_within_before}
-use Rattle.upon_before.specs.Now.{statement_now, statements_now, else_now, template_now, answer_now, reply_now}
+use Rattle.upon_before.specs.Now.{statement_now, statements_now, else_now, template_now, answer_now}
 use Rattle.upon_before.specs.Kept.{IncludesOnly, AnswersAlike}
 
 -- a loop without another branch

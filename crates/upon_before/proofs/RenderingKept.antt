@@ -1,14 +1,13 @@
 -- A table whose templates are those of before, under each name that is reached, answers as the table of before.
-use Rattle.std.proofs.Common.{◌≡◌, ℕ, List, [], Option, Some, None, refl, sym, ap, ◌∙◌, option_map}
+use Rattle.std.proofs.Common.{◌≡◌, ℕ, List, [], Option, Some, None, refl, ap, ◌∙◌, option_map}
 use Rattle.upon_render.specs.Environment.{Root}
 use Rattle.upon_render.specs.Finding.{reply}
-use Rattle.upon_render.specs.Source.{SourceAnswer, says}
+use Rattle.upon_render.specs.Source.{says}
 use Rattle.upon_meaning.specs.Alone.{includes_left, alone}
-use Rattle.upon_meaning.specs.Engine.{Template, Table, Calls, table_answer, from_table}
-use Rattle.upon_meaning.specs.Includes.{Includes, Reaches}
+use Rattle.upon_meaning.specs.Engine.{Table, Calls, table_answer, from_table}
+use Rattle.upon_meaning.specs.Includes.{Reaches}
 use Rattle.upon_meaning.specs.Outcome.{States}
 use Rattle.upon_meaning.proofs.Reached.{reaches_more}
-use Rattle.upon_before.specs.Tree.{Statements as StatementsBefore}
 use Rattle.upon_before.specs.Alone.{Template as TemplateBefore, Table as TableBefore, table_answer as table_answer_before, from_table as from_table_before, alone as alone_before}
 use Rattle.upon_before.specs.Now.{statements_now, template_now, answer_now}
 use Rattle.upon_before.specs.Kept.{AnswersAlike, HoldAlike}

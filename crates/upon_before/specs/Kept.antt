@@ -1,10 +1,10 @@
 -- When all that a template reaches was a template before `for .. else`.
-use Rattle.std.specs.Prelude.{◌≡◌, ℕ, List, Option, option_map}
-use Rattle.upon_render.specs.Source.{says}
-use Rattle.upon_meaning.specs.Engine.{Resolver, Table}
+use Rattle.std.specs.Prelude.{◌≡◌, ℕ, List, option_map}
+use Rattle.upon_render.specs.Source.{Source, says}
+use Rattle.upon_meaning.specs.Engine.{Engine, Resolver, Table, calls_of}
 use Rattle.upon_meaning.specs.Includes.{Includes, Reaches}
 use Rattle.upon_before.specs.Tree.{Statements}
-use Rattle.upon_before.specs.Alone.{Template, Resolver as ResolverBefore, Table as TableBefore}
+use Rattle.upon_before.specs.Alone.{Template, Resolver as ResolverBefore, Rendering as RenderingBefore, Table as TableBefore, from_table}
 use Rattle.upon_before.specs.Now.{statements_now, template_now, reply_now}
 
 -- a tree includes no name but these
@@ -22,3 +22,8 @@ pub record AnswersAlike {T : Type 0} (names : List ℕ → Type 0) (before : Res
 abbrev pub HoldAlike : Statements → TableBefore → Table → Type 0
 HoldAlike tree before now = (name : List ℕ) → Reaches now (statements_now tree) name
     → now name ≡ option_map template_now (before name)
+
+-- a rendering of before, with an engine's callables and depth, and these templates
+abbrev pub rendering_before : {V T : Type 0} → Engine → Source V → TableBefore → RenderingBefore V T
+rendering_before engine ask before =
+    record { calls = calls_of engine ask; resolve = from_table before; limit = engine.depth }

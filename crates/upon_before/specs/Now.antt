@@ -1,5 +1,4 @@
 -- The trees of before as trees of today: each `for` has no other branch. So too templates, answers and tables.
-use Rattle.std.specs.Prelude.{List, Option, option_map}
 use Rattle.upon_render.specs.Finding.{Reply, reply}
 use Rattle.upon_render.specs.Source.{SourceAnswer, says, refuses}
 use Rattle.upon_types.specs.Tree.{Statement, raw, inline_expr, include, if_else, for_loop, with, Statements, no_statements, statement_then, Else, no_else, otherwise}

@@ -1,4 +1,5 @@
 pub mod Updates
+pub mod OldTrees
 pub mod Laws
 pub mod Roots
 pub mod Renderings

@@ -1,5 +1,6 @@
 pub mod Template
 pub mod Faults
+pub mod Before
 pub mod Engine
 pub mod Base
 pub mod Sources

@@ -9,6 +9,7 @@ ghost use Rattle.upon_language.specs.Search.{DelimiterText};
 ghost use Rattle.upon_lexer.specs.Searcher.{searcher_delimiters};
 ghost use Rattle.upon_lexer.specs.Syntax.{syntax_delimiters};
 ghost use Rattle.upon_syntax.specs.TagReading.{IsSyntaxError};
+ghost use Rattle.upon_engine.specs.Before.{KeepsOldTree, HadNoTree};
 ghost use Rattle.upon_engine.specs.Faults.{IsSyntaxErrorOf};
 ghost use Rattle.upon_engine.specs.Template.{template_source, template_syntax, template_tree};
 
@@ -22,7 +23,7 @@ use upon_syntax::types::syntax::Syntax;
 use upon_types::error::{Error, ErrorKind, Result};
 
 /// The template of a text under a syntax. A text that has no tree is refused, with its first fault; out of memory has the
-/// kind `OutOfMemory`.
+/// kind `OutOfMemory`. A text that had a tree before `for .. else` has that tree.
 pub fn template<'s>(alloc: Global, syntax: &Syntax, source: CowStr<'s>) -> Result<Template<'s>>
     ensures source { IfOk result (λ t. template_source t ≡ cow_str_bytes source.entry) }
     ensures syntax { IfOk result (λ t. template_syntax t ≡ syntax_delimiters syntax.now) }
@@ -35,6 +36,10 @@ pub fn template<'s>(alloc: Global, syntax: &Syntax, source: CowStr<'s>) -> Resul
     ensures no_tree { IfErr result
         (λ e. (fault_of e).kind ≡ of_syntax
         → (tree : Statements) → HasTree (syntax_delimiters syntax.now) (cow_str_bytes source.entry) tree → ⊥) }
+    ensures kept { IfOk result
+        (λ t. KeepsOldTree (syntax_delimiters syntax.now) (cow_str_bytes source.entry) (template_tree t)) }
+    ensures accepted { IfErr result
+        (λ e. (fault_of e).kind ≡ of_syntax → HadNoTree (syntax_delimiters syntax.now) (cow_str_bytes source.entry)) }
 {
     let searcher = Searcher::with_syntax(syntax.try_clone()?);
     with_searcher(alloc, &searcher, source)

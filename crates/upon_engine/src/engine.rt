@@ -11,6 +11,7 @@ ghost use Rattle.upon_language.specs.Grammar.{HasTree};
 ghost use Rattle.upon_lexer.specs.Syntax.{syntax_delimiters};
 ghost use Rattle.upon_syntax.specs.TagReading.{IsSyntaxError};
 ghost use Rattle.upon_calls.specs.Calls.{sort_of};
+ghost use Rattle.upon_engine.specs.Before.{KeepsOldTree, KeepsOldTemplate, HadNoTree};
 ghost use Rattle.upon_engine.specs.Faults.{IsSyntaxErrorOf};
 ghost use Rattle.upon_engine.specs.Template.{template_of, template_source, template_syntax, template_tree};
 ghost use Rattle.upon_engine.specs.Engine.{callable_of, engine_depth, engine_of, engine_syntax, OthersStay, AllStay, HoldsTemplate};
@@ -119,7 +120,7 @@ impl<'e> Engine<'e> {
 
 impl<'e> Engine<'e> {
     /// The template of a text under the engine's syntax. A text that has no tree is refused, with its first fault; out of
-    /// memory has the kind `OutOfMemory`.
+    /// memory has the kind `OutOfMemory`. A text that had a tree before `for .. else` has that tree.
     pub fn compile<'s>(&self, source: CowStr<'s>) -> Result<Template<'s>>
         ensures source { IfOk result (λ t. template_source t ≡ cow_str_bytes source.entry) }
         ensures syntax { IfOk result (λ t. template_syntax t ≡ engine_syntax self.now) }
@@ -132,12 +133,17 @@ impl<'e> Engine<'e> {
         ensures no_tree { IfErr result
             (λ e. (fault_of e).kind ≡ syntax
             → (tree : Statements) → HasTree (engine_syntax self.now) (cow_str_bytes source.entry) tree → ⊥) }
+        ensures kept { IfOk result
+            (λ t. KeepsOldTree (engine_syntax self.now) (cow_str_bytes source.entry) (template_tree t)) }
+        ensures accepted { IfErr result
+            (λ e. (fault_of e).kind ≡ syntax → HadNoTree (engine_syntax self.now) (cow_str_bytes source.entry)) }
     {
         compile::with_searcher(self.alloc, &self.searcher, source)
     }
 
     /// Compiles a template and puts it under a name, in place of one that is there. Where the text has no tree or memory is
-    /// out, the engine stays as it was; the fault is as for [`Engine::compile`], with the template's name.
+    /// out, the engine stays as it was; the fault is as for [`Engine::compile`], with the template's name. A text that had a
+    /// tree before `for .. else` has that tree.
     pub fn add_template(&mut self, name: CowStr<'_>, source: CowStr<'e>) -> Result<()>
         ensures added { OnOk result
             (HoldsTemplate (engine_syntax self.old) (cow_str_bytes source.entry) ((engine_of (λ f. formats f) (λ f. answers f) self.new).templates (cow_str_bytes name.entry))) }
@@ -152,6 +158,11 @@ impl<'e> Engine<'e> {
         ensures no_tree { IfErr result
             (λ e. (fault_of e).kind ≡ syntax
             → (tree : Statements) → HasTree (engine_syntax self.old) (cow_str_bytes source.entry) tree → ⊥) }
+        ensures kept { OnOk result
+            (KeepsOldTemplate (engine_syntax self.old) (cow_str_bytes source.entry)
+            ((engine_of (λ f. formats f) (λ f. answers f) self.new).templates (cow_str_bytes name.entry))) }
+        ensures accepted { IfErr result
+            (λ e. (fault_of e).kind ≡ syntax → HadNoTree (engine_syntax self.old) (cow_str_bytes source.entry)) }
         ensures beside { record (engine_of (λ f. formats f) (λ f. answers f) self.new) { templates = (engine_of (λ f. formats f) (λ f. answers f) self.old).templates }
             ≡ engine_of (λ f. formats f) (λ f. answers f) self.old }
         ensures syntax { engine_syntax self.new ≡ engine_syntax self.old }

@@ -6,8 +6,10 @@ use Rattle.upon_types.specs.Tree.{Statements}
 use Rattle.upon_types.specs.declared.error.Error.{Error}
 use Rattle.upon_language.specs.Grammar.{HasTree}
 use Rattle.upon_syntax.proofs.NextTokens.{handed_on}
+use Rattle.upon_engine.specs.Before.{KeepsOldTemplate}
 use Rattle.upon_engine.specs.Engine.{engine_syntax, HoldsTemplate}
 use Rattle.upon_engine.specs.Template.{template_of}
+use Rattle.upon_engine.proofs.OldTrees.{keeps_old_tree, refused_had_none}
 use Rattle.upon_engine.proofs.Updates.{others_stay, written}
 use Rattle.upon_engine.proofs.engine.Engine.add_template.Goals as goal
 
@@ -25,3 +27,11 @@ returns-in-Ok-clause-added g c =
 
 pub returns-in-Ok-clause-others : goal.returns-in-Ok-clause-others
 returns-in-Ok-clause-others g c = others_stay template_of _ _ c.args.self.now.templates c.insert.new.self _ c.in_ok-name.ensures.ok c.in-Ok.ensures.updates
+
+pub returns-in_err-template-clause-accepted : goal.returns-in_err-template-clause-accepted
+returns-in_err-template-clause-accepted g c = refused_had_none _ _ _ (returns-in_err-template-clause-no_tree g c)
+
+pub returns-in-Ok-clause-kept : goal.returns-in-Ok-clause-kept
+returns-in-Ok-clause-kept g c =
+    let at = written template_of _ _ c.args.self.now.templates c.insert.new.self _ c.in_ok-name.ensures.ok c.in-Ok.ensures.updates in
+    subst (KeepsOldTemplate (engine_syntax c.args.self.now) (cow_str_bytes c.args.source)) (sym at) (keeps_old_tree _ _ _ c.in_ok-template.ensures.only_tree)
