@@ -49,7 +49,7 @@ fn text_of(alloc: Global, source: &str) -> Result<String> {
         CowStr::Borrowed("hello"),
         CowStr::Borrowed("Hello {{ user.name }}!"),
     )?;
-    let context = value! { in alloc; user: {name: "John Smith"} }?;
+    let context = value! { in alloc; user: {name: "John Smith"}, none: {} }?;
     let template = engine.compile(CowStr::Borrowed(source))?;
     template.render_from(&engine, &context).to_string()
 }
@@ -100,6 +100,49 @@ fn faults(rt: HostRuntime) -> std::result::Result<(), Fail> {
         (
             "{{ double() }}",
             End::Fault("function expects 1 arguments, 0 provided", at(3, 9)),
+        ),
+    ] {
+        ends_so(&rt, text_of(alloc, source), &wanted);
+    }
+    Ok(())
+}
+
+// Loops with another branch, over a context's empty map and in each other.
+#[test]
+fn other_branches(rt: HostRuntime) -> std::result::Result<(), Fail> {
+    let alloc = rt.alloc();
+    for (source, wanted) in [
+        (
+            "{% for k, v in none %}a{% else %}{{ user.name }}{% endfor %}",
+            End::Text("John Smith"),
+        ),
+        (
+            "{% for x in [1, 2] %}{{ x }}{% else %}{{ y }}{% endfor %}",
+            End::Text("12"),
+        ),
+        (
+            "{% for x in [7, 8] %}{% for y in [] %}a{% else %}{{ loop.index }}{% endfor %}{% else %}b{% endfor %}",
+            End::Text("01"),
+        ),
+        (
+            "{% for x in [] %}a{% else %}{% if none %}b{% else %}{% include \"hello\" %}{% endif %}{% endfor %}",
+            End::Text("Hello John Smith!"),
+        ),
+        (
+            "{% for x in none %}a{% else %}b{% endfor %}",
+            End::Fault("cannot unpack map item into one variable", at(7, 8)),
+        ),
+        (
+            "{% for x in [] %}a{% else %}b{{ x }}{% endfor %}",
+            End::Fault("not found in this scope", at(32, 33)),
+        ),
+        (
+            "{% for x in [] %}{% else if 1 %}{% endfor %}",
+            End::Fault("unexpected `else if` block", at(17, 32)),
+        ),
+        (
+            "{% for x in [] %}{% else %}{% else %}{% endfor %}",
+            End::Fault("unexpected `else` block", at(27, 37)),
         ),
     ] {
         ends_so(&rt, text_of(alloc, source), &wanted);

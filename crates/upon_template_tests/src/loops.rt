@@ -1,5 +1,6 @@
 // Loops, their state, and the scopes of `for` and `with`.
 use std::alloc::Global;
+use std::borrow::CowStr;
 use std::test::Fail;
 use upon::{Engine, Result, Value, value};
 use upon_testing::answers::all_answer;
@@ -96,6 +97,89 @@ fn other_branches(rt: HostRuntime) -> std::result::Result<(), Fail> {
         (
             "{% with 1 as x %}{% else %}{% endwith %}",
             "invalid syntax: unexpected `else` block at 17..27",
+        ),
+    ];
+    all_answer(alloc, &Engine::new(alloc), &context(alloc)?, &rows)
+}
+
+// A context with an empty list and an empty map, and an engine with a template that shows `x`.
+#[test]
+fn other_branches_on_a_context(rt: HostRuntime) -> std::result::Result<(), Fail> {
+    let alloc = rt.alloc();
+    let mut engine = Engine::new(alloc);
+    engine.add_template(CowStr::Borrowed("x"), CowStr::Borrowed("{{ x }}"))?;
+    let context = value! { in alloc; x: 9, no_list: [], no_map: {}, ys: [1], n: 5 }?;
+    let rows = [
+        ("{% for x in [] %}{% else %}{{ x }}{% endfor %}", "9"),
+        ("{% for x in no_list %}a{% else %}{{ x }}{% endfor %}", "9"),
+        (
+            "{% for x, v in no_map %}a{% else %}{{ x }}{% endfor %}",
+            "9",
+        ),
+        (
+            "{% for x in no_list -%} a {%- else -%} b {%- endfor %}",
+            "b",
+        ),
+        (
+            "{% for x in no_list %}a{% else %}{% include \"x\" %}{% endfor %}",
+            "9",
+        ),
+        (
+            "{% for x in ys %}{% include \"x\" %}{% else %}{% include \"zz\" %}{% endfor %}",
+            "1",
+        ),
+        (
+            "{% for k in no_map %}a{% else %}b{% endfor %}",
+            "render error: cannot unpack map item into one variable at 7..8",
+        ),
+        (
+            "{% for k, v in no_list %}a{% else %}b{% endfor %}",
+            "render error: cannot unpack list item into two variables at 7..11",
+        ),
+        (
+            "{% for k in n %}a{% else %}b{% endfor %}",
+            "render error: expected iterable, but expression evaluated to integer at 12..13",
+        ),
+    ];
+    all_answer(alloc, &engine, &context, &rows)
+}
+
+// Loops and ifs in each other, each with an `else`; `loop` in the branch is the loop around.
+#[test]
+fn other_branches_in_each_other(rt: HostRuntime) -> std::result::Result<(), Fail> {
+    let alloc = rt.alloc();
+    let rows = [
+        (
+            "{% if n %}{% for y in [] %}a{% else %}b{% endfor %}{% else %}c{% endif %}",
+            "b",
+        ),
+        (
+            "{% if not n %}a{% else %}{% for y in xs %}{% if loop.last %}{{ y }}{% else %}-{% endif %}{% else %}c{% endfor %}{% endif %}",
+            "-b",
+        ),
+        (
+            "{% for y in xs %}{% for z in [] %}a{% else %}{{ y }}{% endfor %}{% else %}c{% endfor %}",
+            "ab",
+        ),
+        (
+            "{% for y in xs %}{% for z in xs %}{{ y }}{{ z }}{% else %}c{% endfor %};{% else %}d{% endfor %}",
+            "aaab;babb;",
+        ),
+        (
+            "{% for y in [] %}a{% else %}{% if not n %}b{% else if x %}{% for k, v in m %}{{ k }}{% else %}c{% endfor %}{% else %}d{% endif %}{% endfor %}",
+            "ab",
+        ),
+        (
+            "{% for y in [7, 8] %}{% for z in [] %}{% else %}{{ loop.index }}{% if loop.last %}!{% else %},{% endif %}{% endfor %}{% endfor %}",
+            "0,1!",
+        ),
+        (
+            "{% for y in xs %}{% for z in {} %}{% else %}{% endfor %}{% else %}a{% endfor %}",
+            "render error: cannot unpack map item into one variable at 24..25",
+        ),
+        (
+            "{% for y in [] %}{% else %}{{ loop }}{% endfor %}",
+            "render error: not found in this scope at 30..34",
         ),
     ];
     all_answer(alloc, &Engine::new(alloc), &context(alloc)?, &rows)
