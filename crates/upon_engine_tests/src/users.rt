@@ -1,17 +1,24 @@
 // Callers of the engine, by its public clauses alone.
-ghost use Rattle.std.specs.Prelude.{None};
+ghost use Rattle.std.specs.Prelude.{◌≡◌, None};
+ghost use Rattle.std.specs.Cow.{cow_str_bytes};
 ghost use Rattle.upon_types.specs.View.{view};
 ghost use Rattle.upon_render.specs.Asked.{never};
 ghost use Rattle.upon_render.specs.Environment.{context, value_source};
 ghost use Rattle.upon_meaning.specs.Alone.{alone};
 ghost use Rattle.upon_meaning.specs.Engine.{rendering_of};
 ghost use Rattle.upon_meaning.specs.Outcome.{states};
+ghost use Rattle.upon_before.specs.Alone.{Template as TemplateBefore, Table as TableBefore, alone as alone_before};
+ghost use Rattle.upon_before.specs.Grammar.{HasTree as HadTree};
+ghost use Rattle.upon_before.specs.Kept.{HoldAlike, rendering_before};
+ghost use Rattle.upon_before.specs.Now.{template_now};
+ghost use Rattle.upon_before.specs.Tree.{Statements as StatementsBefore};
 ghost use Rattle.upon_renderer.specs.Reports.{WritesAndLeaves};
 ghost use Rattle.upon_engine.specs.Answers.{AnswersText};
 ghost use Rattle.upon_engine.specs.Base.{Base, IsContextOf, outcome_over};
 ghost use Rattle.upon_engine.specs.Template.{template_of};
 
 use serde::Serialize;
+use std::borrow::CowStr;
 use upon_engine::callables::EngineView;
 use upon_engine::engine::Engine;
 use upon_engine::template::Template;
@@ -28,6 +35,36 @@ pub fn on_value(engine: &Engine<'_>, template: &Template<'_>, value: &Value) -> 
         result }
 {
     template.render_from(engine, value).to_string()
+}
+
+/// The text of a template whose text had a tree before `for .. else`: what that tree meant, where each template that it
+/// reaches is one of before too.
+pub fn as_before(engine: &Engine<'_>, template: &Template<'_>, value: &Value) -> Result<String>
+    ensures { let e = ⟦<&'static Engine<'static> as EngineView>⟧.engine_view engine.entry in
+        (before : TableBefore) (t : TemplateBefore) → template_of template.now ≡ template_now t
+        → HoldAlike t.tree before e.templates
+        → AnswersText
+        e.depth
+        (alone_before (rendering_before e never before) t None (context (view value.now)) (states (tt {0}) (tt {0})))
+        result }
+{
+    on_value(engine, template, value)
+}
+
+/// The text of a text that had a tree before `for .. else`: what that tree meant.
+pub fn compiled_as_before(engine: &Engine<'_>, source: CowStr<'_>, value: &Value) -> Result<String>
+    ensures { let e = ⟦<&'static Engine<'static> as EngineView>⟧.engine_view engine.entry in
+        let delimiters = ⟦<&'static Engine<'static> as EngineView>⟧.syntax_view engine.entry in
+        let s = cow_str_bytes source.entry in
+        (before : TableBefore) (tree : StatementsBefore) → HadTree delimiters s tree
+        → HoldAlike tree before e.templates
+        → AnswersText
+        e.depth
+        (alone_before (rendering_before e never before) (record { source = s; tree = tree }) None (context (view value.now)) (states (tt {0}) (tt {0})))
+        result }
+{
+    let template = engine.compile(source)?;
+    as_before(engine, &template, value)
 }
 
 /// The text of a template on what serde writes of a context.
