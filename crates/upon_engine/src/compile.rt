@@ -9,6 +9,7 @@ ghost use Rattle.upon_language.specs.Search.{DelimiterText};
 ghost use Rattle.upon_lexer.specs.Searcher.{searcher_delimiters};
 ghost use Rattle.upon_lexer.specs.Syntax.{syntax_delimiters};
 ghost use Rattle.upon_syntax.specs.TagReading.{IsSyntaxError};
+ghost use Rattle.upon_compiled.specs.Compiled.{HasProgram};
 ghost use Rattle.upon_engine.specs.Before.{KeepsOldTree, HadNoTree};
 ghost use Rattle.upon_engine.specs.Faults.{IsSyntaxErrorOf};
 ghost use Rattle.upon_engine.specs.Template.{template_source, template_syntax, template_tree};
@@ -17,6 +18,7 @@ use crate::template::Template;
 use std::alloc::Global;
 use std::borrow::CowStr;
 use upon_compiler::compile::Compiler;
+use upon_instructions::types::program::Instr;
 use upon_syntax::compile::parse::Parser;
 use upon_syntax::compile::search::Searcher;
 use upon_syntax::types::syntax::Syntax;
@@ -42,7 +44,8 @@ pub fn template<'s>(alloc: Global, syntax: &Syntax, source: CowStr<'s>) -> Resul
         (λ e. (fault_of e).kind ≡ of_syntax → HadNoTree (syntax_delimiters syntax.now) (cow_str_bytes source.entry)) }
 {
     let searcher = Searcher::with_syntax(syntax.try_clone()?);
-    with_searcher(alloc, &searcher, source)
+    let instrs = compiled(alloc, &searcher, source.as_str())?;
+    Ok(Template::from_parts(source, searcher.into_syntax(), instrs))
 }
 
 /// The same over the delimiters of a searcher.
@@ -64,10 +67,23 @@ pub(crate) fn with_searcher<'s>(
         → (tree : Statements) → HasTree (searcher_delimiters searcher.now) (cow_str_bytes source.entry) tree → ⊥) }
 {
     let syntax = searcher.syntax().try_clone()?;
-    let parser = Parser::new(alloc, searcher, source.as_str());
-    let tree = parser.parse_template()?;
-    let instrs = Compiler::new(alloc).compile_template(tree)?;
+    let instrs = compiled(alloc, searcher, source.as_str())?;
     Ok(Template::from_parts(source, syntax, instrs))
+}
+
+// The instructions of a text's only tree.
+fn compiled(alloc: Global, searcher: &Searcher, source: &str) -> Result<Vec<Instr>>
+    ensures program { IfOk result (λ instrs. HasProgram (searcher_delimiters searcher.now) source.now instrs.items) }
+    ensures has_tree { IfOk result
+        (λ _. (tree : Statements) × HasTree (searcher_delimiters searcher.now) source.now tree) }
+    ensures fault { IfErr result (IsSyntaxError (searcher_delimiters searcher.now) source.now) }
+    ensures no_tree { IfErr result
+        (λ e. (fault_of e).kind ≡ of_syntax
+        → (tree : Statements) → HasTree (searcher_delimiters searcher.now) source.now tree → ⊥) }
+{
+    let parser = Parser::new(alloc, searcher, source);
+    let tree = parser.parse_template()?;
+    Ok(Compiler::new(alloc).compile_template(tree)?)
 }
 
 /// The same for the template of a name, which its fault has.
