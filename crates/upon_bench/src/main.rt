@@ -7,7 +7,8 @@ use std::fs::File;
 use std::io::{Read, Write};
 use std::process::ExitCode;
 use std::{env, io};
-use upon::{Engine, Syntax, SyntaxBuilder};
+use upon::Syntax;
+use upon::compile::template;
 
 /// The words of a call.
 #[derive(Drop)]
@@ -39,8 +40,8 @@ fn text_of(rt: &HostRuntime, alloc: Global, name: &str) -> Option<String> {
     String::from_utf8(bytes).ok()
 }
 
-// A builder of the syntax of a name; none for the default syntax.
-fn builder_of(name: &str) -> Option<SyntaxBuilder<'static>> {
+// The syntax of a name: one, two or three sorts of tags, or delimiters that begin with letters; else the default one.
+fn syntax_of(alloc: Global, name: &str) -> Result<Syntax, AllocError> {
     let mut builder = Syntax::builder();
     match name {
         "one" => {
@@ -58,25 +59,16 @@ fn builder_of(name: &str) -> Option<SyntaxBuilder<'static>> {
         "letter" => {
             builder.expr("echo(", ")").block("@[", "]");
         }
-        _ => return None,
+        _ => return Ok(Syntax::default()),
     }
-    Some(builder)
-}
-
-// The engine whose syntax has a name.
-fn engine_of(alloc: Global, name: &str) -> Result<Engine<'static>, AllocError> {
-    let mut engine = Engine::new(alloc);
-    if let Some(builder) = builder_of(name) {
-        engine.set_syntax(builder.build(alloc)?);
-    }
-    Ok(engine)
+    builder.build(alloc)
 }
 
 // Compiles a text so often; whether it was accepted each time.
-fn compiles(engine: &Engine<'_>, text: &str, times: usize) -> bool {
+fn compiles(alloc: Global, syntax: &Syntax, text: &str, times: usize) -> bool {
     let mut good = true;
     for _ in 0..times {
-        good = engine.compile(CowStr::Borrowed(text)).is_ok() && good;
+        good = template(alloc, syntax, CowStr::Borrowed(text)).is_ok() && good;
     }
     good
 }
@@ -98,8 +90,8 @@ fn is_done(rt: &HostRuntime, alloc: Global, call: &Call) -> bool {
     if call.work.as_str() == "memchr" {
         return looks(text.as_str(), call.times);
     }
-    match engine_of(alloc, call.work.as_str()) {
-        Ok(engine) => compiles(&engine, text.as_str(), call.times),
+    match syntax_of(alloc, call.work.as_str()) {
+        Ok(syntax) => compiles(alloc, &syntax, text.as_str(), call.times),
         Err(_) => false,
     }
 }

@@ -164,6 +164,9 @@ impl Searcher {
 fn way_of(syntax: &Syntax) -> Way
     ensures { WayFits result (syntax_delimiters syntax.now) }
 {
+    if syntax.is_default() {
+        return Way::Brace;
+    }
     match FewBytes::of(syntax) {
         Some(bytes) => Way::Few(bytes),
         None => Way::Table(first_bytes::table_of(syntax)),

@@ -1,5 +1,5 @@
 // The delimiters of a template language.
-ghost use Rattle.std.specs.Prelude.{◌≡◌, ◌<◌, length, map, IfOk};
+ghost use Rattle.std.specs.Prelude.{◌≡◌, ◌<◌, length, map, true, IfOk};
 ghost use Rattle.upon_language.specs.DefaultDelimiters.{default_delimiters};
 ghost use Rattle.upon_language.specs.LiesIn.{HasUtf8};
 ghost use Rattle.upon_language.specs.Search.{HasTexts, kind_at, text_at};
@@ -359,6 +359,16 @@ impl Syntax {
             entries: self.entries.try_clone()?,
             nodes: self.nodes.try_clone()?,
         })
+    }
+
+    /// Whether it is the default syntax itself, and was not built.
+    pub(crate) fn is_default(&self) -> bool
+        ensures { result ≡ true → syntax_delimiters self.now ≡ default_delimiters }
+    {
+        match &self.entries {
+            Entries::Default => true,
+            Entries::Built(_) => false,
+        }
     }
 
     /// How many delimiters it has.
