@@ -1,1 +1,3 @@
 pub mod Program
+pub use Rattle.upon_engine.proofs.Renderings
+pub use Rattle.upon_engine.proofs.TemplateSpans

@@ -12,6 +12,7 @@ pub use program::run;
 pub use render::Renderer;
 pub use types::syntax::{Syntax, SyntaxBuilder};
 pub use upon_calls::callables::EngineCallable;
+pub use upon_engine::callables::EngineView;
 pub use upon_engine::engine::Engine;
 pub use upon_engine::template::Template;
 pub use upon_engine::template_ref::TemplateRef;

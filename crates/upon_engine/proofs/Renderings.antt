@@ -7,7 +7,7 @@ use Rattle.upon_types.specs.Val.{Val}
 use Rattle.upon_render.specs.Asked.{never}
 use Rattle.upon_render.specs.Environment.{context, value_source}
 use Rattle.upon_render.specs.Source.{Source}
-use Rattle.upon_meaning.specs.Engine.{Template, calls_of, from_table}
+use Rattle.upon_meaning.specs.Engine.{Template, Resolver, calls_of, from_table}
 use Rattle.upon_meaning.specs.Outcome.{Outcome, States, states}
 use Rattle.upon_engine.specs.Base.{Base, on_root, outcome_over}
 use Rattle.upon_engine.specs.Calls.{engine_in, values_in, templates_in, template_in, name_in, limit_in}
@@ -51,3 +51,19 @@ module _ {X Y : Type 0} {P : X → Type 0} {Q : Y → Type 0} (formats : DynBox 
   on_source ask state r e t name limit z ee ff tt' nn ll zz h =
       subst (λ z. Gives (ask z) (on_root value_source) (state z) e e t name limit) zz
       (on_base (ask (source_in (values_in r))) (on_root value_source) (state (source_in (values_in r))) r e t name limit ee ff tt' nn ll h)
+
+-- on a value, with any source of templates
+module _ {X Y : Type 0} {P : X → Type 0} {Q : Y → Type 0} (formats : DynBox X Global P → Formatter) (answers : DynBox Y Global Q → Function) {Z S : Type 0} (resolve : Z → Resolver S) (state : Z → S) (Says : ℕ → Outcome (States (Unit {0}) S) → Type 0) where
+  abbrev pub GivesBy : Held X Y P Q → Z → Template → Option (List ℕ) → ℕ → Val → Type 0
+  GivesBy e z t name limit v = Says limit (outcome_over (record { calls = calls_of (engine_of formats answers e) never; resolve = resolve z; limit = limit }) t name (on_root (context v)) (states (tt {0}) (state z)))
+
+  pub by_source : (r : Renderer (Bor (Held X Y P Q)) Context Z) (e : Held X Y P Q) (z : Z) (t : Template) (name : Option (List ℕ)) (limit : ℕ) (v : Val)
+      → (engine_in r).now ≡ e → templates_in r ≡ z → template_in r ≡ t → name_in r ≡ name → limit_in r ≡ limit → value_in (values_in r) ≡ v
+      → GivesBy (engine_in r).now (templates_in r) (template_in r) (name_in r) (limit_in r) (value_in (values_in r)) → GivesBy e z t name limit v
+  by_source r e z t name limit v ee zz tt' nn ll vv h =
+      subst (λ x. GivesBy e z t name limit x) vv
+      (subst (λ x. GivesBy e z t name x (value_in (values_in r))) ll
+      (subst (λ x. GivesBy e z t x (limit_in r) (value_in (values_in r))) nn
+      (subst (λ x. GivesBy e z x (name_in r) (limit_in r) (value_in (values_in r))) tt'
+      (subst (λ x. GivesBy e x (template_in r) (name_in r) (limit_in r) (value_in (values_in r))) zz
+      (subst (λ x. GivesBy x (templates_in r) (template_in r) (name_in r) (limit_in r) (value_in (values_in r))) ee h)))))

@@ -4,6 +4,7 @@ pub mod Before
 pub mod Engine
 pub mod Base
 pub mod Sources
+pub mod HandsOn
 pub mod TemplateRef
 pub mod Calls
 pub mod Kept
