@@ -1,3 +1,4 @@
 pub mod Segments
 pub mod Steps
 pub mod Leads
+pub mod Changes
