@@ -2,3 +2,4 @@ pub mod Segments
 pub mod Steps
 pub mod Leads
 pub mod Changes
+pub mod Rising

@@ -1,6 +1,9 @@
 -- What a store holds, what it answers, and what it adds and renders.
 use Rattle.std.specs.Prelude.{◌≡◌, ℕ, List, map, Bool, true, false, Option, Some, None, Result, Ok, Err, codes, option_map, string_bytes}
 use Rattle.std.specs.BTreeMap.{get_by_text, keys}
+use Rattle.std.specs.Cmp.Lexicographic.{slice_cmp}
+use Rattle.std.specs.List.Sorted.{IsStrictlySortedBy}
+use Rattle.std.specs.Ordering.{nat_cmp}
 use Rattle.upon_types.specs.declared.error.Error.{Error}
 use Rattle.upon_render.specs.Finding.{Reply, reply}
 use Rattle.upon_render.specs.Source.{SourceAnswer, says, refuses}
@@ -26,6 +29,10 @@ stored store path = option_map template_of (held store path)
 -- the paths of a store's templates, in the order of its map
 abbrev pub paths : Store → List (List ℕ)
 paths store = map string_bytes (keys store.templates)
+
+-- the bytes of each path are before those of every later one, so no path is there twice
+abbrev pub Rise : List (List ℕ) → Type 0
+Rise paths = IsStrictlySortedBy (slice_cmp nat_cmp) paths
 
 -- what is answered for a path that has a template or not
 abbrev pub path_answer : {A : Type 0} → Option A → SourceAnswer A

@@ -11,7 +11,7 @@ ghost use Rattle.upon_meaning.specs.Outcome.{states};
 ghost use Rattle.upon_engine.specs.Engine.{AllStay, HoldsTemplate, OthersStay};
 ghost use Rattle.upon_engine.specs.Template.{template_of};
 ghost use Rattle.upon_store.specs.Paths.{is_path, texts};
-ghost use Rattle.upon_store.specs.Stored.{from_store, paths, stored, EndsAdding, Renders};
+ghost use Rattle.upon_store.specs.Stored.{from_store, paths, stored, EndsAdding, Renders, Rise};
 
 use crate::path::{is_path, resolve};
 use std::alloc::{AllocError, Global};
@@ -150,7 +150,8 @@ impl<'s> Store<'s> {
 
     /// Returns the paths of all templates, in ascending order.
     pub fn paths(&self) -> Result<Vec<&str>, AllocError>
-        ensures { IfOk result (λ v. texts v.items ≡ paths self.now) }
+        ensures all { IfOk result (λ v. texts v.items ≡ paths self.now) }
+        ensures rise { IfOk result (λ v. Rise (texts v.items)) }
     {
         let mut paths = Vec::new(self.alloc);
         for path in self.templates.keys() {
