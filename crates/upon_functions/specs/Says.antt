@@ -1,5 +1,6 @@
 -- How the results of calls say the pure answers. Out of memory says nothing.
-use Rattle.std.specs.Prelude.{◌≡◌, ℕ, List, Option, Some, None, Result, Ok, Err, map, string_bytes}
+use Rattle.std.specs.Prelude.{◌≡◌, ℕ, Bool, true, false, List, Option, Some, None, Result, Ok, Err, map}
+use Rattle.std.specs.Prelude.{string_bytes}
 use Rattle.upon_functions.specs.Outcome.{Outcome, answer_of}
 use Rattle.upon_functions.specs.declared.function.ArgError.{ArgError}
 use Rattle.upon_functions.specs.declared.function.ArgError.TheVariants.{WrongType, OutOfRange}
@@ -29,24 +30,36 @@ Says (Err (Arg i e)) answer = answer ≡ wrong_argument i (misfit_of e)
 Says (Err (Fault text)) answer = answer ≡ declines (string_bytes text)
 Says (Err Memory) answer = Unit {0}
 
--- what a callable returned becomes its outcome; where memory was refused already, that is answered
-abbrev pub Returns : Result Value CallError → Option Outcome → Type 0
-Returns result (Some o) = Says result (answer_of o)
-Returns result None = result ≡ Err Memory
+-- what a callable returned becomes its outcome, and memory is out only when that is a copy; when memory was refused
+-- already, that is answered
+abbrev pub Returns : Bool → Result Value CallError → Option Outcome → Type 0
+Returns is_copy result (Some o) = Says result (answer_of o) × (result ≡ Err Memory → is_copy ≡ true)
+Returns is_copy result None = result ≡ Err Memory
 
--- an error becomes a refusal with its text, or memory is out
-abbrev pub Refuses : CallError → Option (List ℕ) → Type 0
-Refuses e (Some text) = Says (Err e) (declines text)
-Refuses e None = e ≡ Memory
+-- an error becomes a refusal with its text, and memory is out only when that is a copy
+abbrev pub Refuses : Bool → CallError → Option (List ℕ) → Type 0
+Refuses is_copy e (Some text) = Says (Err e) (declines text) × (e ≡ Memory → is_copy ≡ true)
+Refuses is_copy e None = e ≡ Memory
 
--- an argument that fits is taken as what it denotes; else its misfit is answered, at its index
-abbrev pub Takes : {A : Type 0} → (A → Val) → Option Misfit → ℕ → Val → Result A CallError → Type 0
-Takes stands_for misfit i v (Ok x) = (misfit ≡ None) × (stands_for x ≡ v)
-Takes stands_for misfit i v (Err (Arg j e)) = (j ≡ i) × (misfit ≡ Some (misfit_of e))
-Takes stands_for misfit i v (Err Memory) = Unit {0}
-Takes stands_for misfit i v (Err (Arity n)) = ⊥
-Takes stands_for misfit i v (Err (Fault text)) = ⊥
+-- an argument that fits is taken as what it denotes, else its misfit is answered, at its index; memory is out only for
+-- a copy
+abbrev pub Takes : {A : Type 0} → Bool → (A → Val) → Option Misfit → ℕ → Val → Result A CallError → Type 0
+Takes is_copy stands_for misfit i v (Ok x) = (misfit ≡ None) × (stands_for x ≡ v)
+Takes is_copy stands_for misfit i v (Err (Arg j e)) = (j ≡ i) × (misfit ≡ Some (misfit_of e))
+Takes is_copy stands_for misfit i v (Err Memory) = is_copy ≡ true
+Takes is_copy stands_for misfit i v (Err (Arity n)) = ⊥
+Takes is_copy stands_for misfit i v (Err (Fault text)) = ⊥
 
--- the same of an argument that is lent, for which no memory is taken
+-- the same of an argument that is borrowed, for which no memory is taken
 abbrev pub Lends : {A : Type 0} → (A → Val) → Option Misfit → ℕ → Val → Result A CallError → Type 0
-Lends stands_for misfit i v result = Takes stands_for misfit i v result × (result ≡ Err Memory → ⊥)
+Lends = Takes false
+
+-- of an option: whether what is returned is a copy
+abbrev pub option_is_copy : {T : Type 0} → (T → Bool) → Option T → Bool
+option_is_copy is_copy (Some x) = is_copy x
+option_is_copy is_copy None = false
+
+-- of a result: whether its value, or the message of its error, is a copy
+abbrev pub result_is_copy : {T E : Type 0} → (T → Bool) → Bool → Result T E → Bool
+result_is_copy is_copy of_error (Ok x) = is_copy x
+result_is_copy is_copy of_error (Err e) = of_error

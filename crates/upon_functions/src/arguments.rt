@@ -1,5 +1,5 @@
 // What a callable may take as an argument: what it owns, made of a value, or a part of a value that is lent.
-ghost use Rattle.std.specs.Prelude.{Option};
+ghost use Rattle.std.specs.Prelude.{Bool, Option};
 ghost use Rattle.upon_types.specs.Misfits.{IsFair};
 ghost use Rattle.upon_functions.specs.Says.{Takes};
 ghost use Rattle.upon_types.specs.Answers.{Misfit};
@@ -22,10 +22,13 @@ pub trait OwnedArgument: Sized {
     // What is wrong with a value that does not fit.
     ghost misfit: { Val → Option Misfit };
 
-    /// The argument at an index. The error is `Arg` with that index where the value does not fit, and `Memory` where
-    /// there is no memory for it.
+    // Whether it is a copy of the value's, for which alone memory is wanted.
+    ghost is_copy: { Bool };
+
+    /// Returns the argument at an index. The error is `Arg` with that index when the value does not fit, and `Memory`
+    /// when there is no memory for a copy.
     fn from_value(alloc: Global, index: usize, from: &Value) -> Result<Self, CallError>
-        ensures { Takes stands_for (misfit (view from.now)) index (view from.now) result };
+        ensures { Takes is_copy stands_for (misfit (view from.now)) index (view from.now) result };
 
     // Only an integer is out of range.
     ghost is_fair: { (v : Val) → IsFair v (misfit v) };

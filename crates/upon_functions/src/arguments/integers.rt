@@ -1,5 +1,5 @@
 // Integer arguments: each takes an integer in its type's range.
-ghost use Rattle.std.specs.Prelude.{pos};
+ghost use Rattle.std.specs.Prelude.{pos, false};
 ghost use Rattle.upon_types.specs.Misfits.{integer_misfit};
 ghost use Rattle.upon_types.proofs.FairMisfits.{integer_misfit-fair};
 ghost use Rattle.upon_functions.specs.Integers.{u8_range, u16_range, u32_range, u64_range, u128_range, usize_range, i8_range, i16_range, i32_range, i64_range, i128_range, isize_range};
@@ -26,6 +26,8 @@ macro_rules! integer_argument {
 impl OwnedArgument for u8 {
     ghost stands_for = { λ number. int_val (pos number) };
 
+    ghost is_copy = { false };
+
     ghost misfit = { integer_misfit u8_range };
 
     ghost is_fair = { integer_misfit-fair u8_range };
@@ -37,6 +39,8 @@ impl OwnedArgument for u8 {
 
 impl OwnedArgument for u16 {
     ghost stands_for = { λ number. int_val (pos number) };
+
+    ghost is_copy = { false };
 
     ghost misfit = { integer_misfit u16_range };
 
@@ -50,6 +54,8 @@ impl OwnedArgument for u16 {
 impl OwnedArgument for u32 {
     ghost stands_for = { λ number. int_val (pos number) };
 
+    ghost is_copy = { false };
+
     ghost misfit = { integer_misfit u32_range };
 
     ghost is_fair = { integer_misfit-fair u32_range };
@@ -61,6 +67,8 @@ impl OwnedArgument for u32 {
 
 impl OwnedArgument for u64 {
     ghost stands_for = { λ number. int_val (pos number) };
+
+    ghost is_copy = { false };
 
     ghost misfit = { integer_misfit u64_range };
 
@@ -74,6 +82,8 @@ impl OwnedArgument for u64 {
 impl OwnedArgument for u128 {
     ghost stands_for = { λ number. int_val (pos number) };
 
+    ghost is_copy = { false };
+
     ghost misfit = { integer_misfit u128_range };
 
     ghost is_fair = { integer_misfit-fair u128_range };
@@ -85,6 +95,8 @@ impl OwnedArgument for u128 {
 
 impl OwnedArgument for usize {
     ghost stands_for = { λ number. int_val (pos number) };
+
+    ghost is_copy = { false };
 
     ghost misfit = { integer_misfit usize_range };
 
@@ -98,6 +110,8 @@ impl OwnedArgument for usize {
 impl OwnedArgument for i8 {
     ghost stands_for = { int_val };
 
+    ghost is_copy = { false };
+
     ghost misfit = { integer_misfit i8_range };
 
     ghost is_fair = { integer_misfit-fair i8_range };
@@ -109,6 +123,8 @@ impl OwnedArgument for i8 {
 
 impl OwnedArgument for i16 {
     ghost stands_for = { int_val };
+
+    ghost is_copy = { false };
 
     ghost misfit = { integer_misfit i16_range };
 
@@ -122,6 +138,8 @@ impl OwnedArgument for i16 {
 impl OwnedArgument for i32 {
     ghost stands_for = { int_val };
 
+    ghost is_copy = { false };
+
     ghost misfit = { integer_misfit i32_range };
 
     ghost is_fair = { integer_misfit-fair i32_range };
@@ -133,6 +151,8 @@ impl OwnedArgument for i32 {
 
 impl OwnedArgument for i64 {
     ghost stands_for = { int_val };
+
+    ghost is_copy = { false };
 
     ghost misfit = { integer_misfit i64_range };
 
@@ -146,6 +166,8 @@ impl OwnedArgument for i64 {
 impl OwnedArgument for i128 {
     ghost stands_for = { int_val };
 
+    ghost is_copy = { false };
+
     ghost misfit = { integer_misfit i128_range };
 
     ghost is_fair = { integer_misfit-fair i128_range };
@@ -157,6 +179,8 @@ impl OwnedArgument for i128 {
 
 impl OwnedArgument for isize {
     ghost stands_for = { int_val };
+
+    ghost is_copy = { false };
 
     ghost misfit = { integer_misfit isize_range };
 

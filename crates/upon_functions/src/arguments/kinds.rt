@@ -1,5 +1,5 @@
 // Arguments that own one kind of value, and values of any kind. A text, a list, a map and a value are copies.
-ghost use Rattle.std.specs.Prelude.{string_bytes};
+ghost use Rattle.std.specs.Prelude.{string_bytes, true, false};
 ghost use Rattle.upon_types.specs.Misfits.{unit_misfit, bool_misfit, string_misfit, list_misfit, map_misfit, any_misfit};
 ghost use Rattle.upon_types.proofs.FairMisfits.{unit_misfit-fair, bool_misfit-fair, string_misfit-fair, list_misfit-fair, map_misfit-fair};
 ghost use Rattle.upon_types.specs.Val.{none_val, bool_val, text_val, list_val, map_val};
@@ -13,6 +13,8 @@ use upon_types::value::{Value, clone_entries, clone_items};
 
 impl OwnedArgument for () {
     ghost stands_for = { λ _. none_val };
+
+    ghost is_copy = { false };
 
     ghost misfit = { unit_misfit };
 
@@ -29,6 +31,8 @@ impl OwnedArgument for () {
 impl OwnedArgument for bool {
     ghost stands_for = { bool_val };
 
+    ghost is_copy = { false };
+
     ghost misfit = { bool_misfit };
 
     ghost is_fair = { bool_misfit-fair };
@@ -43,6 +47,8 @@ impl OwnedArgument for bool {
 
 impl OwnedArgument for String {
     ghost stands_for = { λ text. text_val (string_bytes text) };
+
+    ghost is_copy = { true };
 
     ghost misfit = { string_misfit };
 
@@ -59,6 +65,8 @@ impl OwnedArgument for String {
 impl OwnedArgument for Vec<Value> {
     ghost stands_for = { λ items. list_val (vals_view items.items) };
 
+    ghost is_copy = { true };
+
     ghost misfit = { list_misfit };
 
     ghost is_fair = { list_misfit-fair };
@@ -73,6 +81,8 @@ impl OwnedArgument for Vec<Value> {
 
 impl OwnedArgument for BTreeMap<String, Value> {
     ghost stands_for = { λ entries. map_val (entries_view entries.entries) };
+
+    ghost is_copy = { true };
 
     ghost misfit = { map_misfit };
 
@@ -92,6 +102,8 @@ impl OwnedArgument for BTreeMap<String, Value> {
 
 impl OwnedArgument for Value {
     ghost stands_for = { view };
+
+    ghost is_copy = { true };
 
     ghost misfit = { any_misfit };
 

@@ -1,5 +1,5 @@
 // Returns that are texts, lists, maps and values.
-ghost use Rattle.std.specs.Prelude.{Some, string_bytes};
+ghost use Rattle.std.specs.Prelude.{Some, string_bytes, true, false};
 ghost use Rattle.upon_functions.specs.Outcome.{value};
 ghost use Rattle.upon_types.specs.Val.{text_val, list_val, map_val};
 ghost use Rattle.upon_types.specs.View.{view, vals_view, entries_view};
@@ -13,6 +13,8 @@ use upon_types::value::Value;
 impl FunctionReturn for String {
     ghost outcome = { λ text. Some (value (text_val (string_bytes text))) };
 
+    ghost is_copy = { λ _. false };
+
     fn to_value(self, _alloc: Global) -> Result<Value, CallError> {
         Ok(Value::String(self))
     }
@@ -20,6 +22,8 @@ impl FunctionReturn for String {
 
 impl FunctionReturn for &'static str {
     ghost outcome = { λ text. Some (value (text_val text.now)) };
+
+    ghost is_copy = { λ _. true };
 
     fn to_value(self, alloc: Global) -> Result<Value, CallError> {
         Ok(Value::from_text(alloc, self)?)
@@ -29,6 +33,8 @@ impl FunctionReturn for &'static str {
 impl FunctionReturn for Vec<Value> {
     ghost outcome = { λ items. Some (value (list_val (vals_view items.items))) };
 
+    ghost is_copy = { λ _. false };
+
     fn to_value(self, _alloc: Global) -> Result<Value, CallError> {
         Ok(Value::List(self))
     }
@@ -37,6 +43,8 @@ impl FunctionReturn for Vec<Value> {
 impl FunctionReturn for BTreeMap<String, Value> {
     ghost outcome = { λ entries. Some (value (map_val (entries_view entries.entries))) };
 
+    ghost is_copy = { λ _. false };
+
     fn to_value(self, _alloc: Global) -> Result<Value, CallError> {
         Ok(Value::Map(self))
     }
@@ -44,6 +52,8 @@ impl FunctionReturn for BTreeMap<String, Value> {
 
 impl FunctionReturn for Value {
     ghost outcome = { λ v. Some (value (view v)) };
+
+    ghost is_copy = { λ _. false };
 
     fn to_value(self, _alloc: Global) -> Result<Value, CallError> {
         Ok(self)

@@ -1,5 +1,5 @@
 // Returns that become values without memory: none, truth values and integers.
-ghost use Rattle.std.specs.Prelude.{pos, Some};
+ghost use Rattle.std.specs.Prelude.{pos, Some, false};
 ghost use Rattle.upon_functions.specs.Outcome.{value};
 ghost use Rattle.upon_types.specs.Val.{none_val, bool_val, int_val};
 
@@ -11,6 +11,8 @@ use upon_types::value::Value;
 impl FunctionReturn for () {
     ghost outcome = { λ _. Some (value none_val) };
 
+    ghost is_copy = { λ _. false };
+
     fn to_value(self, _alloc: Global) -> Result<Value, CallError> {
         Ok(Value::None)
     }
@@ -18,6 +20,8 @@ impl FunctionReturn for () {
 
 impl FunctionReturn for bool {
     ghost outcome = { λ truth. Some (value (bool_val truth)) };
+
+    ghost is_copy = { λ _. false };
 
     fn to_value(self, _alloc: Global) -> Result<Value, CallError> {
         Ok(Value::Bool(self))
@@ -27,6 +31,8 @@ impl FunctionReturn for bool {
 impl FunctionReturn for u8 {
     ghost outcome = { λ number. Some (value (int_val (pos number))) };
 
+    ghost is_copy = { λ _. false };
+
     fn to_value(self, _alloc: Global) -> Result<Value, CallError> {
         Ok(Value::from(self))
     }
@@ -34,6 +40,8 @@ impl FunctionReturn for u8 {
 
 impl FunctionReturn for u16 {
     ghost outcome = { λ number. Some (value (int_val (pos number))) };
+
+    ghost is_copy = { λ _. false };
 
     fn to_value(self, _alloc: Global) -> Result<Value, CallError> {
         Ok(Value::from(self))
@@ -43,6 +51,8 @@ impl FunctionReturn for u16 {
 impl FunctionReturn for u32 {
     ghost outcome = { λ number. Some (value (int_val (pos number))) };
 
+    ghost is_copy = { λ _. false };
+
     fn to_value(self, _alloc: Global) -> Result<Value, CallError> {
         Ok(Value::from(self))
     }
@@ -50,6 +60,8 @@ impl FunctionReturn for u32 {
 
 impl FunctionReturn for i8 {
     ghost outcome = { λ number. Some (value (int_val number)) };
+
+    ghost is_copy = { λ _. false };
 
     fn to_value(self, _alloc: Global) -> Result<Value, CallError> {
         Ok(Value::from(self))
@@ -59,6 +71,8 @@ impl FunctionReturn for i8 {
 impl FunctionReturn for i16 {
     ghost outcome = { λ number. Some (value (int_val number)) };
 
+    ghost is_copy = { λ _. false };
+
     fn to_value(self, _alloc: Global) -> Result<Value, CallError> {
         Ok(Value::from(self))
     }
@@ -67,6 +81,8 @@ impl FunctionReturn for i16 {
 impl FunctionReturn for i32 {
     ghost outcome = { λ number. Some (value (int_val number)) };
 
+    ghost is_copy = { λ _. false };
+
     fn to_value(self, _alloc: Global) -> Result<Value, CallError> {
         Ok(Value::from(self))
     }
@@ -74,6 +90,8 @@ impl FunctionReturn for i32 {
 
 impl FunctionReturn for i64 {
     ghost outcome = { λ number. Some (value (int_val number)) };
+
+    ghost is_copy = { λ _. false };
 
     fn to_value(self, _alloc: Global) -> Result<Value, CallError> {
         Ok(Value::Integer(self))
