@@ -1,4 +1,4 @@
--- How the results of calls say the pure answers. Out of memory says nothing.
+-- How the results of calls say the pure answers. That memory is out says nothing of them.
 use Rattle.std.specs.Prelude.{◌≡◌, ℕ, Bool, true, false, List, Option, Some, None, Result, Ok, Err, map}
 use Rattle.std.specs.Prelude.{string_bytes}
 use Rattle.upon_functions.specs.Outcome.{Outcome, answer_of}
