@@ -1,8 +1,9 @@
 -- The fault that an `Error` of the code is.
-use Rattle.std.specs.Prelude.{◌≡◌, ◌⊎◌, Option, Some, None, option_map, string_bytes}
+use Rattle.std.specs.Prelude.{◌≡◌, ◌⊎◌, Option, Some, None, option_map, option_and_then, string_bytes}
 use Rattle.std.specs.declared.io.Error.{Error as IoError}
 use Rattle.upon_types.specs.Fault.{Kind, syntax, serialize, render, function, format, io, memory, Fault, out_of_memory}
 use Rattle.upon_types.specs.Picture.{Picture}
+use Rattle.upon_types.specs.declared.error.Details.{Details}
 use Rattle.upon_types.specs.declared.error.Error.{Error}
 use Rattle.upon_types.specs.declared.error.ErrorKind.{ErrorKind}
 use Rattle.upon_types.specs.declared.error.ErrorKind.TheVariants.{Syntax, Serialize, Render, Function, Format, Io, OutOfMemory}
@@ -22,14 +23,18 @@ kind_of OutOfMemory = memory
 abbrev pub picture_of : Excerpt → Picture
 picture_of e = record { number = e.number; column = e.column; width = e.width; line = string_bytes e.line }
 
+-- what an error's details say, where it has some
+abbrev pub detail : {T : Type 0} → (Details → Option T) → Error → Option T
+detail said e = option_and_then (λ details. said details.value) e.details
+
 -- the fault: its kind, the template's name, the reason, the span, and the picture of the span
 abbrev pub fault_of : Error → Fault
 fault_of e = record {
   kind = kind_of e.kind;
-  name = option_map string_bytes e.name;
-  reason = option_map string_bytes e.reason;
-  span = e.span;
-  picture = option_map picture_of e.excerpt;
+  name = detail (λ details. option_map string_bytes details.name) e;
+  reason = detail (λ details. option_map string_bytes details.reason) e;
+  span = detail (λ details. details.span) e;
+  picture = detail (λ details. option_map picture_of details.excerpt) e;
 }
 
 -- an error's kind, with the writer's error where it is one of a writer

@@ -38,6 +38,12 @@ pub enum ErrorKind {
 #[derive(Debug, Drop)]
 pub struct Error {
     kind: ErrorKind,
+    details: Option<Box<Details>>,
+}
+
+/// What an error says beside its kind. It is in a box, so that a result that may be an error is small.
+#[derive(Debug, Drop)]
+struct Details {
     name: Option<String>,
     reason: Option<String>,
     span: Option<Span>,
@@ -49,7 +55,7 @@ pub type Result<T> = std::result::Result<T, Error>;
 
 impl Error {
     /// The error of a kind, with a reason and a span in a source, where they are given. It has no template's name.
-    /// Where there is no memory for the reason or for the line that a picture shows, the kind is `OutOfMemory`.
+    /// Where there is no memory for what it says beside the kind, the kind is `OutOfMemory`.
     pub fn from_parts(
         alloc: Global,
         kind: ErrorKind,
@@ -87,39 +93,70 @@ impl Error {
             (fault_of result) }
         ensures kind { KeepsKind kind result }
     {
-        let Some((source, span)) = at else {
+        if reason.is_none() && at.is_none() {
             return Error {
                 kind,
-                name: None,
-                reason,
-                span: None,
-                excerpt: None,
+                details: None,
             };
+        }
+        let (span, excerpt) = match at {
+            Some((source, span)) => match Excerpt::of(alloc, source, span) {
+                Ok(excerpt) => (Some(span), Some(excerpt)),
+                Err(e) => return e.into(),
+            },
+            None => (None, None),
         };
-        match Excerpt::of(alloc, source, span) {
-            Ok(excerpt) => Error {
+        let details = Details {
+            name: None,
+            reason,
+            span,
+            excerpt,
+        };
+        match Box::new(alloc, details) {
+            Ok(details) => Error {
                 kind,
-                name: None,
-                reason,
-                span: Some(span),
-                excerpt: Some(excerpt),
+                details: Some(details),
             },
             Err(e) => e.into(),
         }
     }
 
-    /// The same fault in the template of this name. Where there is no memory for the name, the kind is `OutOfMemory`.
+    /// The same fault in the template of this name. Where there is no memory for that, the kind is `OutOfMemory`.
     pub fn with_name(self, alloc: Global, name: &str) -> Error
         ensures fault { OrMemory (fault_with_name name.now (fault_of self)) (fault_of result) }
         ensures kind { KeepsKind (error_kind self) result }
     {
-        match String::from_str(alloc, name) {
-            Ok(name) => Error {
-                name: Some(name),
-                ..self
-            },
+        match self.named(alloc, name) {
+            Ok(error) => error,
             Err(e) => e.into(),
         }
+    }
+
+    fn named(self, alloc: Global, name: &str) -> std::result::Result<Error, AllocError>
+        ensures fault { IfOk result (λ named. fault_of named ≡ fault_with_name name.now (fault_of self)) }
+        ensures kind { IfOk result (λ named. error_kind named ≡ error_kind self) }
+    {
+        let name = Some(String::from_str(alloc, name)?);
+        let Error { kind, details } = self;
+        let details = match details {
+            Some(mut details) => {
+                details.name = name;
+                details
+            }
+            None => {
+                let details = Details {
+                    name,
+                    reason: None,
+                    span: None,
+                    excerpt: None,
+                };
+                Box::new(alloc, details)?
+            }
+        };
+        Ok(Error {
+            kind,
+            details: Some(details),
+        })
     }
 
     /// What kind of fault it is.
@@ -134,21 +171,21 @@ impl Error {
     pub fn template_name(&self) -> Option<&str>
         ensures { option_map (λ name. name.now) result ≡ (fault_of self.now).name }
     {
-        as_text(&self.name)
+        as_text(&self.details.as_ref()?.name)
     }
 
     /// What is wrong, beside the kind.
     pub fn reason(&self) -> Option<&str>
         ensures { option_map (λ reason. reason.now) result ≡ (fault_of self.now).reason }
     {
-        as_text(&self.reason)
+        as_text(&self.details.as_ref()?.reason)
     }
 
     /// The span in the template's source where it lies, in bytes.
     pub fn place(&self) -> Option<Span>
         ensures { result ≡ (fault_of self.now).span }
     {
-        self.span
+        self.details.as_ref()?.span
     }
 
     /// The fault in several lines, with a picture of its span: the line of the source in which it begins, and marks
@@ -156,12 +193,18 @@ impl Error {
     pub fn pretty(&self, alloc: Global) -> std::result::Result<String, AllocError>
         ensures { IfOk result (λ text. string_bytes text ≡ pretty (fault_of self.now)) }
     {
-        match (&self.reason, &self.excerpt) {
+        match (self.reason(), self.excerpt()) {
             (Some(reason), Some(excerpt)) => {
                 pretty::with_excerpt(alloc, &self.kind, self.template_name(), reason, excerpt)
             }
             _ => self.to_string(alloc),
         }
+    }
+
+    fn excerpt(&self) -> Option<&Excerpt>
+        ensures { option_map (λ excerpt. picture_of excerpt.now) result ≡ (fault_of self.now).picture }
+    {
+        self.details.as_ref()?.excerpt.as_ref()
     }
 
     /// The writer's error, where that is the fault.
@@ -200,10 +243,7 @@ impl From<AllocError> for Error {
     fn from(_: AllocError) -> Error {
         Error {
             kind: ErrorKind::OutOfMemory,
-            name: None,
-            reason: None,
-            span: None,
-            excerpt: None,
+            details: None,
         }
     }
 }
@@ -224,10 +264,7 @@ impl From<io::Error> for Error {
     fn from(error: io::Error) -> Error {
         Error {
             kind: ErrorKind::Io(error),
-            name: None,
-            reason: None,
-            span: None,
-            excerpt: None,
+            details: None,
         }
     }
 }
@@ -238,10 +275,7 @@ impl From<fmt::Error> for Error {
     fn from(_: fmt::Error) -> Error {
         Error {
             kind: ErrorKind::Format,
-            name: None,
-            reason: None,
-            span: None,
-            excerpt: None,
+            details: None,
         }
     }
 }
@@ -271,7 +305,7 @@ impl fmt::Display for Error {
 
     fn fmt<W: fmt::Write>(&self, f: &mut fmt::Formatter<W>) -> fmt::Result {
         let kind = &self.kind;
-        match &self.reason {
+        match self.reason() {
             Some(reason) => write!(f, "{kind}: {reason}"),
             None => write!(f, "{kind}"),
         }
