@@ -1,5 +1,5 @@
 -- A trie that is built delimiter after delimiter.
-use Rattle.std.proofs.Common.{◌≡◌, ℕ, ◌+◌, ◌<◌, ◌≤◌, List, [], ◌∷◌, length, map, drop, get_or, sym, ap, ◌∙◌, subst, arith}
+use Rattle.std.proofs.Common.{◌≡◌, ℕ, ◌+◌, ◌<◌, ◌≤◌, List, [], ◌∷◌, length, drop, get_or, sym, ap, ◌∙◌, subst}
 use Rattle.std.proofs.lemmas.List.{at_drop_more, at_drop_all, get_or-map}
 use Rattle.upon_types.specs.declared.types.Delimiter.TheVariants.{BeginExpr}
 use Rattle.upon_language.specs.Search.{DelimiterText, text_at}

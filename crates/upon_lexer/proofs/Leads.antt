@@ -1,5 +1,5 @@
 -- Where texts lead.
-use Rattle.std.proofs.Common.{◌≡◌, ℕ, zero, suc, ◌+◌, ◌<◌, ◌≤◌, List, [], ◌∷◌, ◌++◌, length, arith, refl, sym, ◌∙◌, ap, subst}
+use Rattle.std.proofs.Common.{◌≡◌, ℕ, ◌<◌, List, [], ◌∷◌, ◌++◌, length, arith, refl, sym, ◌∙◌, subst}
 use Rattle.upon_lexer.specs.declared.types.syntax.trie.Node.{Node}
 use Rattle.upon_lexer.specs.Nodes.{IsLinked, node_at, child_of, Leads}
 use Rattle.upon_lexer.proofs.Siblings.{sibling_with-inside}

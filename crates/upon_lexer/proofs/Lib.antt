@@ -17,4 +17,6 @@ pub mod TrieOf
 pub mod Walk
 pub mod Written
 pub mod Ways
+pub mod Marking
+pub mod Pairing
 pub mod Built

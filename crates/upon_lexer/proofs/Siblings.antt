@@ -1,5 +1,5 @@
 -- The child of a node by a byte.
-use Rattle.std.proofs.Common.{◌≡◌, ℕ, zero, suc, ◌+◌, ◌<◌, ◌≤◌, ◌≢◌, ◌==◌, List, [], ◌∷◌, ◌++◌, cond, length, arith, refl, sym, ◌∙◌, ap, subst, true, false, eq-eqb, ne_eqb}
+use Rattle.std.proofs.Common.{◌≡◌, ℕ, zero, suc, ◌<◌, ◌≤◌, ◌≢◌, ◌==◌, List, cond, length, arith, refl, sym, ◌∙◌, ap, subst, true, false, eq-eqb, ne_eqb}
 use Rattle.upon_lexer.specs.declared.types.syntax.trie.Node.{Node}
 use Rattle.upon_lexer.specs.Nodes.{IsLinked, node_at, sibling_within, sibling_with}
 

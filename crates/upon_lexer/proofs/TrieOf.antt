@@ -1,14 +1,14 @@
 -- The nodes of a list of delimiters are its trie.
-use Rattle.std.proofs.Common.{◌≡◌, ℕ, zero, suc, ◌+◌, ◌<◌, ◌≤◌, ◌≢◌, ◌==◌, ◌⊎◌, inl, inr, List, [], ◌∷◌, ◌++◌, Option, None, Some, cond, true, false, is_some, length, arith, refl, sym, ◌∙◌, ap, subst, set, Bool, eq-eqb, ne_eqb}
-use Rattle.std.proofs.lemmas.List.{append_assoc, append-nil, append_cancel_right, get_or-set_same, get_or-set_other, length-set, length_push}
+use Rattle.std.proofs.Common.{◌≡◌, ℕ, zero, suc, ◌+◌, ◌<◌, ◌≢◌, ◌==◌, ◌⊎◌, inl, inr, List, [], ◌∷◌, ◌++◌, Option, None, Some, cond, is_some, length, arith, refl, sym, ◌∙◌, ap, subst, set, Bool, eq-eqb, ne_eqb}
+use Rattle.std.proofs.lemmas.List.{append_assoc, append-nil, get_or-set_same, get_or-set_other, length-set, length_push}
 use Rattle.upon_language.specs.Search.{DelimiterText, text_at}
 use Rattle.upon_lexer.specs.declared.types.syntax.trie.Node.{Node}
 use Rattle.upon_lexer.specs.Nodes.{IsLinked, blank, node_at, sibling_with, child_of, Leads}
 use Rattle.upon_lexer.specs.Grown.{grown, with_child, made_child, with_path, path_end, marked, with_text, with_texts, nodes_of}
 use Rattle.upon_lexer.specs.Trie.{IsFirstWith, IsTrieOf}
-use Rattle.upon_lexer.proofs.Siblings.{SameLinks, unchanged, sibling_with-zero}
-use Rattle.upon_lexer.proofs.Leads.{child_inside, leads_append, leads_split, leads_one, leads_inside, leads_on}
-use Rattle.upon_lexer.proofs.Growth.{grown-length, grown-other, grown-here, grown-made, grown-linked, child-here, stays, leads_still, leads_new, same_or_not}
+use Rattle.upon_lexer.proofs.Siblings.{unchanged, sibling_with-zero}
+use Rattle.upon_lexer.proofs.Leads.{leads_append, leads_split, leads_one, leads_inside, leads_on}
+use Rattle.upon_lexer.proofs.Growth.{grown-other, grown-here, grown-made, grown-linked, child-here, leads_still, leads_new, same_or_not}
 
 below_or_at : (j i : ℕ) → j < i + 1 → (j < i) ⊎ (i ≡ j)
 below_or_at j i l = grind arith

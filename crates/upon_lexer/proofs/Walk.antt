@@ -1,10 +1,10 @@
 -- A walk of a trie finds the best delimiter at an offset.
-use Rattle.std.proofs.Common.{◌≡◌, ℕ, ◌+◌, ◌-◌, ◌<◌, ◌≤◌, ◌≢◌, ◌⊎◌, inl, inr, List, [], ◌∷◌, ◌++◌, Option, None, Some, length, take, drop, get_or, arith, refl, sym, ◌∙◌, ap, subst, length-take, length-drop, get_or-take, get_or-drop}
+use Rattle.std.proofs.Common.{◌≡◌, ℕ, ◌+◌, ◌-◌, ◌<◌, ◌≤◌, ◌≢◌, ◌⊎◌, inl, inr, List, [], ◌∷◌, ◌++◌, Option, None, Some, length, take, drop, get_or, arith, sym, ◌∙◌, ap, subst, length-take, length-drop, get_or-take, get_or-drop}
 use Rattle.std.proofs.lemmas.List.{take-take, take-append-drop, drop_more, take_more}
-use Rattle.upon_language.specs.Search.{DelimiterText, text_at, Occurs, NoneAt, IsBest}
+use Rattle.upon_language.specs.Search.{DelimiterText, text_at, Occurs}
 use Rattle.upon_lexer.specs.declared.types.syntax.trie.Node.{Node}
 use Rattle.upon_lexer.specs.Nodes.{node_at, child_of, Leads}
-use Rattle.upon_lexer.specs.Trie.{IsFirstWith, IsTrieOf, longer_of, IsBestShorter, LongestShorter, LongestAt}
+use Rattle.upon_lexer.specs.Trie.{IsFirstWith, IsTrieOf, longer_of, LongestShorter, LongestAt}
 use Rattle.upon_lexer.proofs.Leads.{leads_append, leads_split, leads_one}
 
 less_or_same : (n k : ℕ) → n < k + 1 → (n < k) ⊎ (n ≡ k)

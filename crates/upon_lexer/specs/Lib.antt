@@ -14,5 +14,7 @@ pub mod Spelling
 pub mod Nodes
 pub mod Grown
 pub mod Trie
+pub mod Pairs
 pub mod FirstBytes
+pub mod Marks
 pub mod Ways

@@ -1,10 +1,12 @@
 // The steps from a template's text to its tokens.
+mod braces;
 mod brackets;
 pub mod chars;
 mod fault;
 mod first_bytes;
 mod inside;
 pub mod lex;
+mod marks;
 mod roles;
 pub mod search;
 mod tags;

@@ -1,7 +1,7 @@
-// The bytes with which delimiters begin: three at most, or those that a table marks.
-ghost use Rattle.std.specs.Prelude.{◌≡◌, ℕ, ◌<◌, ◌≤◌, length, IfSome, false, slice_index, slice_index_or};
+// The bytes with which delimiters begin, if they are three at most.
+ghost use Rattle.std.specs.Prelude.{◌≡◌, ℕ, ◌<◌, ◌≤◌, length, IfSome, slice_index};
 ghost use Rattle.upon_language.specs.Search.{text_at};
-ghost use Rattle.upon_lexer.specs.FirstBytes.{IsOneOf, BeginWithOneOf, MarksFirst};
+ghost use Rattle.upon_lexer.specs.FirstBytes.{IsOneOf, BeginWithOneOf};
 ghost use Rattle.upon_lexer.specs.Syntax.{syntax_delimiters};
 
 use crate::types::syntax::Syntax;
@@ -28,7 +28,7 @@ impl FewBytes {
             second: byte,
             third: byte,
         };
-        for i in 0..syntax.len() {
+        for i in 1..syntax.len() {
             let Some(more) = few.with(first_byte(syntax, i)) else {
                 return None;
             };
@@ -86,31 +86,4 @@ fn first_byte(syntax: &Syntax, i: usize) -> u8
 {
     let (_, text) = syntax.get(i);
     text.as_bytes()[0]
-}
-
-/// Returns a table that marks the bytes with which the delimiters of a syntax begin.
-pub(crate) fn table_of(syntax: &Syntax) -> [bool; 256]
-    ensures { MarksFirst result (syntax_delimiters syntax.now) }
-{
-    let mut table = [false; 256];
-    for i in 0..syntax.len() {
-        table[first_byte(syntax, i) as usize] = true;
-    }
-    table
-}
-
-/// Returns the first offset at or after another with a byte that a table marks, or the text's length if there is none.
-pub(crate) fn next_marked(table: &[bool; 256], source: &str, at: usize) -> usize
-    requires { at ≤ length source.now }
-    ensures after { at ≤ result }
-    ensures within { result ≤ length source.now }
-    ensures none { (q : ℕ) → at ≤ q → q < result → slice_index_or table.now (slice_index source.now q) false ≡ false }
-{
-    let bytes = source.as_bytes();
-    for offset in at..bytes.len() {
-        if table[bytes[offset] as usize] {
-            return offset;
-        }
-    }
-    bytes.len()
 }

@@ -1,14 +1,18 @@
-// Where delimiters occur in a text: by a brace or a first byte, and then by a walk of the trie.
-ghost use Rattle.std.specs.Prelude.{◌≡◌, ℕ, ◌<◌, ◌≤◌, ◌+◌, length, MatchOption, IfSome};
+// Where delimiters occur in a text: by a brace or the first bytes, and then by a walk of the trie.
+ghost use Rattle.std.specs.Prelude.{◌≡◌, ℕ, List, ◌<◌, ◌≤◌, ◌+◌, length, MatchOption, IfSome};
 ghost use Rattle.std.specs.Str.{IsCharBoundary};
 ghost use Rattle.upon_types.specs.Span.{LiesIn};
 ghost use Rattle.upon_language.specs.DefaultDelimiters.{default_delimiters};
-ghost use Rattle.upon_language.specs.Search.{Occurs, NoneAt, NoneFrom, IsBest, IsBestDelimiter, IsFirst};
+ghost use Rattle.upon_language.specs.Search.{DelimiterText, HasTexts, Occurs, NoneAt, NoneFrom, IsBest, IsBestDelimiter, IsFirst};
 ghost use Rattle.upon_language.specs.Raw.{IsRaw};
+ghost use Rattle.upon_lexer.specs.FirstBytes.{BeginWithOneOf};
+ghost use Rattle.upon_lexer.specs.Marks.{MarksEach};
 ghost use Rattle.upon_lexer.specs.Syntax.{syntax_delimiters};
 ghost use Rattle.upon_lexer.specs.Ways.{WayFits};
 
-use crate::compile::first_bytes::{self, FewBytes};
+use crate::compile::braces;
+use crate::compile::first_bytes::FewBytes;
+use crate::compile::marks::Marks;
 use crate::types::syntax::{Syntax, trie};
 use upon_types::types::{Delimiter, Span};
 
@@ -20,13 +24,13 @@ pub struct Searcher {
     ghost fits: { ∥ WayFits way (syntax_delimiters syntax) ∥₁ },
 }
 
-// How it looks for the next delimiter: by the next brace, or by the bytes with which delimiters begin, of which there are
-// at most three, or which a table marks.
+// How it looks for the next delimiter: by the next brace; by the bytes with which delimiters begin, if there are at most
+// three, and marks of their first two bytes; or by marks alone.
 #[derive(Drop)]
 enum Way {
     Brace,
-    Few(FewBytes),
-    Table([bool; 256]),
+    Few(FewBytes, Marks),
+    Marked(Marks),
 }
 
 impl Searcher {
@@ -36,10 +40,7 @@ impl Searcher {
     pub fn new() -> Searcher
         ensures { searcher_delimiters result ≡ default_delimiters }
     {
-        Searcher {
-            syntax: Syntax::default(),
-            way: Way::Brace,
-        }
+        Searcher::with_syntax(Syntax::default())
     }
 
     /// A searcher for a syntax.
@@ -125,9 +126,9 @@ impl Searcher {
         ensures none { NoneFrom (searcher_delimiters self.now) source.now at result }
     {
         match &self.way {
-            Way::Brace => near_brace(source, at),
-            Way::Few(bytes) => bytes.next(source, at),
-            Way::Table(table) => first_bytes::next_marked(table, source, at),
+            Way::Brace => braces::next(source, at),
+            Way::Few(bytes, marks) => next_of_few(*bytes, marks, source, at),
+            Way::Marked(marks) => marks.next(source, at, source.len()),
         }
     }
 
@@ -167,9 +168,10 @@ fn way_of(syntax: &Syntax) -> Way
     if syntax.is_default() {
         return Way::Brace;
     }
+    let marks = Marks::of(syntax);
     match FewBytes::of(syntax) {
-        Some(bytes) => Way::Few(bytes),
-        None => Way::Table(first_bytes::table_of(syntax)),
+        Some(bytes) => Way::Few(bytes, marks),
+        None => Way::Marked(marks),
     }
 }
 
@@ -183,15 +185,26 @@ fn end_of(source: &str, at: usize, text: &str) -> usize
     at + text.len()
 }
 
-// The first offset from which a default delimiter may occur: each has a brace among its first three bytes.
-fn near_brace(source: &str, at: usize) -> usize
+// How many bytes are looked at by marks before the next search for first bytes: after one of them others are often near.
+const WINDOW: usize = 64;
+
+// The next offset from which a delimiter may occur that begins with one of a few bytes; the text's length if there is none.
+fn next_of_few(few: FewBytes, marks: &Marks, source: &str, at: usize) -> usize
     requires { at ≤ length source.now }
     ensures after { at ≤ result }
     ensures within { result ≤ length source.now }
-    ensures none { NoneFrom default_delimiters source.now at result }
+    ensures none { (delimiters : List DelimiterText) → HasTexts delimiters → BeginWithOneOf few delimiters
+        → MarksEach marks.now delimiters → NoneFrom delimiters source.now at result }
 {
-    match memchr::memchr2(b'{', b'}', &source.as_bytes()[at..]) {
-        Some(found) => at + found.saturating_sub(2),
-        None => source.len(),
+    let mut from = at;
+    while from < source.len() {
+        let start = few.next(source, from);
+        let end = start + WINDOW.min(source.len() - start);
+        let offset = marks.next(source, start, end);
+        if offset < end {
+            return offset;
+        }
+        from = end;
     }
+    source.len()
 }

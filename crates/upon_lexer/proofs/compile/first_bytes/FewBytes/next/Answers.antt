@@ -1,4 +1,4 @@
-use Rattle.std.proofs.Common.{◌≡◌, ℕ, ◌+◌, ◌-◌, ◌<◌, ◌≤◌, length, take, drop, arith, ap, length-take, length-drop}
+use Rattle.std.proofs.Common.{◌≡◌, ◌-◌, ◌≤◌, length, take, drop, arith, ap, length-take, length-drop}
 use Rattle.upon_lexer.proofs.Ways.{others_before}
 use Rattle.upon_lexer.proofs.compile.first_bytes.FewBytes.next.Goals as goal
 

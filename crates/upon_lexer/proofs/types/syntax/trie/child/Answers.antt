@@ -1,4 +1,4 @@
-use Rattle.std.proofs.Common.{◌≡◌, ◌<◌, arith, sym, ap, ◌∙◌}
+use Rattle.std.proofs.Common.{◌<◌, arith, sym, ap, ◌∙◌}
 use Rattle.upon_lexer.specs.Nodes.{sibling_with}
 use Rattle.upon_lexer.proofs.Siblings.{sibling_with-here, sibling_with-further, sibling_with-zero}
 use Rattle.upon_lexer.proofs.types.syntax.trie.child.Goals as goal

@@ -1,5 +1,5 @@
 use Rattle.std.proofs.Common.{◌≡◌, ◌≤◌, ◌<◌, length, arith, sym, ap, subst, ◌∙◌, ℕ, get_or}
-use Rattle.upon_lexer.specs.Nodes.{child_of, node_at}
+use Rattle.upon_lexer.specs.Nodes.{node_at}
 use Rattle.upon_lexer.specs.Trie.{longer_of}
 use Rattle.upon_lexer.proofs.Leads.{child_inside}
 use Rattle.upon_lexer.proofs.Walk.{next_leads, more_known, all_known, whole_known}

@@ -1,4 +1,4 @@
-use Rattle.std.proofs.Common.{ℕ, ◌-◌, ◌<◌, List, length, take, drop}
+use Rattle.std.proofs.Common.{◌-◌, ◌<◌, List, length, take, drop}
 use Rattle.upon_language.specs.Search.{DelimiterText}
 use Rattle.upon_lexer.specs.Nodes.{Leads}
 use Rattle.upon_lexer.specs.Trie.{IsTrieOf, LongestShorter}

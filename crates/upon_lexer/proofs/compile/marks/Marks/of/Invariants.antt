@@ -1,0 +1,8 @@
+use Rattle.std.proofs.Common.{ℕ, ◌<◌, ◌%◌}
+use Rattle.upon_language.specs.Search.{text_at}
+use Rattle.upon_lexer.specs.Marks.{MarksText}
+use Rattle.upon_lexer.specs.Syntax.{syntax_delimiters}
+use Rattle.upon_lexer.proofs.compile.marks.Marks.of.Given as goal
+
+abbrev pub invariant-loop-i : goal.invariant-loop-i
+invariant-loop-i l = (j : ℕ) → j < l.i → MarksText l.marks (j % 16) (text_at (syntax_delimiters l.syntax) j)

@@ -1,0 +1,98 @@
+// Marks of the first two bytes of delimiters, by which most offsets are seen to begin none.
+ghost use Rattle.std.specs.Prelude.{◌≡◌, ℕ, ◌<◌, ◌≤◌, List, length, false};
+ghost use Rattle.upon_language.specs.Search.{DelimiterText, HasTexts, NoneAt, NoneFrom};
+ghost use Rattle.upon_lexer.specs.Marks.{HasMark, MarksText, MarksEach};
+ghost use Rattle.upon_lexer.specs.Syntax.{syntax_delimiters};
+
+use crate::types::syntax::Syntax;
+
+/// For each byte, a bit for each delimiter that it is the first byte of, and for each that it may be the second byte of.
+/// A delimiter of one byte may have each byte as its second. Delimiters 16 apart in the list share a bit.
+#[derive(Drop)]
+pub(crate) struct Marks {
+    first: [u16; 256],
+    second: [u16; 256],
+}
+
+impl Marks {
+    /// Returns the marks of the delimiters of a syntax.
+    pub(crate) fn of(syntax: &Syntax) -> Marks
+        ensures { MarksEach result (syntax_delimiters syntax.now) }
+    {
+        let mut marks = Marks {
+            first: [0; 256],
+            second: [0; 256],
+        };
+        for i in 0..syntax.len() {
+            let (_, text) = syntax.get(i);
+            marks.add(text.as_bytes(), i % 16);
+        }
+        marks
+    }
+
+    // Marks the first two bytes of a text with a bit.
+    fn add(&mut self, text: &[u8], bit: usize)
+        requires text { 0 < length text.now }
+        requires bit { bit < 16 }
+        ensures marked { MarksText self.new bit text.now }
+        ensures kept { (b : ℕ) (t : List ℕ) → MarksText self.old b t → MarksText self.new b t }
+    {
+        mark(&mut self.first, text[0] as usize, bit);
+        match text.get(1) {
+            Some(second) => mark(&mut self.second, *second as usize, bit),
+            None => mark_all(&mut self.second, bit),
+        }
+    }
+
+    /// Returns the first offset from one to another at which a delimiter may begin, else the other.
+    pub(crate) fn next(&self, source: &str, at: usize, end: usize) -> usize
+        requires order { at ≤ end }
+        requires within { end ≤ length source.now }
+        ensures after { at ≤ result }
+        ensures before { result ≤ end }
+        ensures none { (delimiters : List DelimiterText) → HasTexts delimiters → MarksEach self.now delimiters
+            → NoneFrom delimiters source.now at result }
+    {
+        let bytes = source.as_bytes();
+        for offset in at..end {
+            if self.may_begin(bytes, offset) {
+                return offset;
+            }
+        }
+        end
+    }
+
+    // Whether a delimiter may begin at an offset.
+    fn may_begin(&self, bytes: &[u8], at: usize) -> bool
+        requires { at < length bytes.now }
+        ensures { result ≡ false → (delimiters : List DelimiterText) → HasTexts delimiters → MarksEach self.now delimiters
+            → NoneAt delimiters bytes.now at }
+    {
+        let begin = self.first[bytes[at] as usize];
+        match bytes.get(at + 1) {
+            Some(next) => begin & self.second[*next as usize] != 0,
+            None => begin != 0,
+        }
+    }
+}
+
+// Marks a byte with a bit.
+fn mark(table: &mut [u16; 256], byte: usize, bit: usize)
+    requires byte { byte < 256 }
+    requires bit { bit < 16 }
+    ensures marked { HasMark table.new byte bit }
+    ensures kept { (b c : ℕ) → HasMark table.old b c → HasMark table.new b c }
+{
+    table[byte] |= 1 << bit;
+}
+
+// Marks every byte with a bit.
+fn mark_all(table: &mut [u16; 256], bit: usize)
+    requires { bit < 16 }
+    ensures marked { (b : ℕ) → b < 256 → HasMark table.new b bit }
+    ensures kept { (b c : ℕ) → HasMark table.old b c → HasMark table.new b c }
+{
+    for byte in 0..256 {
+        mark(table, byte, bit);
+    }
+}
