@@ -1,6 +1,5 @@
 pub mod Computing
 pub mod NotTooDeep
-pub mod NumberedDepth
 pub mod Deeper
 pub mod DeeperMeaning
 pub mod UnaskedExpressions
@@ -12,6 +11,7 @@ pub mod SameLookups
 pub mod SameMeaning
 pub mod SameIncludes
 pub mod Reached
+pub mod NumberedDepth
 pub mod AgreeingMaps
 pub mod NamesRead
 pub mod LoopNames

@@ -2,15 +2,20 @@
 use Rattle.std.proofs.Common.{◌≡◌, ℕ, List, [], ◌∷◌, ◌++◌, Option, Some, None, inr, ap}
 use Rattle.upon_types.specs.Tree.{Statements}
 use Rattle.upon_render.specs.Source.{says}
-use Rattle.upon_meaning.specs.Engine.{Template, Table, table_answer, from_table}
+use Rattle.upon_meaning.specs.Engine.{Template, Table, Resolver, table_answer, from_table}
 use Rattle.upon_meaning.specs.Includes.{Includes, ReachesBy, Reaches}
 use Rattle.upon_meaning.specs.Names.{Reads}
+use Rattle.upon_meaning.specs.Sources.{HandsOnFrom}
 use Rattle.upon_meaning.proofs.SameLookups.{Any}
 use Rattle.upon_meaning.proofs.SameIncludes.{Closed}
 
 held_says : (o : Option Template) (t : Template) → table_answer o ≡ says t → o ≡ Some t
 held_says None t e = absurd (cc)
 held_says (Some u) t e = let same : u ≡ t = cc in ap Some same
+
+-- a table hands on what it holds
+pub table_hands_on : {T : Type 0} (table : Table) → HandsOnFrom {T = T} table (from_table table)
+table_hands_on table q name t e = held_says (table name) t e
 
 module _ (table : Table) where
   -- one include further
@@ -21,12 +26,12 @@ module _ (table : Table) where
   pub reaches_more : (tree : Statements) (name : List ℕ) (t : Template) (n : List ℕ) → Reaches table tree name → table name ≡ Some t → Includes n t.tree → Reaches table tree n
   reaches_more tree name t n h e i = (h.0 ++ name ∷ [], reaches_by_more tree h.0 name t n h.1 e i)
 
-  module _ {T : Type 0} (tree : Statements) where
+  module _ {T : Type 0} (resolve : Resolver T) (hands_on : HandsOnFrom table resolve) (tree : Statements) where
     -- what is reached reads only names that are read, and includes only names that are reached
-    pub closed_reads : Closed {T = T} (from_table table) (Reads table tree) (Reaches table tree)
+    pub closed_reads : Closed resolve (Reads table tree) (Reaches table tree)
     closed_reads q name t reached e =
-        let holds = held_says (table name) t e in
+        let holds = hands_on q name t e in
         (λ n r. inr (t, record { name = name; reaches = reached; holds = holds }, r), λ n i. reaches_more tree name t n reached holds i)
 
-    pub closed_any : Closed {T = T} (from_table table) Any (Reaches table tree)
-    closed_any q name t reached e = let holds = held_says (table name) t e in (λ n r. tt, λ n i. reaches_more tree name t n reached holds i)
+    pub closed_any : Closed resolve Any (Reaches table tree)
+    closed_any q name t reached e = let holds = hands_on q name t e in (λ n r. tt, λ n i. reaches_more tree name t n reached holds i)

@@ -12,6 +12,7 @@ pub mod IncludeFinds
 pub mod ValueSource
 pub mod Includes
 pub mod Names
+pub mod Sources
 pub mod Shadowing
 pub mod RenderFaults
 pub mod MapOrder

@@ -21,6 +21,7 @@ pub mod faults;
 pub mod maps;
 pub mod names;
 pub mod scopes;
+pub mod sources;
 pub mod whole_scopes;
 
 /// A greater depth gives the same text, end and next states where the lesser one does not end because includes are too
