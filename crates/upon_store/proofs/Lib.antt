@@ -3,3 +3,4 @@ pub mod Steps
 pub mod Leads
 pub mod Changes
 pub mod Rising
+pub mod HandingOn

@@ -5,9 +5,11 @@ use Rattle.std.specs.Cmp.Lexicographic.{slice_cmp}
 use Rattle.std.specs.List.Sorted.{IsStrictlySortedBy}
 use Rattle.std.specs.Ordering.{nat_cmp}
 use Rattle.upon_types.specs.declared.error.Error.{Error}
+use Rattle.upon_types.specs.Tree.{Statements}
 use Rattle.upon_render.specs.Finding.{Reply, reply}
 use Rattle.upon_render.specs.Source.{SourceAnswer, says, refuses}
 use Rattle.upon_meaning.specs.Engine.{Template, Table, Resolver}
+use Rattle.upon_meaning.specs.Includes.{Reaches}
 use Rattle.upon_meaning.specs.Outcome.{Outcome}
 use Rattle.upon_renderer.specs.Reports.{Writes}
 use Rattle.upon_engine.specs.HandsOn.{hands_on}
@@ -51,6 +53,20 @@ answers_in store path q name = reply (store_answer (held store) (resolved path n
 -- the store as what answers the names of includes
 abbrev pub from_store : {T : Type 0} → Store → List ℕ → Resolver T
 from_store store path = hands_on (answers_in store path)
+
+-- the template at the path that a name denotes, or none where it denotes none
+abbrev pub stored_at : Store → Option (List ℕ) → Option Template
+stored_at store None = None
+stored_at store (Some path) = stored store path
+
+-- the templates that names denote in the folder of a path
+abbrev pub folder_table : Store → List ℕ → Table
+folder_table store path name = stored_at store (resolved path name)
+
+-- the tree reaches a name that denotes this path, with the templates that names denote in the folder of a path
+abbrev pub ReachesPath : Store → List ℕ → Statements → List ℕ → Type 0
+ReachesPath store path tree reached =
+    (name : List ℕ) × Reaches (folder_table store path) tree name × (resolved path name ≡ Some reached)
 
 -- How an addition ends: well; or the path is none, which is said first; or the engine refuses; or memory is out.
 abbrev pub EndsAdding : Bool → (Error → Type 0) → Result (Unit {0}) StoreError → Type 0

@@ -2,6 +2,8 @@
 ghost use Rattle.std.specs.Prelude.{◌≡◌, ◌++◌, ◌∷◌, ◌<◌, ℕ, List, [], true, Some, None, codes, length, replicate};
 ghost use Rattle.upon_store.specs.Paths.{folder_of, is_path, path_text, resolved, segments};
 
+pub mod renderings;
+
 /// A name that is resolved in the folder of a path leads to a path.
 pub fn resolved_is_path()
     ensures { (path name p : List ℕ) → is_path path ≡ true → resolved path name ≡ Some p → is_path p ≡ true }
