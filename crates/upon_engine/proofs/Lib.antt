@@ -4,3 +4,4 @@ pub mod Laws
 pub mod Roots
 pub mod Renderings
 pub mod TemplateSpans
+pub mod Tables

@@ -4,22 +4,15 @@ use Rattle.std.specs.BTreeMap.{get_by_text}
 use Rattle.std.specs.Str.{bytes_eq}
 use Rattle.std.specs.declared.alloc.Global.{Global}
 use Rattle.std.specs.declared.dyn_box.DynBox.{DynBox}
-use Rattle.upon_types.specs.Answers.{Callable, Formatter, Function, formatter, function}
+use Rattle.upon_types.specs.Answers.{Formatter, Function}
 use Rattle.upon_types.specs.Tree.{Statements}
 use Rattle.upon_language.specs.Grammar.{HasTree}
 use Rattle.upon_language.specs.Search.{DelimiterText}
 use Rattle.upon_lexer.specs.Searcher.{searcher_delimiters}
 use Rattle.upon_meaning.specs.Engine.{Engine, Template}
+use Rattle.upon_engine.specs.Callables.{callable_of}
 use Rattle.upon_engine.specs.Template.{template_of}
-use Rattle.upon_engine.specs.declared.engine.Callable.{Callable as Boxes}
-use Rattle.upon_engine.specs.declared.engine.Callable.TheVariants.{Formatter as FormatterBox, Function as FunctionBox}
 use Rattle.upon_engine.specs.declared.engine.Engine.{Engine as Held}
-
--- what a box denotes, by its ghost member
-abbrev pub callable_of : {X Y : Type 0} {P : X → Type 0} {Q : Y → Type 0} → (DynBox X Global P → Formatter)
-    → (DynBox Y Global Q → Function) → Boxes X Y P Q → Callable
-callable_of formats answers (FormatterBox f) = formatter (formats f)
-callable_of formats answers (FunctionBox f) = function (answers f)
 
 -- templates and callables by their names, the default formatter that was set, and the depth
 abbrev pub engine_of : {X Y : Type 0} {P : X → Type 0} {Q : Y → Type 0} → (DynBox X Global P → Formatter)

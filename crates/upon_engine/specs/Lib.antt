@@ -1,6 +1,7 @@
 pub mod Template
 pub mod Faults
 pub mod Before
+pub mod Callables
 pub mod Engine
 pub mod Base
 pub mod Sources
@@ -9,3 +10,5 @@ pub mod TemplateRef
 pub mod Calls
 pub mod Kept
 pub mod Answers
+pub mod Texts
+pub mod Theorem

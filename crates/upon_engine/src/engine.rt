@@ -12,9 +12,10 @@ ghost use Rattle.upon_lexer.specs.Syntax.{syntax_delimiters};
 ghost use Rattle.upon_syntax.specs.TagReading.{IsSyntaxError};
 ghost use Rattle.upon_calls.specs.Calls.{sort_of};
 ghost use Rattle.upon_engine.specs.Before.{KeepsOldTree, KeepsOldTemplate, HadNoTree};
+ghost use Rattle.upon_engine.specs.Callables.{callable_of};
 ghost use Rattle.upon_engine.specs.Faults.{IsSyntaxErrorOf};
 ghost use Rattle.upon_engine.specs.Template.{template_of, template_source, template_syntax, template_tree};
-ghost use Rattle.upon_engine.specs.Engine.{callable_of, engine_depth, engine_of, engine_syntax, OthersStay, AllStay, HoldsTemplate};
+ghost use Rattle.upon_engine.specs.Engine.{engine_depth, engine_of, engine_syntax, OthersStay, AllStay, HoldsTemplate};
 
 use crate::compile;
 use crate::template::Template;

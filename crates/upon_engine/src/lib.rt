@@ -8,4 +8,6 @@ pub mod renderer;
 pub mod sources;
 pub mod template;
 pub mod template_ref;
+pub mod texts;
+pub mod theorem;
 pub mod values;

@@ -7,4 +7,6 @@ mod contexts;
 mod profile;
 #[cfg(test)]
 mod sources;
+#[cfg(test)]
+mod theorem;
 pub mod users;

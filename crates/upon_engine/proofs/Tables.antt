@@ -1,0 +1,108 @@
+-- The texts that an engine holds have one table of trees, and an answer by that table is one by each.
+use Rattle.std.proofs.Common.{◌≡◌, ℕ, List, [], Option, Some, None, Result, String, option_map, refl, sym, ap, ◌∙◌, subst, inl, inr, Ok, Err, IsErrAnd, true}
+use mathlib.Core.Path.{fun_ext}
+use Rattle.std.specs.BTreeMap.{get_by_text}
+use Rattle.std.specs.declared.alloc.Global.{Global}
+use Rattle.std.specs.declared.dyn_box.DynBox.{DynBox}
+use Rattle.std.proofs.Math.Logic.{∥∥₁_elim}
+use Rattle.upon_types.specs.Answers.{Formatter, Function}
+use Rattle.upon_types.specs.Error.{fault_of}
+use Rattle.upon_types.specs.Fault.{syntax, out_of_memory}
+use Rattle.upon_types.specs.Tree.{Statements}
+use Rattle.upon_types.specs.Val.{Val}
+use Rattle.upon_types.specs.declared.error.Error.{Error}
+use Rattle.upon_types.proofs.Sets.{Statements-one_path}
+use Rattle.upon_language.specs.Grammar.{HasTree}
+use Rattle.upon_language.specs.Search.{DelimiterText}
+use Rattle.upon_render.specs.Environment.{context}
+use Rattle.upon_meaning.specs.Alone.{alone}
+use Rattle.upon_meaning.specs.Engine.{Table, Template}
+use Rattle.upon_meaning.specs.Outcome.{states}
+use Rattle.std.proofs.KnownBytes.{Appends-nil}
+use Rattle.upon_fmt.specs.Given.{Part}
+use Rattle.upon_renderer.specs.Reports.{Writes}
+use Rattle.upon_syntax.specs.TagReading.{IsSyntaxError}
+use Rattle.upon_compiled.proofs.CompiledTree.{only, had_tree}
+use Rattle.upon_engine.specs.Answers.{AnswersText}
+use Rattle.upon_engine.specs.Engine.{engine_of}
+use Rattle.upon_engine.specs.Template.{template_of, template_source, template_syntax, template_tree}
+use Rattle.upon_engine.specs.Texts.{Stored, stored, texts_of}
+use Rattle.upon_engine.specs.Theorem.{IsTemplateOf, IsTable, rendering, meaning, Answers, Sends}
+use Rattle.upon_engine.specs.declared.engine.Engine.{Engine as Held}
+use Rattle.upon_engine.specs.declared.template.Template.{Template as HeldTemplate}
+
+abbrev pub made : List ℕ → Statements → Template
+made source tree = record { source = source; tree = tree }
+
+-- each tree of a template's text is its tree
+only_held : (h : HeldTemplate) (tree : Statements) → HasTree (template_syntax h) (template_source h) tree → tree ≡ template_tree h
+only_held h tree has = only (template_syntax h) (template_source h) h.instrs.items h.is_compiled tree has
+
+pub held_one : (o : Option HeldTemplate) (t : Option Template) → IsTemplateOf (option_map stored o) t → t ≡ option_map template_of o
+held_one None None is = refl
+held_one None (Some t) is = absurd is
+held_one (Some h) None is = absurd is
+held_one (Some h) (Some t) is =
+    let same : t.tree ≡ template_tree h = ∥∥₁_elim is.1 (Statements-one_path t.tree (template_tree h)) (only_held h t.tree) in
+    ap (λ s. Some (made s t.tree)) is.0 ∙ ap (λ tree. Some (made (template_source h) tree)) same
+
+pub held_is : (o : Option HeldTemplate) → IsTemplateOf (option_map stored o) (option_map template_of o)
+held_is None = tt
+held_is (Some h) = (refl, had_tree (template_syntax h) (template_source h) h.instrs.items h.is_compiled)
+
+pub held_named : (o : Option HeldTemplate) (r : Template) (s : Stored) (tree : Statements)
+    → option_map template_of o ≡ Some r → option_map stored o ≡ Some s → HasTree s.syntax s.text tree → r ≡ made s.text tree
+held_named None r s tree ir iss has = absurd cc
+held_named (Some h) r s tree ir iss has =
+    let a : template_of h ≡ r = cc in
+    let b : stored h ≡ s = cc in
+    let F : Stored → Type 0 = λ s. HasTree s.syntax s.text tree → template_of h ≡ made s.text tree in
+    sym a ∙ subst F b (λ k. ap (made (template_source h)) (sym (only_held h tree k))) has
+
+module _ (held : List ℕ → Option HeldTemplate) where
+  abbrev pub table_held : Table
+  table_held name = option_map template_of (held name)
+
+  pub only_table : (table : Table) → IsTable (λ name. option_map stored (held name)) table → table ≡ table_held
+  only_table table is = fun_ext (λ name. held_one (held name) (table name) (is name))
+
+  pub is_table : IsTable (λ name. option_map stored (held name)) table_held
+  is_table name = held_is (held name)
+
+  pub table_of : (table : Table) × IsTable (λ name. option_map stored (held name)) table
+      × ((other : Table) → IsTable (λ name. option_map stored (held name)) other → other ≡ table)
+  table_of = (table_held, is_table, only_table)
+
+-- a fault of compiling a text that has a tree is that memory is out
+pub no_memory : (delimiters : List DelimiterText) (s : List ℕ) (e : Error) (tree : Statements)
+    → IsSyntaxError delimiters s e → ((fault_of e).kind ≡ syntax → (other : Statements) → HasTree delimiters s other → ⊥)
+    → HasTree delimiters s tree → fault_of e ≡ out_of_memory
+no_memory delimiters s e tree (inl out) none has = out
+no_memory delimiters s e tree (inr first) none has = absurd (none (ap (λ f. f.kind) first.3) tree has)
+
+-- nothing of a text is a beginning of it
+pub nothing_yet : (old : Option (List ℕ)) (text : List ℕ) → Part old old text
+nothing_yet old text = ([], text, refl, Appends-nil old)
+
+-- the error that `?` hands on is the result's
+pub handed : {A : Type 0} (error : Error) (r : Result A Error) → IsErrAnd r (λ x. x ≡ error) → r ≡ Err error
+handed error (Ok a) same = absurd same
+handed error (Err x) same = ap Err same
+
+module _ {X Y : Type 0} {P : X → Type 0} {Q : Y → Type 0} (formats : DynBox X Global P → Formatter) (answers : DynBox Y Global Q → Function) (e : Held X Y P Q) where
+  pub answers_by : (name : Option (List ℕ)) (t : Template) (source : List ℕ) (tree : Statements) (v : Val) (result : Result (String Global) Error)
+      → t ≡ made source tree
+      → AnswersText e.depth (alone (rendering (texts_of formats answers e) (engine_of formats answers e).templates) t name (context v) (states tt tt)) result
+      → Answers (texts_of formats answers e) name source tree v result
+  answers_by name t source tree v result is said table it =
+      subst (λ z. AnswersText e.depth (meaning (texts_of formats answers e) z name source tree v) result) (sym (only_table (get_by_text e.templates) table it))
+      (subst (λ z. AnswersText e.depth (alone (rendering (texts_of formats answers e) (engine_of formats answers e).templates) z name (context v) (states tt tt)) result) is said)
+
+  -- the same of what a writer receives
+  pub sends_by : (name : Option (List ℕ)) (t : Template) (source : List ℕ) (tree : Statements) (v : Val) (result : Result (Unit {0}) Error) (old new : Option (List ℕ))
+      → t ≡ made source tree
+      → Writes e.depth true result old new (alone (rendering (texts_of formats answers e) (engine_of formats answers e).templates) t name (context v) (states tt tt))
+      → Sends (texts_of formats answers e) name source tree v result old new
+  sends_by name t source tree v result old new is said table it =
+      subst (λ z. Writes e.depth true result old new (meaning (texts_of formats answers e) z name source tree v)) (sym (only_table (get_by_text e.templates) table it))
+      (subst (λ z. Writes e.depth true result old new (alone (rendering (texts_of formats answers e) (engine_of formats answers e).templates) z name (context v) (states tt tt))) is said)
