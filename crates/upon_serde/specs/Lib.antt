@@ -1,4 +1,5 @@
 pub mod Data
 pub mod Notes
 pub mod Reads
+pub mod Refusal
 pub mod Again

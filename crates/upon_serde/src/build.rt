@@ -9,12 +9,12 @@ ghost use Rattle.upon_serde.specs.Data.{key_text, value_of};
 ghost use Rattle.upon_serde.specs.Notes.{event_of, events_of};
 ghost use Rattle.upon_serde.specs.Reads.{ReadsDatum, ReadsItems, ReadsMembers, ReadsFlattened, ReadsKey, datum_of, key_of, pairs_of};
 
-use crate::fault::{fault, integer};
+use crate::fault::{fault, incomplete, integer};
 use crate::note::{Note, Notes};
 use serde::{Case, NameKind};
 use std::alloc::{AllocError, Global};
 use std::collections::BTreeMap;
-use upon_types::error::{Error, Result};
+use upon_types::error::Result;
 use upon_types::value::Value;
 
 /// The value of the data that the notes are.
@@ -25,7 +25,7 @@ pub fn whole_value(alloc: Global, mut notes: Notes) -> Result<Value>
     if notes.is_empty() {
         Ok(value)
     } else {
-        Err(misplaced(alloc))
+        Err(incomplete(alloc))
     }
 }
 
@@ -36,7 +36,7 @@ fn value(alloc: Global, notes: &mut Notes) -> Result<Value>
     ensures shorter { OnOk result (deque_len notes.new < deque_len notes.old) }
 {
     let Some(note) = notes.pop_front() else {
-        return Err(misplaced(alloc));
+        return Err(incomplete(alloc));
     };
     match note {
         Note::BeginSeq(_) => Ok(Value::List(items(alloc, notes)?)),
@@ -60,7 +60,7 @@ fn simple_value(alloc: Global, note: Note) -> Result<Value>
         Note::UnitVariant(name, case) => {
             Ok(Value::String(spelled(alloc, NameKind::Variant, &name, case)?))
         }
-        _ => Err(misplaced(alloc)),
+        _ => Err(incomplete(alloc)),
     }
 }
 
@@ -111,7 +111,7 @@ fn members(alloc: Global, notes: &mut Notes, entries: &mut BTreeMap<String, Valu
             }
         }
     }
-    Err(misplaced(alloc))
+    Err(incomplete(alloc))
 }
 
 // Puts the members of a flattened map into the entries; a unit in its place has none.
@@ -142,7 +142,7 @@ fn key(alloc: Global, first: Note, notes: &mut Notes) -> Result<String>
         Note::FieldKey(name, case) => Ok(spelled(alloc, NameKind::Field, &name, case)?),
         Note::VariantKey(name, case) => Ok(spelled(alloc, NameKind::Variant, &name, case)?),
         Note::BeginKey => inner_key(alloc, notes),
-        _ => Err(misplaced(alloc)),
+        _ => Err(incomplete(alloc)),
     }
 }
 
@@ -153,12 +153,12 @@ fn inner_key(alloc: Global, notes: &mut Notes) -> Result<String>
     ensures shorter { OnOk result (deque_len notes.new ≤ deque_len notes.old) }
 {
     let Some(note) = notes.pop_front() else {
-        return Err(misplaced(alloc));
+        return Err(incomplete(alloc));
     };
     let text = simple_key(alloc, note)?;
     match notes.pop_front() {
         Some(Note::EndKey) => Ok(text),
-        _ => Err(misplaced(alloc)),
+        _ => Err(incomplete(alloc)),
     }
 }
 
@@ -172,7 +172,7 @@ fn simple_key(alloc: Global, note: Note) -> Result<String>
         Note::Char(character) => Ok(one_character(alloc, character)?),
         Note::Text(text) => Ok(text),
         Note::UnitVariant(name, case) => Ok(spelled(alloc, NameKind::Variant, &name, case)?),
-        _ => Err(misplaced(alloc)),
+        _ => Err(incomplete(alloc)),
     }
 }
 
@@ -220,9 +220,4 @@ fn spelled(
     let mut text = String::new(alloc);
     case.append(kind, name, &mut text)?;
     Ok(text)
-}
-
-// What an implementation sent that is no data: an end without its begin, a value without its key, or nothing.
-fn misplaced(alloc: Global) -> Error {
-    fault(alloc, "serde's data are incomplete")
 }

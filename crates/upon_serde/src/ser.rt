@@ -1,10 +1,13 @@
 // From a type that serde can write to a value.
-ghost use Rattle.std.specs.Prelude.{List, [], Some, IfOk};
+ghost use Rattle.std.specs.Prelude.{List, [], Some, IfOk, IfErr};
 ghost use Rattle.serde.specs.Event.{Event};
+ghost use Rattle.upon_types.specs.Error.{fault_of};
 ghost use Rattle.upon_types.specs.View.{view};
 ghost use Rattle.upon_serde.specs.Reads.{ReadsDatum};
+ghost use Rattle.upon_serde.specs.Refusal.{IsRefusal};
 
 use crate::build;
+use crate::fault::refusal;
 use crate::recorder::Recorder;
 use serde::Serialize;
 use std::alloc::Global;
@@ -27,10 +30,22 @@ use upon_types::value::Value;
 /// - `map key must be a string`: a key is of another type.
 /// - the message that an implementation of `Serialize` gives to `custom`.
 /// - `can only flatten structs and maps`, and `serde's data are incomplete` where an implementation by hand writes what
-///   is no data.
+///   is no data, or answers an error of a kind that tells of no context.
 ///
 /// Out of memory has the kind `OutOfMemory`.
 pub fn to_value<T: Serialize + Drop>(alloc: Global, value: T) -> Result<Value>
+    ensures read { IfOk result
+        (λ v. (log : List Event) × T.writes value (Some []) (Some log) × ReadsDatum log [] (view v)) }
+    ensures refused { IfErr result (λ e. IsRefusal (fault_of e)) }
+{
+    match read(alloc, value) {
+        Ok(value) => Ok(value),
+        Err(error) => Err(refusal(alloc, error)),
+    }
+}
+
+// The same, with whatever error an implementation answers.
+fn read<T: Serialize + Drop>(alloc: Global, value: T) -> Result<Value>
     ensures { IfOk result
         (λ v. (log : List Event) × T.writes value (Some []) (Some log) × ReadsDatum log [] (view v)) }
 {
