@@ -8,6 +8,7 @@ use Rattle.upon_types.specs.declared.error.Error.{Error}
 use Rattle.upon_types.specs.declared.value.Value.{Value}
 use Rattle.upon_render.specs.Environment.{Root, context, value_source, nothing}
 use Rattle.upon_serde.specs.Reads.{ReadsDatum}
+use Rattle.upon_serde.specs.Refusal.{IsRefusal}
 use Rattle.upon_meaning.specs.Alone.{alone_within, includes_left}
 use Rattle.upon_meaning.specs.Engine.{Template, Calls, Resolver, Rendering}
 use Rattle.upon_meaning.specs.Outcome.{Outcome, States, fault_outcome}
@@ -36,9 +37,9 @@ abbrev pub base_of : Result Value Error → Base
 base_of (Ok v) = on_root (context (view v))
 base_of (Err e) = no_value (fault_of e)
 
--- a context that is the value of what was written; or it is none
+-- a context that is the value of what was written; or it is none, and refused as such
 abbrev pub IsContextOf : (Option (List Event) → Option (List Event) → Type 0) → Base → Type 0
 IsContextOf writes (on_root (context v)) = (log : List Event) × writes (Some []) (Some log) × ReadsDatum log [] v
 IsContextOf writes (on_root value_source) = ⊥
 IsContextOf writes (on_root nothing) = ⊥
-IsContextOf writes (no_value f) = Unit {0}
+IsContextOf writes (no_value f) = IsRefusal f
