@@ -77,7 +77,7 @@ impl Error {
         }
     }
 
-    /// The same as [`Error::from_parts`], with a reason that is moved in.
+    /// The same as [`Error::from_parts`], with a reason that is moved in. An error that says its kind alone takes no memory.
     pub fn from_owned_parts(
         alloc: Global,
         kind: ErrorKind,
@@ -92,6 +92,7 @@ impl Error {
             (option_map (λ shown. (shown.0.now, shown.1)) at.entry))
             (fault_of result) }
         ensures kind { KeepsKind kind result }
+        ensures bare { reason ≡ None → at.entry ≡ None → fault_of result ≡ fault_of_kind (kind_of kind) }
     {
         if reason.is_none() && at.is_none() {
             return Error {

@@ -1,6 +1,7 @@
 // Texts that are copied into values.
 ghost use Rattle.std.specs.Cow.{cow_str_bytes};
-ghost use Rattle.std.specs.Prelude.{◌≡◌, IfOk};
+ghost use Rattle.std.specs.Prelude.{◌≡◌, true, IfOk, OnErr};
+ghost use Rattle.upon_types.specs.Cow.{is_borrowed};
 ghost use Rattle.upon_types.specs.Val.{text_val};
 ghost use Rattle.upon_types.specs.View.{view};
 
@@ -19,7 +20,8 @@ impl Value {
     /// A text value that keeps the text where it is owned, else holds a copy of it. It fails where there is no memory
     /// for the copy.
     pub fn from_cow(alloc: Global, text: CowStr) -> Result<Value, AllocError>
-        ensures { IfOk result (λ v. view v ≡ text_val (cow_str_bytes text.entry)) }
+        ensures value { IfOk result (λ v. view v ≡ text_val (cow_str_bytes text.entry)) }
+        ensures copied { OnErr result (is_borrowed text.entry ≡ true) }
     {
         match text {
             CowStr::Borrowed(text) => Value::from_text(alloc, text),
