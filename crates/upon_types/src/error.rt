@@ -77,7 +77,8 @@ impl Error {
         }
     }
 
-    /// The same as [`Error::from_parts`], with a reason that is moved in. An error that says its kind alone takes no memory.
+    /// The same as [`Error::from_parts`], with a reason that is moved in. An error that says its kind alone takes no
+    /// memory.
     pub fn from_owned_parts(
         alloc: Global,
         kind: ErrorKind,
