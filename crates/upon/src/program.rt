@@ -42,8 +42,8 @@ impl From<AllocError> for Failure {
 }
 
 /// Renders `file`, a template under its own name, on the texts of `args`, the words `FILE [KEY=TEXT]..` after the
-/// program's name. The text goes to `out` as it comes, which is flushed at the end. A fault is reported on `err`. The
-/// answer is the program's status.
+/// program's name. The text goes to `out` as it comes, which is flushed at the end, and before a fault is reported on
+/// `err`. The answer is the program's status.
 ///
 /// - 0: rendered.
 /// - 1: a fault of the engine, of memory or of `out`; `err` has its picture, ended by a newline.
@@ -66,6 +66,7 @@ pub fn run<R: io::Read + Drop, O: io::Write, E: io::Write>(
         Ok(()) => return 0,
         Err(failure) => failure,
     };
+    let _ = out.flush();
     let name = match args.first() {
         Some(name) => name.as_str(),
         None => "",

@@ -2,17 +2,23 @@
 #![tactic(auto)]
 
 use std::fs::File;
-use std::io::Write;
+use std::io::{BufWriter, Write};
 use std::process::ExitCode;
 use std::{env, io};
 
 /// The status where the arguments can't be read.
 const UNREADABLE_ARGUMENTS: u8 = 2;
 
+/// How many bytes of output are held until they are written.
+const OUTPUT_BUFFER: usize = 64 * 1024;
+
 fn main(rt: HostRuntime) -> ExitCode {
     let alloc = rt.alloc();
-    let mut out = io::writer(&rt);
     let mut err = rt.stderr();
+    let Ok(mut out) = BufWriter::with_capacity(alloc, OUTPUT_BUFFER, io::writer(&rt)) else {
+        let _ = writeln!(err, "out of memory");
+        return ExitCode::FAILURE;
+    };
     let Ok(words) = env::args(&rt) else {
         let _ = writeln!(
             err,
