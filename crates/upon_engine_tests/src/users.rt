@@ -1,5 +1,5 @@
 // Callers of the engine, by its public clauses alone.
-ghost use Rattle.std.specs.Prelude.{◌≡◌, None};
+ghost use Rattle.std.specs.Prelude.{◌≡◌, None, IfOk, true};
 ghost use Rattle.std.specs.Cow.{cow_str_bytes};
 ghost use Rattle.upon_types.specs.View.{view};
 ghost use Rattle.upon_render.specs.Asked.{never};
@@ -22,6 +22,7 @@ use std::borrow::CowStr;
 use upon_engine::callables::EngineView;
 use upon_engine::engine::Engine;
 use upon_engine::template::Template;
+use upon_engine::theorem::one_table;
 use upon_fmt::output::Output;
 use upon_render::source::ValueSource;
 use upon_types::error::Result;
@@ -103,4 +104,14 @@ pub fn on_source<S: ValueSource, O: Output>(
         .to_output_and_sources(out);
     let _source = values.into_source();
     result
+}
+
+/// Renders a text twice, and returns whether the two texts are the same: they always are.
+pub fn rendered_twice(engine: &Engine<'_>, source: &str, value: &Value) -> Result<bool>
+    ensures { IfOk result (λ same. same ≡ true) }
+{
+    one_table(engine);
+    let first = engine.render_text(source, value)?;
+    let second = engine.render_text(source, value)?;
+    Ok(first == second)
 }

@@ -186,7 +186,7 @@ fn end_of(source: &str, at: usize, text: &str) -> usize
 }
 
 // How many bytes are looked at by marks before the next search for first bytes: after one of them others are often near.
-const WINDOW: usize = 64;
+const WINDOW: usize = 32;
 
 // The next offset from which a delimiter may occur that begins with one of a few bytes; the text's length if there is none.
 fn next_of_few(few: FewBytes, marks: &Marks, source: &str, at: usize) -> usize
