@@ -9,6 +9,7 @@ ghost use Rattle.upon_meaning.specs.DefaultFormat.{default_format};
 ghost use Rattle.upon_fmt.specs.Error.{message_of, error_text};
 ghost use Rattle.upon_fmt.specs.Formatter.{text_of, is_marked, Writes, Formats};
 
+use itoa::Buffer;
 use std::alloc::{AllocError, Global};
 use std::fmt;
 use upon_types::value::Value;
@@ -195,13 +196,8 @@ impl Format for DefaultFormat {
 fn write_number(f: &mut Formatter, number: i64) -> Result
     ensures { Writes f.old f.new result (signed_decimal number) }
 {
-    match format!(in f.alloc; "{number}") {
-        Ok(digits) => f.write_str(digits.as_str()),
-        Err(_) => {
-            f.out_of_memory();
-            Err(Error { message: None })
-        }
-    }
+    let mut digits = Buffer::new();
+    f.write_str(digits.format(number))
 }
 
 // The refusal of a value that has no text.
