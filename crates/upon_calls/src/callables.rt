@@ -1,9 +1,10 @@
 // What programs call: functions and formatters, by their names.
-ghost use Rattle.std.specs.Prelude.{◌≡◌, List, ℕ, Option, Some, option_map};
+ghost use Rattle.std.specs.Prelude.{◌≡◌, List, ℕ, Option, Some, IsTrue, option_map};
 ghost use Rattle.upon_functions.specs.Blames.{BlamesGiven};
 ghost use Rattle.upon_functions.specs.Says.{Says, arguments_view};
 ghost use Rattle.upon_types.specs.Answers.{Callable, Formatter as PureFormatter, Function as PureFunction, formatter, function};
 ghost use Rattle.upon_types.specs.View.{view};
+ghost use Rattle.upon_meaning.specs.DefaultFormat.{default_format};
 ghost use Rattle.upon_fmt.specs.Formatter.{Formats};
 ghost use Rattle.upon_calls.specs.Calls.{sort_of};
 
@@ -41,6 +42,11 @@ pub trait Callables {
     /// Appends what the formatter of this name writes for a value.
     fn format(&self, name: &str, f: &mut Formatter, value: &Value) -> fmt::Result
         ensures { (g : PureFormatter) → callables self.now name.now ≡ Some (formatter g) → Formats f.old f.new result (g (view value.now)) };
+
+    /// Whether the default formatter is the plain one, which writes a text as it is and an integer in decimal. `false`
+    /// says nothing.
+    fn is_plain(&self) -> bool
+        ensures { IsTrue result → default_formatter self.now ≡ default_format };
 
     /// Appends what is written for a value where no formatter is named.
     fn default_format(&self, f: &mut Formatter, value: &Value) -> fmt::Result

@@ -73,6 +73,10 @@ impl Callables for Fixed {
         default(f, value)
     }
 
+    fn is_plain(&self) -> bool {
+        true
+    }
+
     fn default_format(&self, f: &mut Formatter, value: &Value) -> fmt::Result {
         default(f, value)
     }

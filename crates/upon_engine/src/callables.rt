@@ -41,6 +41,10 @@ impl<'r, 'e> Callables for &'r Engine<'e> {
         }
     }
 
+    fn is_plain(&self) -> bool {
+        self.formatter().is_none()
+    }
+
     fn default_format(&self, f: &mut Formatter, value: &Value) -> fmt::Result {
         match self.formatter() {
             Some(formatter) => formatter.format(f, value),
