@@ -1,0 +1,24 @@
+-- No value writes markup.
+use Rattle.std.proofs.Common.{◌≡◌, ℕ, List, [], ◌∷◌, Option, Bool, false, ◌||◌, refl, ap, ◌∙◌}
+use Rattle.upon_render.specs.Environment.{Root}
+use Rattle.upon_meaning.specs.Alone.{alone}
+use Rattle.upon_meaning.specs.DefaultFormat.{default_format}
+use Rattle.upon_meaning.specs.Engine.{Template, Rendering}
+use Rattle.upon_meaning.specs.Outcome.{States}
+use Rattle.upon_woven.specs.Marks.{has, FromRawParts}
+use Rattle.upon_woven.specs.Parts.{IsRawPart}
+use Rattle.upon_woven.proofs.RawMarks.{from_raw_parts}
+use Rattle.upon_woven.proofs.WovenTemplates.{only_woven}
+use Rattle.upon_html.specs.Escape.{escape, is_markup, has_markup}
+use Rattle.upon_html.specs.Page.{EscapesAll}
+use Rattle.upon_html.proofs.EscapeLaws.{no_markup}
+
+has_same : (text : List ℕ) → has is_markup text ≡ has_markup text
+has_same [] = refl
+has_same (b ∷ bs) = ap (λ x. is_markup b || x) (has_same bs)
+
+pub markup_is_raw : {V T : Type 0} (rendering : Rendering V T) (t : Template) (name : Option (List ℕ)) (root : Root) (s : States V T) → EscapesAll rendering.calls rendering.resolve t → FromRawParts (IsRawPart rendering.resolve t) is_markup (alone rendering t name root s).text
+markup_is_raw rendering t name root s h =
+    from_raw_parts is_markup (IsRawPart rendering.resolve t) (alone rendering t name root s).text
+    (only_woven (λ text. has is_markup text ≡ false) rendering t name root s
+    (λ f can v. ap (has is_markup) (h f can v) ∙ (has_same (escape (default_format v).text) ∙ no_markup (default_format v).text)))

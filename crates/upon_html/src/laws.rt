@@ -1,0 +1,41 @@
+// What an escaped text holds, and that nothing is lost.
+ghost use Rattle.std.specs.Prelude.{◌≡◌, ◌≤◌, ◌*◌, ℕ, List, Option, false, length};
+ghost use Rattle.upon_types.specs.Val.{Val};
+ghost use Rattle.upon_render.specs.Environment.{Root};
+ghost use Rattle.upon_meaning.specs.Alone.{alone};
+ghost use Rattle.upon_meaning.specs.Engine.{Template, Rendering};
+ghost use Rattle.upon_meaning.specs.Outcome.{States};
+ghost use Rattle.upon_woven.specs.Marks.{FromRawParts};
+ghost use Rattle.upon_woven.specs.Parts.{IsRawPart};
+ghost use Rattle.upon_html.specs.Escape.{escape, unescape, is_markup, has_markup, AmpersandsRefer};
+ghost use Rattle.upon_html.specs.Page.{EscapesAll};
+ghost use Rattle.upon_html.specs.Escaped.{escaped};
+
+/// What is written for a value holds none of `<`, `>`, `"` and `'`.
+pub fn no_markup()
+    ensures { (v : Val) → has_markup (escaped v).text ≡ false }
+{}
+
+/// Unescaping gives the text again, so that no two texts become one.
+pub fn nothing_lost()
+    ensures again { (text : List ℕ) → unescape (escape text) ≡ text }
+    ensures injective { (a b : List ℕ) → escape a ≡ escape b → a ≡ b }
+{}
+
+/// It is at most six times as long.
+pub fn at_most_six()
+    ensures { (text : List ℕ) → length (escape text) ≤ 6 * length text }
+{}
+
+/// Each `&` in it begins one of the five references.
+pub fn ampersands()
+    ensures { (v : Val) → AmpersandsRefer (escaped v).text }
+{}
+
+/// Where each formatter that can be called escapes, a rendering's text is pieces joined of which the raw parts alone hold `<`, `>`, `"`
+/// and `'`: those of the text are those of the raw parts, in order, whatever the values are.
+pub fn markup_is_raw<V, T>()
+    ensures { (rendering : Rendering V T) (t : Template) (name : Option (List ℕ)) (root : Root) (s : States V T)
+        → EscapesAll rendering.calls rendering.resolve t
+        → FromRawParts (IsRawPart rendering.resolve t) is_markup (alone rendering t name root s).text }
+{}

@@ -1,0 +1,5 @@
+// Formatters for HTML: one that escapes texts, and one that leaves them as they are.
+#![tactic(auto)]
+
+pub mod formatters;
+pub mod laws;
