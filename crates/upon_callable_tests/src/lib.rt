@@ -6,6 +6,8 @@ mod callables;
 #[cfg(test)]
 mod calls;
 #[cfg(test)]
+mod growths;
+#[cfg(test)]
 mod memory;
 #[cfg(test)]
 mod writers;
