@@ -150,3 +150,37 @@ fn refused_texts(rt: HostRuntime) -> std::result::Result<(), Fail> {
     ];
     all_answer(alloc, &Engine::new(alloc), &Value::None, &rows)
 }
+
+// The same sources on contexts of their own.
+#[test]
+fn contexts_of_few_names(rt: HostRuntime) -> std::result::Result<(), Fail> {
+    let alloc = rt.alloc();
+    let engine = Engine::new(alloc);
+    let list = [
+        (
+            "{{ a.5 }}",
+            "render error: index out of bounds, the length is 1 at 4..6",
+        ),
+        (
+            "{{ a }}",
+            "format error: expression evaluated to unformattable type list at 3..4",
+        ),
+        ("{{ ?.b }}", ""),
+        (
+            "{{ -0b2 }}",
+            "invalid syntax: invalid digit for base 2 literal at 6..7",
+        ),
+        ("{{ 1.5 }}", "invalid syntax: invalid float literal at 3..6"),
+        ("{{\n", "invalid syntax: expected token, found EOF at 3..3"),
+    ];
+    all_answer(alloc, &engine, &value! { in alloc; a: [1] }?, &list)?;
+    let welcome = [(
+        "Hello,\n  {%- if a %} and welcome, {% endif -%}\n  {{ name }}!",
+        "Hello, and welcome, John!",
+    )];
+    let context = value! { in alloc; a: true, name: "John" }?;
+    all_answer(alloc, &engine, &context, &welcome)?;
+    let one = [("{{ a }}", "1")];
+    all_answer(alloc, &engine, &value! { in alloc; a: 1, b: 2 }?, &one)?;
+    all_answer(alloc, &engine, &value! { in alloc; a: 1, c: 3 }?, &one)
+}

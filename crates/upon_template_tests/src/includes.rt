@@ -111,6 +111,11 @@ fn depths(rt: HostRuntime) -> std::result::Result<(), Fail> {
             (0, "x", "render error: reached maximum include depth (0)"),
             (1, "x", "render error: reached maximum include depth (1)"),
             (3, "xxx", "render error: reached maximum include depth (3)"),
+            (
+                64,
+                "xxxxxxxxxxxxxxxxxxxxxxxxxxxxxxxxxxxxxxxxxxxxxxxxxxxxxxxxxxxxxxxx",
+                "render error: reached maximum include depth (64)",
+            ),
         ] {
             at_depth(&rt, alloc, &mut engine, depth, received, wanted)?;
         }
@@ -139,6 +144,67 @@ fn depth_comes_after_the_name(rt: HostRuntime) -> std::result::Result<(), Fail> 
     engine.set_max_include_depth(1);
     let wanted = "render error: unknown template at 11..15 in r";
     assert_eq!(&rt; named(alloc, &engine, "r")?.as_str(), wanted);
+    Ok(())
+}
+
+// A `with` of the include comes before the name, and the name before the depth.
+#[test]
+fn depth_comes_last(rt: HostRuntime) -> std::result::Result<(), Fail> {
+    let alloc = rt.alloc();
+    let mut engine = Engine::new(alloc);
+    engine.set_max_include_depth(1);
+    let rows = [
+        (
+            "{% include \"zz\" %}",
+            "render error: unknown template at 11..15",
+        ),
+        (
+            "{% include \"zz\" with y %}",
+            "render error: not found in this scope at 21..22",
+        ),
+    ];
+    all_answer(alloc, &engine, &Value::None, &rows)
+}
+
+// A template that is included sees its own scope, and its depth is given back.
+#[test]
+fn isolation(rt: HostRuntime) -> std::result::Result<(), Fail> {
+    let alloc = rt.alloc();
+    let templates = [
+        ("t", "a"),
+        ("u", "{% include \"zz\" %}"),
+        ("l", "{{ loop.index }}"),
+    ];
+    let mut engine = engine(alloc, &templates)?;
+    engine.set_max_include_depth(2);
+    let rows = [
+        ("{% include \"t\" %}{% include \"t\" %}", "aa"),
+        (
+            "{% include \"u\" %}",
+            "render error: unknown template at 11..15 in u",
+        ),
+        (
+            "{% for x in [1] %}{% include \"l\" with 5 %}{% endfor %}",
+            "render error: not found in this scope at 3..7 in l",
+        ),
+    ];
+    all_answer(alloc, &engine, &Value::None, &rows)
+}
+
+#[test]
+fn templates_that_include_others(rt: HostRuntime) -> std::result::Result<(), Fail> {
+    let alloc = rt.alloc();
+    let templates = [("a", "a{% include \"b\" %}"), ("b", "b{% include \"a\" %}")];
+    let mut engine = engine(alloc, &templates)?;
+    engine.set_max_include_depth(3);
+    let wanted = "render error: reached maximum include depth (3)";
+    assert_eq!(&rt; writes(&rt, alloc, &engine, "a", "aba")?.as_str(), wanted);
+    for (name, source) in [("b", "b{% include \"c\" %}"), ("c", "c"), ("z", "z")] {
+        engine.add_template(CowStr::Borrowed(name), CowStr::Borrowed(source))?;
+        if name != "b" {
+            assert_eq!(&rt; named(alloc, &engine, "a")?.as_str(), "abc");
+        }
+    }
     Ok(())
 }
 
