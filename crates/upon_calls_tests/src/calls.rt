@@ -169,3 +169,32 @@ fn values_that_are_shown(rt: HostRuntime) -> Result<(), Fail> {
     }
     Ok(())
 }
+
+// What is shown of a value where no formatter is named.
+fn shown_alone(alloc: Global, fixed: Fixed, value: &Value) -> Result<String, AllocError> {
+    let mut text = String::new(alloc);
+    match emit_value(alloc, &fixed, value, ARGUMENT, &mut text) {
+        Ok(()) => Ok(text),
+        Err(halt) => reported(alloc, halt),
+    }
+}
+
+#[test]
+fn texts_and_integers_as_they_are(rt: HostRuntime) -> Result<(), Fail> {
+    let alloc = rt.alloc();
+    let cases = [
+        (Value::Integer(0), "0"),
+        (Value::Integer(-1), "-1"),
+        (Value::Integer(i64::MAX), "9223372036854775807"),
+        (Value::Integer(i64::MIN), "-9223372036854775808"),
+        (Value::from_text(alloc, "")?, ""),
+        (Value::from_text(alloc, "Zoë & <b>")?, "Zoë & <b>"),
+    ];
+    for (value, wanted) in &cases {
+        let straight = shown_alone(alloc, Fixed::Nothing, value)?;
+        is(&rt, straight.as_str(), wanted);
+        let formatted = shown_alone(alloc, Fixed::Formats, value)?;
+        is(&rt, formatted.as_str(), wanted);
+    }
+    Ok(())
+}

@@ -73,8 +73,12 @@ impl Callables for Fixed {
         default(f, value)
     }
 
+    // Where all names are formatters, the default one is asked too.
     fn is_plain(&self) -> bool {
-        true
+        match self {
+            Fixed::Formats => false,
+            _ => true,
+        }
     }
 
     fn default_format(&self, f: &mut Formatter, value: &Value) -> fmt::Result {
