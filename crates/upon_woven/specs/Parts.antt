@@ -12,7 +12,7 @@ use Rattle.upon_meaning.specs.Includes.{Includes}
 
 -- a raw part of the tree is at this span
 abbrev mutual
-  -- a raw part of a statement is
+  -- a raw part of a statement is at this span
   pub StatementHasRaw : Span → Statement → Type 0
   StatementHasRaw at (raw span) = span ≡ at
   StatementHasRaw at (inline_expr e span) = ⊥
@@ -21,24 +21,24 @@ abbrev mutual
   StatementHasRaw at (for_loop names e body other) = HasRaw at body ⊎ ElseHasRaw at other
   StatementHasRaw at (with e word body) = HasRaw at body
 
-  -- one of statements is
+  -- a raw part of statements is at this span
   pub HasRaw : Span → Statements → Type 0
   HasRaw at no_statements = ⊥
   HasRaw at (statement_then t ts) = StatementHasRaw at t ⊎ HasRaw at ts
 
-  -- one of the other branch of an `if` or a `for` is
+  -- a raw part of the other branch of an `if` or a `for` is at this span
   pub ElseHasRaw : Span → Else → Type 0
   ElseHasRaw at no_else = ⊥
   ElseHasRaw at (otherwise body) = HasRaw at body
 
 -- what the expression gives is written by the formatter of this name, if the name is a formatter's
 abbrev mutual
-  -- what an expression gives
+  -- what an expression gives is written by the formatter of this name, if the name is a formatter's
   pub WritesBy : List ℕ → Expression → Type 0
   WritesBy name (base b) = BaseWritesBy name b
   WritesBy name (filtered receiver word args span) = word.text ≡ name
 
-  -- what a base expression gives
+  -- the same of an expression without a filter
   pub BaseWritesBy : List ℕ → Base → Type 0
   BaseWritesBy name (paren e span) = WritesBy name e
   BaseWritesBy name (call word args span) = word.text ≡ name
@@ -49,7 +49,7 @@ abbrev mutual
 
 -- a tag of the tree names this as its formatter
 abbrev mutual
-  -- a tag of a statement does
+  -- a tag of a statement names this as its formatter
   pub StatementNames : List ℕ → Statement → Type 0
   StatementNames name (raw span) = ⊥
   StatementNames name (inline_expr e span) = WritesBy name e
@@ -58,12 +58,12 @@ abbrev mutual
   StatementNames name (for_loop names e body other) = NamesFormatter name body ⊎ ElseNames name other
   StatementNames name (with e word body) = NamesFormatter name body
 
-  -- one of statements does
+  -- a tag of statements does
   pub NamesFormatter : List ℕ → Statements → Type 0
   NamesFormatter name no_statements = ⊥
   NamesFormatter name (statement_then t ts) = StatementNames name t ⊎ NamesFormatter name ts
 
-  -- one of the other branch of an `if` or a `for` does
+  -- a tag of the other branch of an `if` or a `for` does
   pub ElseNames : List ℕ → Else → Type 0
   ElseNames name no_else = ⊥
   ElseNames name (otherwise body) = NamesFormatter name body
