@@ -1,0 +1,29 @@
+// Callers of an engine whose formatters escape, by the public clauses alone.
+ghost use Rattle.upon_types.specs.Tree.{Statements};
+ghost use Rattle.upon_language.specs.Grammar.{HasTree};
+ghost use Rattle.upon_meaning.specs.Engine.{Table};
+ghost use Rattle.upon_engine.specs.Theorem.{IsTable};
+ghost use Rattle.upon_html_tests.specs.Pages.{CallsEscape, OnlyEscapes, MarkupIsRaw};
+
+use upon_engine::engine::Engine;
+use upon_engine::texts::EngineTexts;
+use upon_types::error::Result;
+use upon_types::value::Value;
+
+/// The text of a page on a value. If each formatter that the page can call escapes, its markup is that of raw parts.
+pub fn page(engine: &Engine<'_>, source: &str, value: &Value) -> Result<String>
+    ensures { let texts = ⟦<&'static Engine<'static> as EngineTexts>⟧.texts engine.entry in
+        (tree : Statements) (table : Table) → HasTree texts.syntax source.now tree → IsTable texts.texts table
+        → CallsEscape texts table source.now tree → MarkupIsRaw table source.now tree result }
+{
+    engine.render_text(source, value)
+}
+
+/// The same, if the engine's formatters are the escaping one alone.
+pub fn escaped_page(engine: &Engine<'_>, source: &str, value: &Value) -> Result<String>
+    ensures { let texts = ⟦<&'static Engine<'static> as EngineTexts>⟧.texts engine.entry in
+        (tree : Statements) (table : Table) → HasTree texts.syntax source.now tree → IsTable texts.texts table
+        → OnlyEscapes texts → MarkupIsRaw table source.now tree result }
+{
+    page(engine, source, value)
+}
