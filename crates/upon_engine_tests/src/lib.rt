@@ -7,6 +7,4 @@ mod contexts;
 mod profile;
 #[cfg(test)]
 mod sources;
-#[cfg(test)]
-mod theorem;
 pub mod users;

@@ -1,6 +1,4 @@
-// Callers of an engine whose formatters escape, and tests of escaping.
+// Callers of an engine whose formatters escape.
 #![tactic(auto)]
 
-#[cfg(test)]
-mod escaping;
 pub mod pages;
