@@ -4,7 +4,7 @@ use Rattle.std.specs.Int.{w64, int_wrapping_add}
 use Rattle.upon_functions.specs.Outcome.{Outcome, value, refusal}
 use Rattle.upon_types.specs.Answers.{Formatted, refused}
 use Rattle.upon_types.specs.Val.{Val, int_val, list_val, no_vals, none_val}
-use Rattle.upon_meaning.specs.DefaultFormat.{default_format}
+use Rattle.upon_meaning_spec.specs.DefaultFormat.{default_format}
 
 -- the sum of two integers of 64 bits, which wraps
 abbrev pub wrapped : ℤ → ℤ → Outcome

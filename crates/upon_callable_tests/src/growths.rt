@@ -227,7 +227,7 @@ fn refused_additions(rt: HostRuntime) -> std::result::Result<(), Fail> {
 struct Swallows;
 
 impl Format for Swallows {
-    ghost use Rattle.upon_meaning.specs.DefaultFormat.{default_format};
+    ghost use Rattle.upon_meaning_spec.specs.DefaultFormat.{default_format};
 
     ghost formats = { λ _. default_format };
 

@@ -5,8 +5,8 @@ use Rattle.std.proofs.Math.Seq.{set-append_seam}
 use Rattle.upon_types.specs.declared.types.Span.{Span}
 use Rattle.upon_types.specs.Path.{Ident, LoopVars}
 use Rattle.upon_types.specs.Tree.{Statement, Statements, statement_then, no_else, otherwise}
-use Rattle.upon_machine.specs.Instr.{Instr, jump, loop_start, loop_else, loop_next, with_start, with_end}
-use Rattle.upon_machine.specs.Code.{statement_code, statements_code, jump_unless, if_code, turns, for_code, with_code}
+use Rattle.upon_machine_spec.specs.Instr.{Instr, jump, loop_start, loop_else, loop_next, with_start, with_end}
+use Rattle.upon_machine_spec.specs.Code.{statement_code, statements_code, jump_unless, if_code, turns, for_code, with_code}
 
 -- what comes after the instructions of a value
 pub after_value : (base value code all : List Instr) (rest : ℕ → List Instr) → code ≡ base ++ value → all ≡ code ++ rest (length code)

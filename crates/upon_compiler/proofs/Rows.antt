@@ -13,8 +13,8 @@ use Rattle.upon_types.specs.declared.types.ast.Stmt.TheViews.{out-ForLoop, out-I
 use Rattle.upon_types.specs.declared.types.ast.expression.Args.{Args}
 use Rattle.upon_types.specs.declared.types.ast.expression.BaseExpr.{BaseExpr}
 use Rattle.upon_types.specs.declared.types.ast.expression.BaseExpr.TheViews.{out-Args}
-use Rattle.upon_machine.specs.Code.{count_bases}
-use Rattle.upon_machine.specs.Instr.{Instr}
+use Rattle.upon_machine_spec.specs.Code.{count_bases}
+use Rattle.upon_machine_spec.specs.Instr.{Instr}
 
 -- there are as many values as expressions
 pub count_bases-of : (bs : List BaseExpr) → count_bases (bases_of bs) ≡ length bs

@@ -2,8 +2,8 @@
 use Rattle.std.specs.Prelude.{◌≡◌, List, [], ◌∷◌, ◌++◌}
 use Rattle.upon_types.specs.AstPath.{ident_of}
 use Rattle.upon_types.specs.Expression.{Expression, Base}
-use Rattle.upon_machine.specs.Code.{expression_code, emission_code, base_code, base_emission_code}
-use Rattle.upon_machine.specs.Instr.{Instr, apply, emit_with}
+use Rattle.upon_machine_spec.specs.Code.{expression_code, emission_code, base_code, base_emission_code}
+use Rattle.upon_machine_spec.specs.Instr.{Instr, apply, emit_with}
 use Rattle.upon_compiler.specs.declared.compile.expression.Application.{Application}
 
 -- applied or emitted, this makes the instructions of the expression out of what has been appended

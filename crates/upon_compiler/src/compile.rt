@@ -1,6 +1,6 @@
 // The compiler: it appends the instructions of a tree, part by part.
 ghost use Rattle.std.specs.Prelude.{◌≡◌, ◌++◌, [], ◌∷◌, IfOk, OnOk, length, slice_set, ◌<◌};
-ghost use Rattle.upon_machine.specs.Code.{statements_code};
+ghost use Rattle.upon_machine_spec.specs.Code.{statements_code};
 ghost use Rattle.upon_types.specs.Ast.{tree_of};
 ghost use Rattle.upon_instructions.specs.Program.{instr_of, program_view};
 

@@ -2,18 +2,18 @@
 use Rattle.std.proofs.Common.{◌≡◌, ◌≢◌, ◌≤◌, ◌<◌, ℕ, List, refl, sym, ap, ◌∙◌, subst}
 use Rattle.upon_types.specs.Val.{map_val}
 use Rattle.upon_render.specs.Environment.{context}
-use Rattle.upon_meaning.specs.Alone.{includes_left}
-use Rattle.upon_meaning.specs.Engine.{Table, Resolver, from_table}
-use Rattle.upon_meaning.specs.GreaterDepth.{GoesOn}
-use Rattle.upon_meaning.specs.Includes.{Reaches, IsNumbered}
-use Rattle.upon_meaning.specs.Names.{AgreeOn}
-use Rattle.upon_meaning.specs.Outcome.{fails, too_deep}
-use Rattle.upon_meaning.proofs.DeeperMeaning.{greater_depth}
-use Rattle.upon_meaning.proofs.IncludedAlone.{included_of_depth}
-use Rattle.upon_meaning.proofs.NamesRead.{names_read, templates_reached}
-use Rattle.upon_meaning.proofs.NotTooDeep.{is_not_too_deep}
-use Rattle.upon_meaning.proofs.NumberedDepth.{numbered_over_table}
-use Rattle.upon_meaning.proofs.UnaskedMeaning.{values_stay}
+use Rattle.upon_meaning_spec.specs.Alone.{includes_left}
+use Rattle.upon_meaning_spec.specs.Engine.{Table, Resolver, from_table}
+use Rattle.upon_meaning_spec.specs.GreaterDepth.{GoesOn}
+use Rattle.upon_meaning_spec.specs.Includes.{Reaches, IsNumbered}
+use Rattle.upon_meaning_spec.specs.Names.{AgreeOn}
+use Rattle.upon_meaning_spec.specs.Outcome.{fails, too_deep}
+use Rattle.upon_meaning_spec.proofs.DeeperMeaning.{greater_depth}
+use Rattle.upon_meaning_spec.proofs.IncludedAlone.{included_of_depth}
+use Rattle.upon_meaning_spec.proofs.NamesRead.{names_read, templates_reached}
+use Rattle.upon_meaning_spec.proofs.NotTooDeep.{is_not_too_deep}
+use Rattle.upon_meaning_spec.proofs.NumberedDepth.{numbered_over_table}
+use Rattle.upon_meaning_spec.proofs.UnaskedMeaning.{values_stay}
 use Rattle.upon_engine.specs.Base.{Base, on_root, no_value}
 use Rattle.upon_engine.specs.Calls.{Call, outcome, at_depth, answered_by, on_base}
 use Rattle.upon_engine.specs.Kept.{DepthsAgree, NumbersSuffice, IncludesAlone, NamesSuffice, TemplatesSuffice, SourceStays, Kept}

@@ -4,10 +4,10 @@ use Rattle.upon_types.specs.Error.{fault_of}
 use Rattle.upon_types.specs.Fault.{syntax}
 use Rattle.upon_types.specs.Tree.{Statements}
 use Rattle.upon_types.specs.declared.error.Error.{Error}
-use Rattle.upon_language.specs.Grammar.{HasTree}
-use Rattle.upon_language.specs.Search.{DelimiterText}
-use Rattle.upon_before.specs.Now.{statements_now}
-use Rattle.upon_before.proofs.TreeKept.{tree_kept}
+use Rattle.upon_language_spec.specs.Grammar.{HasTree}
+use Rattle.upon_language_spec.specs.Search.{DelimiterText}
+use Rattle.upon_before_spec.specs.Now.{statements_now}
+use Rattle.upon_before_spec.proofs.TreeKept.{tree_kept}
 use Rattle.upon_engine.specs.Before.{KeepsOldTree, HadNoTree}
 use Rattle.upon_engine.specs.Template.{template_tree}
 use Rattle.upon_engine.specs.declared.template.Template.{Template}

@@ -7,8 +7,8 @@ use Rattle.upon_types.specs.Val.{Val}
 use Rattle.upon_render.specs.Asked.{never}
 use Rattle.upon_render.specs.Environment.{context, value_source}
 use Rattle.upon_render.specs.Source.{Source}
-use Rattle.upon_meaning.specs.Engine.{Template, Resolver, calls_of, from_table}
-use Rattle.upon_meaning.specs.Outcome.{Outcome, States, states}
+use Rattle.upon_meaning_spec.specs.Engine.{Template, Resolver, calls_of, from_table}
+use Rattle.upon_meaning_spec.specs.Outcome.{Outcome, States, states}
 use Rattle.upon_engine.specs.Base.{Base, on_root, outcome_over}
 use Rattle.upon_engine.specs.Calls.{engine_in, values_in, templates_in, template_in, name_in, limit_in}
 use Rattle.upon_engine.specs.Engine.{engine_of}

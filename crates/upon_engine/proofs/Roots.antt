@@ -7,14 +7,14 @@ use Rattle.upon_render.specs.Roots.{pure_root}
 use Rattle.upon_render.specs.Source.{Source as Asking}
 use Rattle.upon_render.specs.declared.stack.Root.{Root}
 use Rattle.upon_render.specs.declared.stack.Root.TheVariants.{Value, Source}
-use Rattle.upon_meaning.specs.Alone.{alone_within}
-use Rattle.upon_meaning.specs.Engine.{Calls, Resolver, Template}
-use Rattle.upon_meaning.specs.Outcome.{states}
-use Rattle.upon_renderer.specs.Keeps.{SourceHas}
-use Rattle.upon_renderer.specs.Machine.{source_state}
-use Rattle.upon_renderer.specs.Runs.{Ran}
-use Rattle.upon_renderer.specs.declared.failure.Failure.{Failure}
-use Rattle.upon_renderer.specs.declared.run.Ending.{Ending}
+use Rattle.upon_meaning_spec.specs.Alone.{alone_within}
+use Rattle.upon_meaning_spec.specs.Engine.{Calls, Resolver, Template}
+use Rattle.upon_meaning_spec.specs.Outcome.{states}
+use Rattle.upon_vm.specs.Keeps.{SourceHas}
+use Rattle.upon_vm.specs.Machine.{source_state}
+use Rattle.upon_vm.specs.Runs.{Ran}
+use Rattle.upon_vm.specs.declared.failure.Failure.{Failure}
+use Rattle.upon_vm.specs.declared.run.Ending.{Ending}
 
 module _ {V Q P : Type 0} (ask_of : V → Asking Q) (state_of : V → Q) (result : Result Ending Failure) (old new : Option (List ℕ))
     (calls : Asking Q → Calls Q) (resolve : Resolver P) (left : ℕ) (t : Template) (name : Option (List ℕ)) (templates next : P) where

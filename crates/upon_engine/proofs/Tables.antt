@@ -12,17 +12,17 @@ use Rattle.upon_types.specs.Tree.{Statements}
 use Rattle.upon_types.specs.Val.{Val}
 use Rattle.upon_types.specs.declared.error.Error.{Error}
 use Rattle.upon_types.proofs.Sets.{Statements-one_path}
-use Rattle.upon_language.specs.Grammar.{HasTree}
-use Rattle.upon_language.specs.Search.{DelimiterText}
+use Rattle.upon_language_spec.specs.Grammar.{HasTree}
+use Rattle.upon_language_spec.specs.Search.{DelimiterText}
 use Rattle.upon_render.specs.Environment.{context}
-use Rattle.upon_meaning.specs.Alone.{alone}
-use Rattle.upon_meaning.specs.Engine.{Table, Template}
-use Rattle.upon_meaning.specs.Outcome.{states}
+use Rattle.upon_meaning_spec.specs.Alone.{alone}
+use Rattle.upon_meaning_spec.specs.Engine.{Table, Template}
+use Rattle.upon_meaning_spec.specs.Outcome.{states}
 use Rattle.std.proofs.KnownBytes.{Appends-nil}
 use Rattle.upon_fmt.specs.Given.{Part}
-use Rattle.upon_renderer.specs.Reports.{Writes}
+use Rattle.upon_vm.specs.Reports.{Writes}
 use Rattle.upon_syntax.specs.TagReading.{IsSyntaxError}
-use Rattle.upon_compiled.proofs.CompiledTree.{only, had_tree}
+use Rattle.upon_compiled_spec.proofs.CompiledTree.{only, had_tree}
 use Rattle.upon_engine.specs.Answers.{AnswersText}
 use Rattle.upon_engine.specs.Engine.{engine_of}
 use Rattle.upon_engine.specs.Template.{template_of, template_source, template_syntax, template_tree}

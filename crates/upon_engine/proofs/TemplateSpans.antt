@@ -3,9 +3,9 @@ use Rattle.std.proofs.Common.{◌≡◌, ℕ, List, subst}
 use Rattle.upon_types.specs.TreeSpans.{TreeLiesIn}
 use Rattle.upon_render.specs.Finding.{Reply}
 use Rattle.upon_render.specs.Source.{SourceAnswer, says, refuses}
-use Rattle.upon_meaning.specs.Engine.{Template as Meant}
-use Rattle.upon_meaning.specs.RenderFaults.{TemplatesLie}
-use Rattle.upon_compiled.proofs.CompiledTree.{spans}
+use Rattle.upon_meaning_spec.specs.Engine.{Template as Meant}
+use Rattle.upon_meaning_spec.specs.RenderFaults.{TemplatesLie}
+use Rattle.upon_compiled_spec.proofs.CompiledTree.{spans}
 use Rattle.upon_engine.specs.HandsOn.{shown_answer, hands_on}
 use Rattle.upon_engine.specs.Template.{template_source, template_syntax, template_tree, template_of}
 use Rattle.upon_engine.specs.declared.template.Template.{Template}

@@ -4,8 +4,8 @@ use Rattle.std.specs.declared.alloc.Global.{Global}
 use Rattle.upon_types.specs.Error.{fault_of}
 use Rattle.upon_types.specs.Fault.{out_of_memory}
 use Rattle.upon_types.specs.declared.error.Error.{Error}
-use Rattle.upon_meaning.specs.Alone.{fault_of_end}
-use Rattle.upon_meaning.specs.Outcome.{good, Outcome}
+use Rattle.upon_meaning_spec.specs.Alone.{fault_of_end}
+use Rattle.upon_meaning_spec.specs.Outcome.{good, Outcome}
 
 -- the text of a meaning that ends well; or the fault of its end, or out of memory
 abbrev pub AnswersText : {Q : Type 0} → ℕ → Outcome Q → Result (String Global) Error → Type 0

@@ -9,9 +9,9 @@ use Rattle.upon_types.specs.declared.value.Value.{Value}
 use Rattle.upon_render.specs.Environment.{Root, context, value_source, nothing}
 use Rattle.upon_serde.specs.Reads.{ReadsDatum}
 use Rattle.upon_serde.specs.Refusal.{IsRefusal}
-use Rattle.upon_meaning.specs.Alone.{alone_within, includes_left}
-use Rattle.upon_meaning.specs.Engine.{Template, Calls, Resolver, Rendering}
-use Rattle.upon_meaning.specs.Outcome.{Outcome, States, fault_outcome}
+use Rattle.upon_meaning_spec.specs.Alone.{alone_within, includes_left}
+use Rattle.upon_meaning_spec.specs.Engine.{Template, Calls, Resolver, Rendering}
+use Rattle.upon_meaning_spec.specs.Outcome.{Outcome, States, fault_outcome}
 
 -- what lies under the bindings; or the fault of a context that is no value
 pub data Base : Type 0 where

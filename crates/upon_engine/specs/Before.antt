@@ -1,11 +1,11 @@
 -- What the calls that make a template keep of the language before `for .. else`.
 use Rattle.std.specs.Prelude.{◌≡◌, ℕ, List, Option, Some, None}
 use Rattle.upon_types.specs.Tree.{Statements}
-use Rattle.upon_language.specs.Search.{DelimiterText}
-use Rattle.upon_meaning.specs.Engine.{Template}
-use Rattle.upon_before.specs.Grammar.{HasTree as HadTree}
-use Rattle.upon_before.specs.Now.{statements_now}
-use Rattle.upon_before.specs.Tree.{Statements as StatementsBefore}
+use Rattle.upon_language_spec.specs.Search.{DelimiterText}
+use Rattle.upon_meaning_spec.specs.Engine.{Template}
+use Rattle.upon_before_spec.specs.Grammar.{HasTree as HadTree}
+use Rattle.upon_before_spec.specs.Now.{statements_now}
+use Rattle.upon_before_spec.specs.Tree.{Statements as StatementsBefore}
 
 -- where the text had a tree, this is that tree
 abbrev pub KeepsOldTree : List DelimiterText → List ℕ → Statements → Type 0

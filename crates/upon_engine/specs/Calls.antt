@@ -2,8 +2,8 @@
 use Rattle.std.specs.Prelude.{ℕ, List, Option, option_map}
 use Rattle.upon_types.specs.Answers.{Callable, Formatter}
 use Rattle.upon_render.specs.Source.{Source}
-use Rattle.upon_meaning.specs.Engine.{Template, Resolver, Rendering}
-use Rattle.upon_meaning.specs.Outcome.{Outcome, States, states}
+use Rattle.upon_meaning_spec.specs.Engine.{Template, Resolver, Rendering}
+use Rattle.upon_meaning_spec.specs.Outcome.{Outcome, States, states}
 use Rattle.upon_engine.specs.Base.{Base, outcome_over}
 use Rattle.upon_engine.specs.Template.{template_of}
 use Rattle.upon_engine.specs.declared.renderer.Renderer.{Renderer}

@@ -6,10 +6,10 @@ use Rattle.std.specs.declared.alloc.Global.{Global}
 use Rattle.std.specs.declared.dyn_box.DynBox.{DynBox}
 use Rattle.upon_types.specs.Answers.{Formatter, Function}
 use Rattle.upon_types.specs.Tree.{Statements}
-use Rattle.upon_language.specs.Grammar.{HasTree}
-use Rattle.upon_language.specs.Search.{DelimiterText}
+use Rattle.upon_language_spec.specs.Grammar.{HasTree}
+use Rattle.upon_language_spec.specs.Search.{DelimiterText}
 use Rattle.upon_lexer.specs.Searcher.{searcher_delimiters}
-use Rattle.upon_meaning.specs.Engine.{Engine, Template}
+use Rattle.upon_meaning_spec.specs.Engine.{Engine, Template}
 use Rattle.upon_engine.specs.Callables.{callable_of}
 use Rattle.upon_engine.specs.Template.{template_of}
 use Rattle.upon_engine.specs.declared.engine.Engine.{Engine as Held}

@@ -4,8 +4,8 @@ use Rattle.upon_types.specs.Error.{fault_of}
 use Rattle.upon_types.specs.Fault.{syntax, out_of_memory, bare_fault, fault_with_name, fault_with_picture}
 use Rattle.upon_types.specs.declared.error.Error.{Error}
 use Rattle.upon_types.specs.declared.types.Span.{Span}
-use Rattle.upon_language.specs.FirstFault.{IsFirstFault}
-use Rattle.upon_language.specs.Search.{DelimiterText}
+use Rattle.upon_language_spec.specs.FirstFault.{IsFirstFault}
+use Rattle.upon_language_spec.specs.Search.{DelimiterText}
 
 -- an error reports the text's first fault, with its picture, in the template of a name; or that there was no memory
 abbrev pub IsSyntaxErrorOf : List ℕ → List DelimiterText → List ℕ → Error → Type 0

@@ -2,7 +2,7 @@
 use Rattle.std.specs.Prelude.{ℕ, List}
 use Rattle.upon_render.specs.Finding.{Reply, reply}
 use Rattle.upon_render.specs.Source.{SourceAnswer, says, refuses}
-use Rattle.upon_meaning.specs.Engine.{Resolver}
+use Rattle.upon_meaning_spec.specs.Engine.{Resolver}
 use Rattle.upon_engine.specs.Template.{template_of}
 use Rattle.upon_engine.specs.declared.template.Template.{Template as Held}
 

@@ -6,14 +6,14 @@ use Rattle.upon_types.specs.Path.{Ident}
 use Rattle.upon_types.specs.Tree.{include}
 use Rattle.upon_types.specs.Val.{Val, Entries, map_val, entry_at}
 use Rattle.upon_render.specs.Environment.{Environment, context}
-use Rattle.upon_meaning.specs.Alone.{included, alone}
-use Rattle.upon_meaning.specs.Engine.{Template, Table, from_table}
-use Rattle.upon_meaning.specs.GreaterDepth.{GoesOn}
-use Rattle.upon_meaning.specs.IncludeFinds.{IncludeFinds}
-use Rattle.upon_meaning.specs.Includes.{Reaches, IsNumbered}
-use Rattle.upon_meaning.specs.Meaning.{RunningTemplate, statement_means}
-use Rattle.upon_meaning.specs.Names.{Reads, AgreeOn}
-use Rattle.upon_meaning.specs.Outcome.{States, too_deep}
+use Rattle.upon_meaning_spec.specs.Alone.{included, alone}
+use Rattle.upon_meaning_spec.specs.Engine.{Template, Table, from_table}
+use Rattle.upon_meaning_spec.specs.GreaterDepth.{GoesOn}
+use Rattle.upon_meaning_spec.specs.IncludeFinds.{IncludeFinds}
+use Rattle.upon_meaning_spec.specs.Includes.{Reaches, IsNumbered}
+use Rattle.upon_meaning_spec.specs.Meaning.{RunningTemplate, statement_means}
+use Rattle.upon_meaning_spec.specs.Names.{Reads, AgreeOn}
+use Rattle.upon_meaning_spec.specs.Outcome.{States, too_deep}
 use Rattle.upon_engine.specs.Base.{on_root}
 use Rattle.upon_engine.specs.Calls.{Call, outcome, at_depth, on_base, answered_by}
 

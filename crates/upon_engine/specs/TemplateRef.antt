@@ -1,6 +1,6 @@
 -- What a template of an engine denotes.
 use Rattle.std.specs.Prelude.{ℕ, List}
-use Rattle.upon_meaning.specs.Engine.{Template}
+use Rattle.upon_meaning_spec.specs.Engine.{Template}
 use Rattle.upon_engine.specs.Template.{template_of}
 use Rattle.upon_engine.specs.declared.engine.Engine.{Engine as Held}
 use Rattle.upon_engine.specs.declared.template_ref.TemplateRef.{TemplateRef}

@@ -5,7 +5,7 @@ use Rattle.std.specs.Cow.{cow_str_bytes}
 use Rattle.std.specs.declared.alloc.Global.{Global}
 use Rattle.std.specs.declared.dyn_box.DynBox.{DynBox}
 use Rattle.upon_types.specs.Answers.{Callable, Formatter, Function}
-use Rattle.upon_language.specs.Search.{DelimiterText}
+use Rattle.upon_language_spec.specs.Search.{DelimiterText}
 use Rattle.upon_lexer.specs.Searcher.{searcher_delimiters}
 use Rattle.upon_lexer.specs.Syntax.{syntax_delimiters}
 use Rattle.upon_engine.specs.Callables.{callable_of}

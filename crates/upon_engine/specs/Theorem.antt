@@ -4,14 +4,14 @@ use Rattle.std.specs.declared.alloc.Global.{Global}
 use Rattle.upon_types.specs.Tree.{Statements}
 use Rattle.upon_types.specs.Val.{Val}
 use Rattle.upon_types.specs.declared.error.Error.{Error}
-use Rattle.upon_language.specs.Grammar.{HasTree}
+use Rattle.upon_language_spec.specs.Grammar.{HasTree}
 use Rattle.upon_render.specs.Asked.{never}
 use Rattle.upon_render.specs.Environment.{context}
-use Rattle.upon_meaning.specs.Alone.{alone}
-use Rattle.upon_meaning.specs.DefaultFormat.{formatter_or_default}
-use Rattle.upon_meaning.specs.Engine.{Table, Template, Rendering, from_table}
-use Rattle.upon_meaning.specs.Outcome.{Outcome, States, states}
-use Rattle.upon_renderer.specs.Reports.{Writes}
+use Rattle.upon_meaning_spec.specs.Alone.{alone}
+use Rattle.upon_meaning_spec.specs.DefaultFormat.{formatter_or_default}
+use Rattle.upon_meaning_spec.specs.Engine.{Table, Template, Rendering, from_table}
+use Rattle.upon_meaning_spec.specs.Outcome.{Outcome, States, states}
+use Rattle.upon_vm.specs.Reports.{Writes}
 use Rattle.upon_engine.specs.Answers.{AnswersText}
 use Rattle.upon_engine.specs.Texts.{Stored, Texts}
 

@@ -1,17 +1,17 @@
 // What an engine's names call while a template is rendered.
 ghost use Rattle.std.specs.Prelude.{◌≡◌, List};
-ghost use Rattle.upon_language.specs.Search.{DelimiterText};
-ghost use Rattle.upon_meaning.specs.Engine.{Engine as Meaning};
+ghost use Rattle.upon_language_spec.specs.Search.{DelimiterText};
+ghost use Rattle.upon_meaning_spec.specs.Engine.{Engine as Meaning};
 
 use crate::engine::{Callable, Engine};
 use std::alloc::Global;
-use upon_calls::callables::{Callables, EngineCallable};
 use upon_fmt::fmt::{self, Formatter};
 use upon_functions::function::CallError;
 use upon_types::value::{Value, ValueCow};
+use upon_vm_calls::callables::{Callables, EngineCallable};
 
 impl<'r, 'e> Callables for &'r Engine<'e> {
-    ghost use Rattle.upon_meaning.specs.DefaultFormat.{formatter_or_default};
+    ghost use Rattle.upon_meaning_spec.specs.DefaultFormat.{formatter_or_default};
     ghost use Rattle.upon_engine.specs.Engine.{engine_of};
 
     ghost callables = { λ e. (engine_of (λ f. (Format-box f).formats f.value) (λ f. (Function-box f).answers f.value) e.now).callables };

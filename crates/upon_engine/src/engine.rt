@@ -6,11 +6,11 @@ ghost use Rattle.upon_types.specs.Answers.{formatter, function};
 ghost use Rattle.upon_types.specs.Error.{fault_of};
 ghost use Rattle.upon_types.specs.Fault.{syntax};
 ghost use Rattle.upon_types.specs.Tree.{Statements};
-ghost use Rattle.upon_language.specs.DefaultDelimiters.{default_delimiters};
-ghost use Rattle.upon_language.specs.Grammar.{HasTree};
+ghost use Rattle.upon_language_spec.specs.DefaultDelimiters.{default_delimiters};
+ghost use Rattle.upon_language_spec.specs.Grammar.{HasTree};
 ghost use Rattle.upon_lexer.specs.Syntax.{syntax_delimiters};
 ghost use Rattle.upon_syntax.specs.TagReading.{IsSyntaxError};
-ghost use Rattle.upon_calls.specs.Calls.{sort_of};
+ghost use Rattle.upon_vm_calls.specs.Calls.{sort_of};
 ghost use Rattle.upon_engine.specs.Before.{KeepsOldTree, KeepsOldTemplate, HadNoTree};
 ghost use Rattle.upon_engine.specs.Callables.{callable_of};
 ghost use Rattle.upon_engine.specs.Faults.{IsSyntaxErrorOf};
@@ -22,12 +22,12 @@ use crate::template::Template;
 use std::alloc::{AllocError, Global};
 use std::borrow::CowStr;
 use std::collections::BTreeMap;
-use upon_calls::callables::EngineCallable;
 use upon_fmt::fmt::Format;
 use upon_functions::function::Function;
 use upon_syntax::compile::search::Searcher;
 use upon_syntax::types::syntax::Syntax;
 use upon_types::error::Result;
+use upon_vm_calls::callables::EngineCallable;
 
 /// A formatter or a function.
 #[derive(Drop)]

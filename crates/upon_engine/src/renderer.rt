@@ -1,9 +1,9 @@
 // The renderer: a rendering before it is made.
 ghost use Rattle.std.specs.Prelude.{◌≡◌, None, true};
 ghost use Rattle.upon_types.specs.View.{view};
-ghost use Rattle.upon_renderer.specs.Reports.{Writes, WritesAndLeaves};
-ghost use Rattle.upon_renderer.specs.Runs.{Ran};
-ghost use Rattle.upon_meaning.specs.Outcome.{states};
+ghost use Rattle.upon_vm.specs.Reports.{Writes, WritesAndLeaves};
+ghost use Rattle.upon_vm.specs.Runs.{Ran};
+ghost use Rattle.upon_meaning_spec.specs.Outcome.{states};
 ghost use Rattle.upon_engine.specs.Template.{template_of};
 ghost use Rattle.upon_engine.specs.Answers.{AnswersText};
 ghost use Rattle.upon_render.specs.Environment.{Root};
@@ -20,16 +20,16 @@ use crate::values::{Context, SerdeContext, SourceValues, Values};
 use serde::Serialize;
 use std::alloc::Global;
 use std::io;
-use upon_calls::callables::Callables;
 use upon_fmt::output::{LentWriter, Output};
 use upon_render::source::ValueSource;
-use upon_renderer::failure::Failure;
-use upon_renderer::machine::Running;
-use upon_renderer::report::reported;
-use upon_renderer::run::Ending;
 use upon_serde::to_value;
 use upon_types::error;
 use upon_types::value::Value;
+use upon_vm::failure::Failure;
+use upon_vm::machine::Running;
+use upon_vm::report::reported;
+use upon_vm::run::Ending;
+use upon_vm_calls::callables::Callables;
 
 /// A rendering before it is made: a template, what its names call, what it is rendered on, where the templates come from
 /// that it includes, and how deep includes may go.

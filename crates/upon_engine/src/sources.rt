@@ -1,16 +1,16 @@
 // Where the templates of includes come from.
 ghost use Rattle.std.specs.Prelude.{◌≡◌, ℕ, List};
 ghost use Rattle.upon_render.specs.Asked.{Asked};
-ghost use Rattle.upon_meaning.specs.Engine.{Resolver};
-ghost use Rattle.upon_meaning.specs.RenderFaults.{TemplatesLie};
-ghost use Rattle.upon_renderer.specs.Program.{IsProgramOf};
+ghost use Rattle.upon_meaning_spec.specs.Engine.{Resolver};
+ghost use Rattle.upon_meaning_spec.specs.RenderFaults.{TemplatesLie};
+ghost use Rattle.upon_vm.specs.Program.{IsProgramOf};
 ghost use Rattle.upon_engine.specs.Template.{template_of};
 
 use crate::engine::Engine;
 use crate::template::Template;
 use std::marker::PhantomData;
 use upon_render::source::SourceError;
-use upon_renderer::source::{Program, ProgramSource};
+use upon_vm::source::{Program, ProgramSource};
 
 /// What gives templates by their names.
 ///
@@ -62,12 +62,12 @@ pub struct EngineTemplates<'r, 'e> {
 }
 
 impl<'r, 'e> TemplateSource<'r> for EngineTemplates<'r, 'e> {
-    ghost use Rattle.upon_meaning.specs.Engine.{from_table};
+    ghost use Rattle.upon_meaning_spec.specs.Engine.{from_table};
     ghost use Rattle.upon_engine.specs.Engine.{engine_of};
     ghost use Rattle.std.specs.BTreeMap.{get_by_text};
     ghost use Rattle.std.specs.Prelude.{[]};
-    ghost use Rattle.upon_compiled.proofs.CompiledTree.{spans};
-    ghost use Rattle.upon_compiled.proofs.Templates.{map_lies};
+    ghost use Rattle.upon_compiled_spec.proofs.CompiledTree.{spans};
+    ghost use Rattle.upon_compiled_spec.proofs.Templates.{map_lies};
     ghost use Rattle.upon_engine.specs.Template.{template_source, template_syntax};
 
     ghost State = { Unit {0} };

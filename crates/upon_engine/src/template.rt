@@ -2,7 +2,7 @@
 ghost use Rattle.std.specs.Prelude.{◌≡◌};
 ghost use Rattle.std.specs.Cow.{cow_str_bytes};
 ghost use Rattle.upon_lexer.specs.Syntax.{syntax_delimiters};
-ghost use Rattle.upon_compiled.specs.Compiled.{HasProgram};
+ghost use Rattle.upon_compiled_spec.specs.Compiled.{HasProgram};
 
 use std::borrow::CowStr;
 use upon_instructions::types::program::Instr;
@@ -18,8 +18,8 @@ pub struct Template<'s> {
 }
 
 impl<'s> Template<'s> {
-    ghost use Rattle.upon_language.specs.Grammar.{HasTree};
-    ghost use Rattle.upon_machine.specs.Code.{program_of};
+    ghost use Rattle.upon_language_spec.specs.Grammar.{HasTree};
+    ghost use Rattle.upon_machine_spec.specs.Code.{program_of};
     ghost use Rattle.upon_instructions.specs.Program.{program_view};
     ghost use Rattle.upon_engine.specs.Template.{template_source, template_syntax, template_tree};
 

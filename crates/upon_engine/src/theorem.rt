@@ -2,8 +2,8 @@
 ghost use Rattle.std.specs.Prelude.{◌≡◌, None, Some, IsErr, IsNone, IsSomeAnd, IfErr};
 ghost use Rattle.upon_types.specs.Tree.{Statements};
 ghost use Rattle.upon_types.specs.View.{view};
-ghost use Rattle.upon_language.specs.Grammar.{HasTree};
-ghost use Rattle.upon_meaning.specs.Engine.{Table};
+ghost use Rattle.upon_language_spec.specs.Grammar.{HasTree};
+ghost use Rattle.upon_meaning_spec.specs.Engine.{Table};
 ghost use Rattle.upon_syntax.specs.TagReading.{IsSyntaxError};
 ghost use Rattle.upon_engine.specs.Texts.{Stored, texts_of};
 ghost use Rattle.upon_engine.specs.Theorem.{Answers, IsTable, Sends};

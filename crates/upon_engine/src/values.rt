@@ -2,26 +2,26 @@
 ghost use Rattle.std.specs.Prelude.{◌≡◌, ℕ, List, option_map};
 ghost use Rattle.upon_types.specs.TreeSpans.{TreeLiesIn};
 ghost use Rattle.upon_render.specs.Source.{Source};
-ghost use Rattle.upon_meaning.specs.Engine.{Template};
-ghost use Rattle.upon_meaning.specs.Outcome.{states};
-ghost use Rattle.upon_renderer.specs.Acts.{calls_of};
-ghost use Rattle.upon_renderer.specs.Program.{IsProgramOf};
-ghost use Rattle.upon_renderer.specs.Runs.{Ran};
+ghost use Rattle.upon_meaning_spec.specs.Engine.{Template};
+ghost use Rattle.upon_meaning_spec.specs.Outcome.{states};
+ghost use Rattle.upon_vm.specs.Acts.{calls_of};
+ghost use Rattle.upon_vm.specs.Program.{IsProgramOf};
+ghost use Rattle.upon_vm.specs.Runs.{Ran};
 ghost use Rattle.upon_render.specs.Environment.{Root};
 ghost use Rattle.upon_engine.specs.Base.{Base, on_root, outcome_within};
 
 use crate::sources::{Programs, ShorterLoans, TemplateSource};
 use std::alloc::Global;
-use upon_calls::callables::Callables;
 use upon_fmt::output::Output;
 use upon_render::source::{NoSource, ValueSource};
 use upon_render::stack::Stack;
-use upon_renderer::failure::Failure;
-use upon_renderer::machine::Running;
-use upon_renderer::render::render;
-use upon_renderer::run::Ending;
 use upon_types::error;
 use upon_types::value::Value;
+use upon_vm::failure::Failure;
+use upon_vm::machine::Running;
+use upon_vm::render::render;
+use upon_vm::run::Ending;
+use upon_vm_calls::callables::Callables;
 
 /// What a template is rendered on.
 pub trait Values<'r, T: TemplateSource<'r>>: Drop {

@@ -9,19 +9,19 @@ use Rattle.upon_types.specs.Error.{fault_of}
 use Rattle.upon_types.specs.Fault.{out_of_memory, syntax}
 use Rattle.upon_types.specs.Tree.{Statements}
 use Rattle.upon_types.specs.declared.error.Error.{Error}
-use Rattle.upon_language.specs.Search.{DelimiterText}
+use Rattle.upon_language_spec.specs.Search.{DelimiterText}
 use Rattle.upon_syntax.specs.TagReading.{IsSyntaxError}
 use Rattle.upon_render.specs.Asked.{never}
 use Rattle.upon_render.specs.Environment.{Root}
-use Rattle.upon_meaning.specs.Alone.{alone}
-use Rattle.upon_meaning.specs.Engine.{Engine, Template, calls_of, rendering_of}
-use Rattle.upon_meaning.specs.Outcome.{states}
-use Rattle.upon_before.specs.Alone.{Template as TemplateBefore, Table as TableBefore, alone as alone_before}
-use Rattle.upon_before.specs.Grammar.{HasTree as HadTree}
-use Rattle.upon_before.specs.Kept.{HoldAlike, rendering_before}
-use Rattle.upon_before.specs.Now.{statements_now, template_now}
-use Rattle.upon_before.specs.Tree.{Statements as StatementsBefore}
-use Rattle.upon_before.proofs.RenderingKept.{rendering_kept}
+use Rattle.upon_meaning_spec.specs.Alone.{alone}
+use Rattle.upon_meaning_spec.specs.Engine.{Engine, Template, calls_of, rendering_of}
+use Rattle.upon_meaning_spec.specs.Outcome.{states}
+use Rattle.upon_before_spec.specs.Alone.{Template as TemplateBefore, Table as TableBefore, alone as alone_before}
+use Rattle.upon_before_spec.specs.Grammar.{HasTree as HadTree}
+use Rattle.upon_before_spec.specs.Kept.{HoldAlike, rendering_before}
+use Rattle.upon_before_spec.specs.Now.{statements_now, template_now}
+use Rattle.upon_before_spec.specs.Tree.{Statements as StatementsBefore}
+use Rattle.upon_before_spec.proofs.RenderingKept.{rendering_kept}
 use Rattle.upon_engine.specs.Answers.{AnswersText}
 use Rattle.upon_engine.specs.Before.{HadNoTree}
 use Rattle.upon_engine.specs.Engine.{engine_of}

@@ -201,7 +201,7 @@ impl<'r> TemplateSource<'r> for Same<'r> {
     ghost use Rattle.upon_render.specs.Source.{says};
     ghost use Rattle.upon_engine.specs.Template.{template_of};
     ghost use Rattle.upon_engine.proofs.TemplateSpans.{template_lies};
-    ghost use Rattle.upon_meaning.proofs.FaultsStated.Ends.{one_lies};
+    ghost use Rattle.upon_meaning_spec.proofs.FaultsStated.Ends.{one_lies};
 
     ghost State = { Unit {0} };
 

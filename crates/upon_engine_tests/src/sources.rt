@@ -78,8 +78,8 @@ impl<'r> CallName<'r> for Counted<'r> {
     ghost use Rattle.upon_types.specs.TreeSpans.{TreeLiesIn};
     ghost use Rattle.upon_render.specs.Finding.{reply};
     ghost use Rattle.upon_render.specs.Source.{says};
-    ghost use Rattle.upon_meaning.specs.Engine.{Template};
-    ghost use Rattle.upon_meaning.proofs.FaultsStated.Ends.{one_lies};
+    ghost use Rattle.upon_meaning_spec.specs.Engine.{Template};
+    ghost use Rattle.upon_meaning_spec.proofs.FaultsStated.Ends.{one_lies};
     ghost use Rattle.upon_engine.specs.Template.{template_of};
     ghost use Rattle.upon_engine.proofs.TemplateSpans.{template_lies};
 

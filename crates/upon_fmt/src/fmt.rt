@@ -5,7 +5,7 @@ ghost use Rattle.std.specs.Char.{encode_utf8};
 ghost use Rattle.upon_types.specs.Answers.{Formatted};
 ghost use Rattle.upon_types.specs.Val.{Val, kind_word};
 ghost use Rattle.upon_types.specs.View.{view};
-ghost use Rattle.upon_meaning.specs.DefaultFormat.{default_format};
+ghost use Rattle.upon_meaning_spec.specs.DefaultFormat.{default_format};
 ghost use Rattle.upon_fmt.specs.Error.{message_of, error_text};
 ghost use Rattle.upon_fmt.specs.Formatter.{text_of, is_marked, Writes, Formats};
 

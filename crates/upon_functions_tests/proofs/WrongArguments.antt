@@ -1,12 +1,12 @@
 -- What is reported of wrong arguments, where an adapter's answer becomes a fault. `double` and `add` are functions of
 -- integers of 64 bits, `low` of an integer of eight bits without a sign.
 use Rattle.std.proofs.Common.{◌≡◌, ℕ, pos, List, [], ◌∷◌, refl, codes}
-use Rattle.upon_adapters.specs.Adapters.{adapter_answer}
+use Rattle.upon_function_adapters.specs.Adapters.{adapter_answer}
 use Rattle.upon_types.specs.Misfits.{Test, integer_misfit}
 use Rattle.upon_functions.specs.Integers.{i64_range, u8_range}
 use Rattle.upon_functions.specs.Outcome.{Outcome}
-use Rattle.upon_meaning.proofs.Computing.{computing}
-use Rattle.upon_meaning.specs.Evaluation.{Operand, answer_value, operand, values_of}
+use Rattle.upon_meaning_spec.proofs.Computing.{computing}
+use Rattle.upon_meaning_spec.specs.Evaluation.{Operand, answer_value, operand, values_of}
 use Rattle.upon_render.specs.Finding.{Finding, at_fault, found}
 use Rattle.upon_render.specs.LookupFaults.{wrong}
 use Rattle.upon_functions_tests.specs.Callables.{doubled, added, echoed}

@@ -1,6 +1,6 @@
 // The examples of docs/FUNCTIONS.md, and functions of integers of 64 bits.
 ghost use Rattle.std.specs.Prelude.{◌∷◌, [], string_bytes};
-ghost use Rattle.upon_adapters.specs.Adapters.{adapter_answer};
+ghost use Rattle.upon_function_adapters.specs.Adapters.{adapter_answer};
 ghost use Rattle.upon_types.specs.Misfits.{integer_misfit};
 ghost use Rattle.upon_functions.specs.Integers.{i64_range};
 ghost use Rattle.upon_functions_tests.specs.Callables.{added, doubled, echoed, is_longer, positive, prefixed};

@@ -1,14 +1,14 @@
 -- No value writes markup.
 use Rattle.std.proofs.Common.{◌≡◌, ℕ, List, [], ◌∷◌, Option, Bool, false, ◌||◌, refl, ap, ◌∙◌}
 use Rattle.upon_render.specs.Environment.{Root}
-use Rattle.upon_meaning.specs.Alone.{alone}
-use Rattle.upon_meaning.specs.DefaultFormat.{default_format}
-use Rattle.upon_meaning.specs.Engine.{Template, Rendering}
-use Rattle.upon_meaning.specs.Outcome.{States}
-use Rattle.upon_woven.specs.Marks.{has, FromRawParts}
-use Rattle.upon_woven.specs.Parts.{IsRawPart}
-use Rattle.upon_woven.proofs.RawMarks.{from_raw_parts}
-use Rattle.upon_woven.proofs.WovenTemplates.{only_woven}
+use Rattle.upon_meaning_spec.specs.Alone.{alone}
+use Rattle.upon_meaning_spec.specs.DefaultFormat.{default_format}
+use Rattle.upon_meaning_spec.specs.Engine.{Template, Rendering}
+use Rattle.upon_meaning_spec.specs.Outcome.{States}
+use Rattle.upon_woven_spec.specs.Marks.{has, FromRawParts}
+use Rattle.upon_woven_spec.specs.Parts.{IsRawPart}
+use Rattle.upon_woven_spec.proofs.RawMarks.{from_raw_parts}
+use Rattle.upon_woven_spec.proofs.WovenTemplates.{only_woven}
 use Rattle.upon_html.specs.Escape.{escape, is_markup, has_markup}
 use Rattle.upon_html.specs.Page.{EscapesAll}
 use Rattle.upon_html.proofs.EscapeLaws.{no_markup}

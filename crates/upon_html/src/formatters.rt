@@ -2,7 +2,7 @@
 ghost use Rattle.std.specs.Prelude.{◌≡◌, ℕ, List, Option, option_map};
 ghost use Rattle.upon_types.specs.Val.{Val};
 ghost use Rattle.upon_types.specs.View.{view};
-ghost use Rattle.upon_meaning.specs.DefaultFormat.{default_format, format_text};
+ghost use Rattle.upon_meaning_spec.specs.DefaultFormat.{default_format, format_text};
 ghost use Rattle.upon_fmt.specs.Formatter.{Formats};
 ghost use Rattle.upon_html.specs.Escape.{escape};
 ghost use Rattle.upon_html.specs.Escaped.{escaped};

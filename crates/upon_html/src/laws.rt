@@ -2,11 +2,11 @@
 ghost use Rattle.std.specs.Prelude.{◌≡◌, ◌≤◌, ◌*◌, ℕ, List, Option, false, length};
 ghost use Rattle.upon_types.specs.Val.{Val};
 ghost use Rattle.upon_render.specs.Environment.{Root};
-ghost use Rattle.upon_meaning.specs.Alone.{alone};
-ghost use Rattle.upon_meaning.specs.Engine.{Template, Rendering};
-ghost use Rattle.upon_meaning.specs.Outcome.{States};
-ghost use Rattle.upon_woven.specs.Marks.{FromRawParts};
-ghost use Rattle.upon_woven.specs.Parts.{IsRawPart};
+ghost use Rattle.upon_meaning_spec.specs.Alone.{alone};
+ghost use Rattle.upon_meaning_spec.specs.Engine.{Template, Rendering};
+ghost use Rattle.upon_meaning_spec.specs.Outcome.{States};
+ghost use Rattle.upon_woven_spec.specs.Marks.{FromRawParts};
+ghost use Rattle.upon_woven_spec.specs.Parts.{IsRawPart};
 ghost use Rattle.upon_html.specs.Escape.{escape, unescape, is_markup, has_markup, AmpersandsRefer};
 ghost use Rattle.upon_html.specs.Page.{EscapesAll};
 ghost use Rattle.upon_html.specs.Escaped.{escaped};

@@ -8,11 +8,11 @@ use Rattle.upon_types.specs.Tree.{Statements}
 use Rattle.upon_types.specs.Val.{Val}
 use Rattle.upon_types.specs.declared.error.Error.{Error}
 use Rattle.upon_render.specs.Environment.{context}
-use Rattle.upon_meaning.specs.DefaultFormat.{formatter_or_default}
-use Rattle.upon_meaning.specs.Engine.{Table, from_table}
-use Rattle.upon_meaning.specs.Outcome.{states}
-use Rattle.upon_woven.specs.Marks.{FromRawParts}
-use Rattle.upon_woven.specs.Parts.{CanFormat, by_default, by_name, IsRawPart}
+use Rattle.upon_meaning_spec.specs.DefaultFormat.{formatter_or_default}
+use Rattle.upon_meaning_spec.specs.Engine.{Table, from_table}
+use Rattle.upon_meaning_spec.specs.Outcome.{states}
+use Rattle.upon_woven_spec.specs.Marks.{FromRawParts}
+use Rattle.upon_woven_spec.specs.Parts.{CanFormat, by_default, by_name, IsRawPart}
 use Rattle.upon_engine.specs.Answers.{AnswersText}
 use Rattle.upon_engine.specs.Texts.{Texts, texts_of}
 use Rattle.upon_engine.specs.Theorem.{IsTable, rendering, meaning, Answers}

@@ -4,9 +4,9 @@ use Rattle.std.specs.declared.alloc.Global.{Global}
 use Rattle.upon_types.specs.Answers.{Formatter, formatter}
 use Rattle.upon_types.specs.Tree.{Statements}
 use Rattle.upon_types.specs.declared.error.Error.{Error}
-use Rattle.upon_meaning.specs.Engine.{Template, Table, from_table}
-use Rattle.upon_woven.specs.Marks.{FromRawParts}
-use Rattle.upon_woven.specs.Parts.{IsRawPart}
+use Rattle.upon_meaning_spec.specs.Engine.{Template, Table, from_table}
+use Rattle.upon_woven_spec.specs.Marks.{FromRawParts}
+use Rattle.upon_woven_spec.specs.Parts.{IsRawPart}
 use Rattle.upon_engine.specs.Texts.{Texts}
 use Rattle.upon_engine.specs.Theorem.{rendering}
 use Rattle.upon_html.specs.Escape.{is_markup}

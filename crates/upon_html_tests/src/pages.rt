@@ -1,7 +1,7 @@
 // Callers of an engine whose formatters escape, by the public clauses alone.
 ghost use Rattle.upon_types.specs.Tree.{Statements};
-ghost use Rattle.upon_language.specs.Grammar.{HasTree};
-ghost use Rattle.upon_meaning.specs.Engine.{Table};
+ghost use Rattle.upon_language_spec.specs.Grammar.{HasTree};
+ghost use Rattle.upon_meaning_spec.specs.Engine.{Table};
 ghost use Rattle.upon_engine.specs.Theorem.{IsTable};
 ghost use Rattle.upon_html_tests.specs.Pages.{CallsEscape, OnlyEscapes, MarkupIsRaw};
 

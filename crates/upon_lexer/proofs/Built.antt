@@ -2,7 +2,7 @@
 use Rattle.std.proofs.Common.{◌≡◌, ℕ, ◌+◌, ◌<◌, ◌≤◌, List, [], ◌∷◌, length, drop, get_or, sym, ap, ◌∙◌, subst}
 use Rattle.std.proofs.lemmas.List.{at_drop_more, at_drop_all, get_or-map}
 use Rattle.upon_types.specs.declared.types.Delimiter.TheVariants.{BeginExpr}
-use Rattle.upon_language.specs.Search.{DelimiterText, text_at}
+use Rattle.upon_language_spec.specs.Search.{DelimiterText, text_at}
 use Rattle.upon_lexer.specs.Nodes.{blank}
 use Rattle.upon_lexer.specs.Grown.{with_text, with_texts, nodes_of}
 use Rattle.upon_lexer.specs.Trie.{IsTrieOf}

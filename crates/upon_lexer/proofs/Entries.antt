@@ -2,7 +2,7 @@
 use Rattle.std.proofs.Common.{◌≡◌, ℕ, ◌<◌, List, [], length, map, ap, ◌∙◌, slice_index_or}
 use Rattle.std.proofs.lemmas.List.{get_or-map, length-map}
 use Rattle.upon_types.specs.declared.types.Delimiter.TheVariants.{BeginExpr}
-use Rattle.upon_language.specs.Search.{DelimiterText, text_at, kind_at}
+use Rattle.upon_language_spec.specs.Search.{DelimiterText, text_at, kind_at}
 
 module _ {A : Type 0} (f : A → DelimiterText) (entries : List A) (i : ℕ) (d : A) (inside : i < length entries) where
   listed : i < length (map f entries)

@@ -3,8 +3,8 @@ use Rattle.std.proofs.Common.{◌≡◌, ℕ, ◌+◌, ◌-◌, ◌<◌, ◌≤�
 use Rattle.std.proofs.lemmas.Bool.{false_from_ne_true}
 use Rattle.std.specs.Prelude.{slice_index}
 use Rattle.memchr.specs.Find.{Passes, NoneBefore, Nowhere, is_byte2}
-use Rattle.upon_language.specs.Inside.{ends_line}
-use Rattle.upon_language.specs.Faults.{LineEnds}
+use Rattle.upon_language_spec.specs.Inside.{ends_line}
+use Rattle.upon_language_spec.specs.Faults.{LineEnds}
 
 -- a search of the rest of the text for a byte that ends a line
 module _ (s rest : List ℕ) (at : ℕ) (within : at ≤ length s) (is : rest ≡ drop at s) where

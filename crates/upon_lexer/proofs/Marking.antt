@@ -4,7 +4,7 @@ use Rattle.std.proofs.Math.Nat.{max-eq_left}
 use Rattle.std.proofs.lemmas.List.{get_or-set_same, get_or-set_other}
 use Rattle.std.proofs.lemmas.Nat.Bits.{bit_at_and, bit_at_or, bit_at-zero, bit_at-lt, bit_at_set_same}
 use Rattle.std.specs.Int.{bit_at}
-use Rattle.upon_language.specs.Search.{DelimiterText, HasTexts, NoneAt, Occurs, text_at}
+use Rattle.upon_language_spec.specs.Search.{DelimiterText, HasTexts, NoneAt, Occurs, text_at}
 use Rattle.upon_lexer.specs.Marks.{HasMark, MarksEach, MayFollow}
 use Rattle.upon_lexer.specs.declared.compile.marks.Marks.{Marks}
 use Rattle.upon_lexer.proofs.Ways.{occurs_reads}

@@ -3,9 +3,9 @@ use Rattle.std.proofs.Common.{◌≡◌, List, [], ◌∷◌, ◌++◌, length, 
 use Rattle.std.specs.List.{slice_get}
 use Rattle.std.specs.Option.{option_to_list}
 use Rattle.std.proofs.lemmas.List.{append-nil}
-use Rattle.upon_language.specs.Cut.{Lexeme}
-use Rattle.upon_language.specs.Faults.{is_close}
-use Rattle.upon_language.specs.Reading.{brackets_after}
+use Rattle.upon_language_spec.specs.Cut.{Lexeme}
+use Rattle.upon_language_spec.specs.Faults.{is_close}
+use Rattle.upon_language_spec.specs.Reading.{brackets_after}
 use Rattle.upon_lexer.specs.Brackets.{open_token, close_token, bracket_lexeme, open_from, brackets_of, innermost}
 use Rattle.upon_lexer.specs.declared.compile.brackets.OpenBracket.{OpenBracket}
 use Rattle.upon_lexer.specs.declared.compile.brackets.Shape.{Shape}

@@ -1,7 +1,7 @@
 -- What an open tag awaits.
 use Rattle.std.proofs.Common.{◌≡◌, Bool, Option, Some, refl, ap, ◌∙◌}
 use Rattle.upon_lexer.specs.Roles.{sort_of}
-use Rattle.upon_language.specs.Faults.{awaited_sort}
+use Rattle.upon_language_spec.specs.Faults.{awaited_sort}
 use Rattle.upon_lexer.specs.OpenTags.{mode_in, mode_of}
 use Rattle.upon_lexer.specs.declared.compile.roles.Sort.{Sort}
 use Rattle.upon_lexer.specs.declared.compile.roles.Sort.TheVariants.{Expr, Block, Comment}

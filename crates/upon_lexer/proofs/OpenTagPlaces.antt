@@ -4,7 +4,7 @@ use Rattle.upon_types.specs.declared.types.Span.{Span}
 use Rattle.upon_types.specs.declared.types.token.Token.{Token}
 use Rattle.upon_types.specs.declared.types.token.Token.TheVariants.{BeginExpr, EndExpr, BeginBlock, EndBlock, BeginComment, EndComment}
 use Rattle.upon_types.specs.Span.{LiesIn}
-use Rattle.upon_language.specs.LexStep.{begin_after}
+use Rattle.upon_language_spec.specs.LexStep.{begin_after}
 use Rattle.upon_lexer.specs.OpenTags.{begin_of}
 use Rattle.upon_lexer.specs.declared.compile.tags.OpenTag.{OpenTag}
 

@@ -1,8 +1,8 @@
 -- Each default delimiter has a pair at its begin or after its first byte.
 use Rattle.std.proofs.Common.{◌≡◌, ◌⊎◌, inl, inr, ℕ, zero, suc, ◌+◌, ◌-◌, ◌<◌, ◌≤◌, List, [], ◌∷◌, Bool, ◌==◌, ◌&&◌, ◌||◌, true, false, length, take, drop, get_or, max, arith, refl, sym, ap, subst, ◌∙◌, lit<, lit≤, length-take, length-drop, get_or-take, get_or-drop}
 use Rattle.memchr.specs.Find.{Passes, Nowhere, is_byte2}
-use Rattle.upon_language.specs.DefaultDelimiters.{default_delimiters}
-use Rattle.upon_language.specs.Search.{DelimiterText, NoneFrom, Occurs, text_at}
+use Rattle.upon_language_spec.specs.DefaultDelimiters.{default_delimiters}
+use Rattle.upon_language_spec.specs.Search.{DelimiterText, NoneFrom, Occurs, text_at}
 use Rattle.upon_lexer.specs.Pairs.{is_pair, HasPair, NoPairWith}
 use Rattle.upon_lexer.proofs.Ways.{occurs_reads}
 

@@ -3,16 +3,16 @@ use Rattle.std.proofs.Common.{◌≡◌, ℕ, List, [], ◌∷◌, ◌++◌, Boo
 use Rattle.upon_types.specs.declared.types.Span.{Span}
 use Rattle.upon_types.specs.declared.types.token.Token.{Token}
 use Rattle.upon_types.specs.declared.types.token.Token.TheVariants.{Raw, BeginExpr, EndExpr, BeginBlock, EndBlock, BeginComment, EndComment}
-use Rattle.upon_language.specs.Search.{DelimiterText}
-use Rattle.upon_language.specs.Delimiters.{Sort, expression, block, comment, begin_token, end_token}
-use Rattle.upon_language.specs.Inside.{Extent, in_path_after}
-use Rattle.upon_language.specs.Cut.{Lexeme, Mode, outside, in_tag, in_comment, IsToken, same_mode, mode_after}
-use Rattle.upon_language.specs.Reading.{opens_tag, from_begin, open_tag, first_span, brackets_after, brackets_from, open_brackets, ReadsTo}
-use Rattle.upon_language.specs.Lexing.{LexerState, HasRead, begin_in, brackets_in, is_trimming_end}
-use Rattle.upon_language.specs.LexStep.{IsNext, Fits, begin_after, state_after}
-use Rattle.upon_language.specs.CutFaults.{ClearTo}
-use Rattle.upon_language.proofs.OneCut.Cut.{cut_more}
-use Rattle.upon_language.proofs.Totality.InsideClear.{last_more}
+use Rattle.upon_language_spec.specs.Search.{DelimiterText}
+use Rattle.upon_language_spec.specs.Delimiters.{Sort, expression, block, comment, begin_token, end_token}
+use Rattle.upon_language_spec.specs.Inside.{Extent, in_path_after}
+use Rattle.upon_language_spec.specs.Cut.{Lexeme, Mode, outside, in_tag, in_comment, IsToken, same_mode, mode_after}
+use Rattle.upon_language_spec.specs.Reading.{opens_tag, from_begin, open_tag, first_span, brackets_after, brackets_from, open_brackets, ReadsTo}
+use Rattle.upon_language_spec.specs.Lexing.{LexerState, HasRead, begin_in, brackets_in, is_trimming_end}
+use Rattle.upon_language_spec.specs.LexStep.{IsNext, Fits, begin_after, state_after}
+use Rattle.upon_language_spec.specs.CutFaults.{ClearTo}
+use Rattle.upon_language_spec.proofs.OneCut.Cut.{cut_more}
+use Rattle.upon_language_spec.proofs.Totality.InsideClear.{last_more}
 
 if_more : (b o : Bool) (l : Lexeme) (x y x' y' : List Lexeme) → x ≡ (if o then l ∷ [] else (x' ++ l ∷ [])) → y ≡ (if o then l ∷ [] else (y' ++ l ∷ [])) → (if b then x else y) ≡ (if o then l ∷ [] else ((if b then x' else y') ++ l ∷ []))
 if_more true o l x y x' y' p q = p

@@ -1,6 +1,6 @@
 -- Two lists of delimiters are one where the same kind and the same text is at each index.
 use Rattle.std.proofs.Common.{◌≡◌, ℕ, suc, ◌+◌, ◌<◌, ◌⊎◌, inl, inr, List, [], ◌∷◌, length, arith, subst}
-use Rattle.upon_language.specs.Search.{DelimiterText, kind_at, text_at}
+use Rattle.upon_language_spec.specs.Search.{DelimiterText, kind_at, text_at}
 
 -- they have the same delimiter at an index
 abbrev pub SameAt : List DelimiterText → List DelimiterText → ℕ → Type 0

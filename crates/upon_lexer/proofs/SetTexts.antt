@@ -5,8 +5,8 @@ use Rattle.std.proofs.lemmas.List.{length-append}
 use Rattle.std.proofs.lemmas.Str.{IsUtf8-string_bytes}
 use Rattle.upon_types.specs.Bytes.{hyphen}
 use Rattle.upon_types.specs.declared.types.Delimiter.{Delimiter}
-use Rattle.upon_language.specs.LiesIn.{HasUtf8}
-use Rattle.upon_language.specs.Search.{DelimiterText, HasTexts}
+use Rattle.upon_language_spec.specs.LiesIn.{HasUtf8}
+use Rattle.upon_language_spec.specs.Search.{DelimiterText, HasTexts}
 use Rattle.upon_lexer.specs.Entries.{delimiter_text_of}
 use Rattle.upon_lexer.specs.SetTexts.{pair_delimiters}
 use Rattle.upon_lexer.specs.TagTexts.{pair_of, HaveBytes}

@@ -6,15 +6,15 @@ use Rattle.upon_types.specs.declared.types.Span.{Span}
 use Rattle.upon_types.specs.declared.types.token.Token.{Token}
 use Rattle.upon_types.specs.declared.types.token.Token.TheVariants.{Whitespace}
 use Rattle.upon_types.specs.declared.error.Error.{Error}
-use Rattle.upon_language.specs.Search.{DelimiterText}
-use Rattle.upon_language.specs.Words.{is_tag_space, IsRun}
-use Rattle.upon_language.specs.Delimiters.{comment, begin_token, end_token}
-use Rattle.upon_language.specs.Cut.{Lexeme, Mode, outside, in_tag, in_comment, IsToken, Cut, mode_after}
-use Rattle.upon_language.proofs.OneCut.Run.{run_first}
-use Rattle.upon_language.specs.Tokens.{is_space}
-use Rattle.upon_language.proofs.NoTreeWithFault.InsideTag.{end_is_no_space}
-use Rattle.upon_language.proofs.NoTreeWithFault.NextToken.{begin_is_no_space}
-use Rattle.upon_language.specs.Lexing.{LexerState, HasRead, Lexes, LexesAfterSpace, IsNoSpace}
+use Rattle.upon_language_spec.specs.Search.{DelimiterText}
+use Rattle.upon_language_spec.specs.Words.{is_tag_space, IsRun}
+use Rattle.upon_language_spec.specs.Delimiters.{comment, begin_token, end_token}
+use Rattle.upon_language_spec.specs.Cut.{Lexeme, Mode, outside, in_tag, in_comment, IsToken, Cut, mode_after}
+use Rattle.upon_language_spec.proofs.OneCut.Run.{run_first}
+use Rattle.upon_language_spec.specs.Tokens.{is_space}
+use Rattle.upon_language_spec.proofs.NoTreeWithFault.InsideTag.{end_is_no_space}
+use Rattle.upon_language_spec.proofs.NoTreeWithFault.NextToken.{begin_is_no_space}
+use Rattle.upon_language_spec.specs.Lexing.{LexerState, HasRead, Lexes, LexesAfterSpace, IsNoSpace}
 use Rattle.upon_lexer.specs.Spelling.{LiesBetween}
 
 -- the last step of a cut

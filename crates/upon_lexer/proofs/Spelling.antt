@@ -3,13 +3,13 @@ use Rattle.std.proofs.Common.{◌≡◌, ℕ, List, Bool, true, false, inl, inr,
 use Rattle.upon_types.specs.declared.types.Span.{Span}
 use Rattle.upon_types.specs.declared.types.token.Token.{Token}
 use Rattle.upon_types.specs.declared.types.token.Token.TheVariants.{Raw, Index, Number, String}
-use Rattle.upon_language.specs.Search.{DelimiterText}
-use Rattle.upon_language.specs.Delimiters.{Sort, expression, block, comment, begin_token, end_token}
-use Rattle.upon_language.specs.Cut.{Mode, outside, in_tag, in_comment, IsToken}
-use Rattle.upon_language.specs.Inside.{Extent}
-use Rattle.upon_language.specs.Faults.{span_of}
-use Rattle.upon_language.specs.Tokens.{is_raw}
-use Rattle.upon_language.specs.Lexing.{IsGiven}
+use Rattle.upon_language_spec.specs.Search.{DelimiterText}
+use Rattle.upon_language_spec.specs.Delimiters.{Sort, expression, block, comment, begin_token, end_token}
+use Rattle.upon_language_spec.specs.Cut.{Mode, outside, in_tag, in_comment, IsToken}
+use Rattle.upon_language_spec.specs.Inside.{Extent}
+use Rattle.upon_language_spec.specs.Faults.{span_of}
+use Rattle.upon_language_spec.specs.Tokens.{is_raw}
+use Rattle.upon_language_spec.specs.Lexing.{IsGiven}
 use Rattle.upon_lexer.specs.Spelling.{IsSpelled}
 
 -- whether a token has a spelling of its own

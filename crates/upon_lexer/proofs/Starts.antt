@@ -1,8 +1,8 @@
 -- Where a text can't begin, by its first byte, and where no delimiter of a list occurs.
 use Rattle.std.proofs.Common.{◌≡◌, ℕ, ◌+◌, ◌-◌, ◌<◌, ◌≤◌, ◌⊎◌, inl, inr, List, length, take, drop, get_or, get_or-take, get_or-drop, arith, sym, ap, ◌∙◌, subst, eq-eqb}
 use Rattle.memchr.specs.Find.{Passes, Nowhere, is_byte}
-use Rattle.upon_language.specs.Search.{DelimiterText, Occurs, NoneAt, NoneFrom}
-use Rattle.upon_language.proofs.SpansLieIn.Offsets.{same_first_byte}
+use Rattle.upon_language_spec.specs.Search.{DelimiterText, Occurs, NoneAt, NoneFrom}
+use Rattle.upon_language_spec.proofs.SpansLieIn.Offsets.{same_first_byte}
 
 -- a text does not occur where its first byte is not found
 pub starts_nowhere : (s bytes d text : List ℕ) (at end k : ℕ) → bytes ≡ s → text ≡ d → 0 < length d → at + k ≤ end

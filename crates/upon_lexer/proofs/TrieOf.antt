@@ -1,7 +1,7 @@
 -- The nodes of a list of delimiters are its trie.
 use Rattle.std.proofs.Common.{◌≡◌, ℕ, zero, suc, ◌+◌, ◌<◌, ◌≢◌, ◌==◌, ◌⊎◌, inl, inr, List, [], ◌∷◌, ◌++◌, Option, None, Some, cond, is_some, length, arith, refl, sym, ◌∙◌, ap, subst, set, Bool, eq-eqb, ne_eqb}
 use Rattle.std.proofs.lemmas.List.{append_assoc, append-nil, get_or-set_same, get_or-set_other, length-set, length_push}
-use Rattle.upon_language.specs.Search.{DelimiterText, text_at}
+use Rattle.upon_language_spec.specs.Search.{DelimiterText, text_at}
 use Rattle.upon_lexer.specs.declared.types.syntax.trie.Node.{Node}
 use Rattle.upon_lexer.specs.Nodes.{IsLinked, blank, node_at, sibling_with, child_of, Leads}
 use Rattle.upon_lexer.specs.Grown.{grown, with_child, made_child, with_path, path_end, marked, with_text, with_texts, nodes_of}

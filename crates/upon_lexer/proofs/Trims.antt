@@ -4,8 +4,8 @@ use Rattle.std.specs.Str.{IsUtf8, IsCharBoundary, IsTrimEnd, IsTrimStart}
 use Rattle.std.proofs.lemmas.List.{take-take, drop-take, drop-drop}
 use Rattle.upon_types.specs.declared.types.Span.{Span}
 use Rattle.upon_types.specs.Span.{LiesIn, slice}
-use Rattle.upon_language.specs.Search.{Occurs}
-use Rattle.upon_language.proofs.SpansLieIn.Offsets.{occurs_lies_in}
+use Rattle.upon_language_spec.specs.Search.{Occurs}
+use Rattle.upon_language_spec.proofs.SpansLieIn.Offsets.{occurs_lies_in}
 
 module _ (s r : List ℕ) (span : Span) (text : IsUtf8 s) (left : IsUtf8 r) (lies : LiesIn s span) where
   nothing_left : (p : ℕ) → length r ≡ 0 → IsCharBoundary s p → LiesIn s (record { m = p; n = p + length r })

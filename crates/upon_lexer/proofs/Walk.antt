@@ -1,7 +1,7 @@
 -- A walk of a trie finds the best delimiter at an offset.
 use Rattle.std.proofs.Common.{◌≡◌, ℕ, ◌+◌, ◌-◌, ◌<◌, ◌≤◌, ◌≢◌, ◌⊎◌, inl, inr, List, [], ◌∷◌, ◌++◌, Option, None, Some, length, take, drop, get_or, arith, sym, ◌∙◌, ap, subst, length-take, length-drop, get_or-take, get_or-drop}
 use Rattle.std.proofs.lemmas.List.{take-take, take-append-drop, drop_more, take_more}
-use Rattle.upon_language.specs.Search.{DelimiterText, text_at, Occurs}
+use Rattle.upon_language_spec.specs.Search.{DelimiterText, text_at, Occurs}
 use Rattle.upon_lexer.specs.declared.types.syntax.trie.Node.{Node}
 use Rattle.upon_lexer.specs.Nodes.{node_at, child_of, Leads}
 use Rattle.upon_lexer.specs.Trie.{IsFirstWith, IsTrieOf, longer_of, LongestShorter, LongestAt}

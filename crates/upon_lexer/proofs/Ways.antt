@@ -3,8 +3,8 @@ use Rattle.std.proofs.Common.{◌≡◌, ℕ, ◌+◌, ◌-◌, ◌<◌, ◌≤�
 use Rattle.std.proofs.Common.{subst}
 use Rattle.std.proofs.Math.Logic.{∥∥₁_elim}
 use Rattle.memchr.specs.Find.{Passes, Nowhere, is_byte3}
-use Rattle.upon_language.specs.DefaultDelimiters.{default_delimiters}
-use Rattle.upon_language.specs.Search.{DelimiterText, Occurs, HasTexts, NoneFrom}
+use Rattle.upon_language_spec.specs.DefaultDelimiters.{default_delimiters}
+use Rattle.upon_language_spec.specs.Search.{DelimiterText, Occurs, HasTexts, NoneFrom}
 use Rattle.upon_lexer.specs.FirstBytes.{IsOneOf, BeginWithOneOf}
 use Rattle.upon_lexer.specs.Marks.{MarksEach}
 use Rattle.upon_lexer.specs.Ways.{WayFits}

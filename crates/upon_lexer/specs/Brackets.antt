@@ -3,9 +3,9 @@ use Rattle.std.specs.Prelude.{◌≡◌, List, [], ◌∷◌, false, Option, Som
 use Rattle.upon_types.specs.declared.types.Span.{Span}
 use Rattle.upon_types.specs.declared.types.token.Token.{Token}
 use Rattle.upon_types.specs.declared.types.token.Token.TheVariants as token
-use Rattle.upon_language.specs.Cut.{Lexeme}
-use Rattle.upon_language.specs.Faults.{is_close}
-use Rattle.upon_language.specs.Reading.{brackets_after}
+use Rattle.upon_language_spec.specs.Cut.{Lexeme}
+use Rattle.upon_language_spec.specs.Faults.{is_close}
+use Rattle.upon_language_spec.specs.Reading.{brackets_after}
 use Rattle.upon_lexer.specs.declared.compile.brackets.Shape.{Shape}
 use Rattle.upon_lexer.specs.declared.compile.brackets.Shape.TheVariants.{Bracket, Brace, Paren}
 use Rattle.upon_lexer.specs.declared.compile.brackets.OpenBracket.{OpenBracket}

@@ -2,8 +2,8 @@
 use Rattle.std.specs.Prelude.{ℕ, Bool}
 use Rattle.unicode_ident.specs.Ident.{is_xid_continue}
 use Rattle.std.specs.Char.{is_ascii_digit}
-use Rattle.upon_language.specs.Words.{is_tag_space}
-use Rattle.upon_language.specs.Inside.{continues_number}
+use Rattle.upon_language_spec.specs.Words.{is_tag_space}
+use Rattle.upon_language_spec.specs.Inside.{continues_number}
 use Rattle.upon_lexer.specs.declared.compile.chars.CharClass.{CharClass}
 use Rattle.upon_lexer.specs.declared.compile.chars.CharClass.TheVariants.{Space, Name, Number, Digit}
 

@@ -1,8 +1,8 @@
 -- The delimiters that a list of the code's entries denotes.
 use Rattle.std.specs.Prelude.{ℕ, List, map, string_bytes}
 use Rattle.upon_types.specs.declared.types.Delimiter.{Delimiter}
-use Rattle.upon_language.specs.DefaultDelimiters.{default_delimiters}
-use Rattle.upon_language.specs.Search.{DelimiterText}
+use Rattle.upon_language_spec.specs.DefaultDelimiters.{default_delimiters}
+use Rattle.upon_language_spec.specs.Search.{DelimiterText}
 use Rattle.upon_lexer.specs.Grown.{nodes_of}
 use Rattle.upon_lexer.specs.declared.types.syntax.Nodes.{Nodes}
 use Rattle.upon_lexer.specs.declared.types.syntax.Nodes.TheVariants.{Default as DefaultNodes, Built as BuiltNodes}

@@ -1,7 +1,7 @@
 -- The bytes with which delimiters begin.
 use Rattle.std.specs.Prelude.{◌≡◌, ℕ, ◌<◌, List, true, length, slice_index}
 use Rattle.memchr.specs.Find.{is_byte3}
-use Rattle.upon_language.specs.Search.{DelimiterText, text_at}
+use Rattle.upon_language_spec.specs.Search.{DelimiterText, text_at}
 use Rattle.upon_lexer.specs.declared.compile.first_bytes.FewBytes.{FewBytes}
 
 -- a byte is one of three at most

@@ -1,6 +1,6 @@
 -- How a trie is made, text after text.
 use Rattle.std.specs.Prelude.{ℕ, ◌+◌, ◌==◌, List, [], ◌∷◌, ◌++◌, None, Some, cond, is_some, length, slice_set}
-use Rattle.upon_language.specs.Search.{DelimiterText}
+use Rattle.upon_language_spec.specs.Search.{DelimiterText}
 use Rattle.upon_lexer.specs.declared.types.syntax.trie.Node.{Node}
 use Rattle.upon_lexer.specs.Nodes.{blank, node_at, child_of}
 

@@ -3,14 +3,14 @@ use Rattle.std.specs.Prelude.{ℕ, List, Option, Result}
 use Rattle.upon_types.specs.declared.types.Span.{Span}
 use Rattle.upon_types.specs.declared.types.token.Token.{Token}
 use Rattle.upon_types.specs.declared.error.Error.{Error}
-use Rattle.upon_language.specs.Search.{DelimiterText}
+use Rattle.upon_language_spec.specs.Search.{DelimiterText}
 use Rattle.upon_lexer.specs.Searcher.{searcher_delimiters}
-use Rattle.upon_language.specs.Lexing.{LexerState, HasRead, Lexes, LexesAfterSpace}
-use Rattle.upon_language.specs.LexStep.{IsNext, IsWrong}
+use Rattle.upon_language_spec.specs.Lexing.{LexerState, HasRead, Lexes, LexesAfterSpace}
+use Rattle.upon_language_spec.specs.LexStep.{IsNext, IsWrong}
 use Rattle.upon_lexer.specs.OpenTags.{begin_of, mode_of}
 use Rattle.upon_lexer.specs.Brackets.{brackets_of}
 use Rattle.upon_lexer.specs.Reasons.{reason_of}
-use Rattle.upon_language.specs.Cut.{Lexeme}
+use Rattle.upon_language_spec.specs.Cut.{Lexeme}
 use Rattle.upon_lexer.specs.declared.compile.fault.Wrong.{Wrong}
 use Rattle.upon_lexer.specs.declared.compile.lex.NextToken.{NextToken}
 use Rattle.upon_lexer.specs.declared.compile.lex.Lexer.{Lexer}

@@ -1,7 +1,7 @@
 -- Marks of the first two bytes of delimiters.
 use Rattle.std.specs.Prelude.{◌≡◌, ℕ, ◌<◌, ◌%◌, List, length, slice_index, slice_index_or}
 use Rattle.std.specs.Int.{bit_at}
-use Rattle.upon_language.specs.Search.{DelimiterText, text_at}
+use Rattle.upon_language_spec.specs.Search.{DelimiterText, text_at}
 use Rattle.upon_lexer.specs.declared.compile.marks.Marks.{Marks}
 
 -- a table has a bit for a byte

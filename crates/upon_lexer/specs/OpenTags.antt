@@ -1,8 +1,8 @@
 -- What the code's open tag denotes.
 use Rattle.std.specs.Prelude.{Bool, Option, Some, None}
 use Rattle.upon_types.specs.declared.types.Span.{Span}
-use Rattle.upon_language.specs.Delimiters.{expression, block}
-use Rattle.upon_language.specs.Cut.{Mode, outside, in_tag, in_comment}
+use Rattle.upon_language_spec.specs.Delimiters.{expression, block}
+use Rattle.upon_language_spec.specs.Cut.{Mode, outside, in_tag, in_comment}
 use Rattle.upon_lexer.specs.declared.compile.roles.Sort.{Sort}
 use Rattle.upon_lexer.specs.declared.compile.roles.Sort.TheVariants.{Expr, Block, Comment}
 use Rattle.upon_lexer.specs.declared.compile.tags.OpenTag.{OpenTag}

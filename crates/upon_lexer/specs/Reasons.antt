@@ -1,7 +1,7 @@
 -- The words that report each fault of the code.
 use Rattle.std.specs.Prelude.{ℕ, List, ◌++◌, codes}
 use Rattle.upon_types.specs.Token.{token_word}
-use Rattle.upon_language.specs.Delimiters.{begin_token, end_token}
+use Rattle.upon_language_spec.specs.Delimiters.{begin_token, end_token}
 use Rattle.upon_lexer.specs.Brackets.{open_token, close_token}
 use Rattle.upon_lexer.specs.Roles.{sort_of}
 use Rattle.upon_lexer.specs.declared.compile.fault.SyntaxFault.{SyntaxFault}

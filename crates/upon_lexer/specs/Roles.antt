@@ -1,8 +1,8 @@
 -- What the code's kinds of delimiters denote.
 use Rattle.std.specs.Prelude.{◌≡◌, Some}
 use Rattle.upon_types.specs.declared.types.Delimiter.{Delimiter}
-use Rattle.upon_language.specs.Delimiters.{expression, block, comment, begin_sort, end_sort}
-use Rattle.upon_language.specs.Delimiters as language
+use Rattle.upon_language_spec.specs.Delimiters.{expression, block, comment, begin_sort, end_sort}
+use Rattle.upon_language_spec.specs.Delimiters as language
 use Rattle.upon_lexer.specs.declared.compile.roles.Sort.{Sort}
 use Rattle.upon_lexer.specs.declared.compile.roles.Sort.TheVariants.{Expr, Block, Comment}
 use Rattle.upon_lexer.specs.declared.compile.roles.Role.{Role}

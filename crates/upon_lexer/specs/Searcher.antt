@@ -1,6 +1,6 @@
 -- The delimiters that a searcher looks for.
 use Rattle.std.specs.Prelude.{List}
-use Rattle.upon_language.specs.Search.{DelimiterText}
+use Rattle.upon_language_spec.specs.Search.{DelimiterText}
 use Rattle.upon_lexer.specs.Syntax.{syntax_delimiters}
 use Rattle.upon_lexer.specs.declared.compile.search.Searcher.{Searcher}
 

@@ -4,9 +4,9 @@ use Rattle.std.specs.Char.{is_ascii_digit}
 use Rattle.upon_types.specs.declared.types.Span.{Span}
 use Rattle.upon_types.specs.declared.types.token.Token.{Token}
 use Rattle.upon_types.specs.declared.types.token.Token.TheVariants.{Index, Number, String}
-use Rattle.upon_language.specs.Words.{IsRun}
-use Rattle.upon_language.specs.Inside.{continues_number, IsQuoted}
-use Rattle.upon_language.specs.Tokens.{is_raw}
+use Rattle.upon_language_spec.specs.Words.{IsRun}
+use Rattle.upon_language_spec.specs.Inside.{continues_number, IsQuoted}
+use Rattle.upon_language_spec.specs.Tokens.{is_raw}
 
 -- a string has its quotes, an index is digits, and a number is a run of what numbers are written with
 pub record IsSpelled (s : List ℕ) (t : Token) (span : Span) : Type 0 where

@@ -1,6 +1,6 @@
 -- The delimiters of a syntax.
 use Rattle.std.specs.Prelude.{List}
-use Rattle.upon_language.specs.Search.{DelimiterText}
+use Rattle.upon_language_spec.specs.Search.{DelimiterText}
 use Rattle.upon_lexer.specs.Entries.{entries_list}
 use Rattle.upon_lexer.specs.declared.types.syntax.Syntax.{Syntax}
 

@@ -1,6 +1,6 @@
 -- A trie of the texts of delimiters.
 use Rattle.std.specs.Prelude.{◌≡◌, ℕ, ◌+◌, ◌<◌, ◌≤◌, List, Option, None, Some, length, MatchOption}
-use Rattle.upon_language.specs.Search.{DelimiterText, text_at, Occurs, NoneAt, IsBest}
+use Rattle.upon_language_spec.specs.Search.{DelimiterText, text_at, Occurs, NoneAt, IsBest}
 use Rattle.upon_lexer.specs.declared.types.syntax.trie.Node.{Node}
 use Rattle.upon_lexer.specs.Nodes.{IsLinked, node_at, Leads}
 

@@ -1,7 +1,7 @@
 -- How a searcher looks for the next delimiter.
 use Rattle.std.specs.Prelude.{◌≡◌, List}
-use Rattle.upon_language.specs.DefaultDelimiters.{default_delimiters}
-use Rattle.upon_language.specs.Search.{DelimiterText}
+use Rattle.upon_language_spec.specs.DefaultDelimiters.{default_delimiters}
+use Rattle.upon_language_spec.specs.Search.{DelimiterText}
 use Rattle.upon_lexer.specs.FirstBytes.{BeginWithOneOf}
 use Rattle.upon_lexer.specs.Marks.{MarksEach}
 use Rattle.upon_lexer.specs.declared.compile.search.Way.{Way}

@@ -3,10 +3,10 @@ ghost use Rattle.std.specs.Prelude.{◌≡◌, ◌⊎◌, ℕ, List, length};
 ghost use Rattle.std.specs.Str.{IsUtf8};
 ghost use Rattle.upon_types.specs.declared.types.Span.{Span};
 ghost use Rattle.upon_types.specs.Tree.{Statements};
-ghost use Rattle.upon_language.specs.Grammar.{HasTree};
-ghost use Rattle.upon_language.specs.FirstFault.{IsFirstFault};
-ghost use Rattle.upon_language.specs.DefaultDelimiters.{default_delimiters};
-ghost use Rattle.upon_language.specs.Search.{DelimiterText};
+ghost use Rattle.upon_language_spec.specs.Grammar.{HasTree};
+ghost use Rattle.upon_language_spec.specs.FirstFault.{IsFirstFault};
+ghost use Rattle.upon_language_spec.specs.DefaultDelimiters.{default_delimiters};
+ghost use Rattle.upon_language_spec.specs.Search.{DelimiterText};
 ghost use Rattle.upon_lexer.specs.Grown.{nodes_of};
 ghost use Rattle.upon_lexer.specs.Trie.{IsTrieOf};
 

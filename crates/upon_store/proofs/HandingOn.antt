@@ -3,10 +3,10 @@ use Rattle.std.proofs.Common.{◌≡◌, ◌∙◌, ℕ, List, Option, Some, Non
 use Rattle.upon_types.specs.Tree.{Statements}
 use Rattle.upon_render.specs.Finding.{reply}
 use Rattle.upon_render.specs.Source.{says}
-use Rattle.upon_meaning.specs.Engine.{Template}
-use Rattle.upon_meaning.specs.Includes.{Reaches}
-use Rattle.upon_meaning.specs.Names.{AgreeOn}
-use Rattle.upon_meaning.specs.Sources.{HandsOnFrom, AnswerAlike}
+use Rattle.upon_meaning_spec.specs.Engine.{Template}
+use Rattle.upon_meaning_spec.specs.Includes.{Reaches}
+use Rattle.upon_meaning_spec.specs.Names.{AgreeOn}
+use Rattle.upon_meaning_spec.specs.Sources.{HandsOnFrom, AnswerAlike}
 use Rattle.upon_engine.specs.HandsOn.{shown_answer}
 use Rattle.upon_engine.specs.Template.{template_of}
 use Rattle.upon_engine.specs.declared.template.Template.{Template as Held}

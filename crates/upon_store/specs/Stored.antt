@@ -8,10 +8,10 @@ use Rattle.upon_types.specs.declared.error.Error.{Error}
 use Rattle.upon_types.specs.Tree.{Statements}
 use Rattle.upon_render.specs.Finding.{Reply, reply}
 use Rattle.upon_render.specs.Source.{SourceAnswer, says, refuses}
-use Rattle.upon_meaning.specs.Engine.{Template, Table, Resolver}
-use Rattle.upon_meaning.specs.Includes.{Reaches}
-use Rattle.upon_meaning.specs.Outcome.{Outcome}
-use Rattle.upon_renderer.specs.Reports.{Writes}
+use Rattle.upon_meaning_spec.specs.Engine.{Template, Table, Resolver}
+use Rattle.upon_meaning_spec.specs.Includes.{Reaches}
+use Rattle.upon_meaning_spec.specs.Outcome.{Outcome}
+use Rattle.upon_vm.specs.Reports.{Writes}
 use Rattle.upon_engine.specs.HandsOn.{hands_on}
 use Rattle.upon_engine.specs.Template.{template_of}
 use Rattle.upon_engine.specs.declared.template.Template.{Template as Held}

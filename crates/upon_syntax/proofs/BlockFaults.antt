@@ -3,16 +3,16 @@ use Rattle.std.proofs.Common.{◌≡◌, ℕ, List, [], ◌∷◌, ◌++◌, len
 use Rattle.std.specs.Str.{IsUtf8}
 use Rattle.upon_types.specs.declared.types.Span.{Span}
 use Rattle.upon_types.specs.Span.{LiesIn}
-use Rattle.upon_language.specs.Search.{DelimiterText, HasTexts}
-use Rattle.upon_language.specs.LiesIn.{HasUtf8}
-use Rattle.upon_language.specs.Cut.{Lexeme, outside}
-use Rattle.upon_language.specs.Blocks.{OpenBlock, outermost, block_word}
-use Rattle.upon_language.specs.FirstFault.{IsFirstFault}
-use Rattle.upon_language.specs.Lexing.{LexerState}
-use Rattle.upon_language.specs.Wanted.{in_quotes}
-use Rattle.upon_language.proofs.Spans.FirstFault.{fault_lies_in}
-use Rattle.upon_language.proofs.SpansLieIn.Characters.{had_utf8}
-use Rattle.upon_language.proofs.Totality.Stage.{unclosed_is_first}
+use Rattle.upon_language_spec.specs.Search.{DelimiterText, HasTexts}
+use Rattle.upon_language_spec.specs.LiesIn.{HasUtf8}
+use Rattle.upon_language_spec.specs.Cut.{Lexeme, outside}
+use Rattle.upon_language_spec.specs.Blocks.{OpenBlock, outermost, block_word}
+use Rattle.upon_language_spec.specs.FirstFault.{IsFirstFault}
+use Rattle.upon_language_spec.specs.Lexing.{LexerState}
+use Rattle.upon_language_spec.specs.Wanted.{in_quotes}
+use Rattle.upon_language_spec.proofs.Spans.FirstFault.{fault_lies_in}
+use Rattle.upon_language_spec.proofs.SpansLieIn.Characters.{had_utf8}
+use Rattle.upon_language_spec.proofs.Totality.Stage.{unclosed_is_first}
 use Rattle.upon_syntax.specs.PieceReading.{BetweenPieces}
 use Rattle.upon_syntax.proofs.NextTokens.{reads_in, stage_of}
 

@@ -3,16 +3,16 @@ use Rattle.std.proofs.Common.{◌≡◌, ℕ, List, [], ◌∷◌, ◌++◌, tru
 use Rattle.upon_types.specs.declared.types.Span.{Span}
 use Rattle.upon_types.specs.declared.types.token.Token.{Token}
 use Rattle.upon_types.specs.declared.types.token.Token.TheVariants.{EndBlock, Keyword}
-use Rattle.upon_language.specs.Cut.{Lexeme}
-use Rattle.upon_language.specs.Tokens.{from_to}
-use Rattle.upon_language.specs.Grammar.{BeginsBlock}
-use Rattle.upon_language.specs.Blocks.{Block, if_block, for_block, with_block, OpenBlock, Closer, else_if, plain_else, end_if, end_for, end_with, else_by, closer_by, closer_of, end_from, by_word, takes, after_closer}
-use Rattle.upon_language.proofs.NoTreeWithFault.InsideTag.{is_inside, EachInside}
-use Rattle.upon_language.proofs.NoTreeWithFault.TagBlocks.{begins_block, Closing, Walks, walks_then, walks_plain, walks_begin, else_at}
-use Rattle.upon_language.proofs.NoTreeWithFault.ReadBefore.{inside_begins_nothing}
-use Rattle.upon_language.proofs.Totality.OpenBlocks.{closer_is}
+use Rattle.upon_language_spec.specs.Cut.{Lexeme}
+use Rattle.upon_language_spec.specs.Tokens.{from_to}
+use Rattle.upon_language_spec.specs.Grammar.{BeginsBlock}
+use Rattle.upon_language_spec.specs.Blocks.{Block, if_block, for_block, with_block, OpenBlock, Closer, else_if, plain_else, end_if, end_for, end_with, else_by, closer_by, closer_of, end_from, by_word, takes, after_closer}
+use Rattle.upon_language_spec.proofs.NoTreeWithFault.InsideTag.{is_inside, EachInside}
+use Rattle.upon_language_spec.proofs.NoTreeWithFault.TagBlocks.{begins_block, Closing, Walks, walks_then, walks_plain, walks_begin, else_at}
+use Rattle.upon_language_spec.proofs.NoTreeWithFault.ReadBefore.{inside_begins_nothing}
+use Rattle.upon_language_spec.proofs.Totality.OpenBlocks.{closer_is}
 use Rattle.upon_syntax.specs.OpenBlocks.{new_block, closed_by, after_tag, IsTaken}
-use Rattle.upon_tags.specs.BlockTags.{BlockTag, if_tag, else_if_tag, else_tag, endif_tag, for_tag, endfor_tag, with_tag, endwith_tag, include_tag, IsBlockTag}
+use Rattle.upon_tag_parser.specs.BlockTags.{BlockTag, if_tag, else_if_tag, else_tag, endif_tag, for_tag, endfor_tag, with_tag, endwith_tag, include_tag, IsBlockTag}
 
 inside_no_end : (t : Token) (a b : Span) → is_inside t ≡ true → (elim t as (λ _. Span) [ EndBlock ↦ a | _ ↦ b ]) ≡ b
 inside_no_end EndBlock a b h = absurd cc

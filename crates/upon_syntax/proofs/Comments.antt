@@ -3,20 +3,20 @@ use Rattle.std.proofs.Common.{◌≡◌, inl, inr, ℕ, List, [], ◌∷◌, ◌
 use Rattle.upon_types.specs.declared.types.Span.{Span}
 use Rattle.upon_types.specs.declared.types.token.Token.{Token}
 use Rattle.upon_types.specs.declared.types.token.Token.TheVariants.{Raw, BeginComment, EndComment}
-use Rattle.upon_language.specs.Search.{DelimiterText, HasTexts}
-use Rattle.upon_language.specs.Raw.{IsRaw}
-use Rattle.upon_language.specs.Cut.{Lexeme, Mode, outside, in_comment, IsToken, mode_after}
-use Rattle.upon_language.specs.Blocks.{OpenBlock}
-use Rattle.upon_language.specs.Faults.{span_of}
-use Rattle.upon_language.specs.FirstFault.{IsFirstFault}
-use Rattle.upon_language.specs.LaterFaults.{is_comment_begin, comment_wants}
-use Rattle.upon_language.specs.Lexing.{LexerState, HasRead, IsGiven}
-use Rattle.upon_language.specs.Reading.{last_of}
-use Rattle.upon_language.specs.Wanted.{expected_found}
-use Rattle.upon_language.proofs.NoTreeWithFault.InsideTag.{raw_then_raw}
-use Rattle.upon_language.proofs.OneCut.Token.{raw_is_no_end}
-use Rattle.upon_language.proofs.Totality.InsideClear.{last_more}
-use Rattle.upon_language.proofs.Totality.Stage.{outside_is_clear, comment_is_clear, empty_is_first, comment_eof_is_first}
+use Rattle.upon_language_spec.specs.Search.{DelimiterText, HasTexts}
+use Rattle.upon_language_spec.specs.Raw.{IsRaw}
+use Rattle.upon_language_spec.specs.Cut.{Lexeme, Mode, outside, in_comment, IsToken, mode_after}
+use Rattle.upon_language_spec.specs.Blocks.{OpenBlock}
+use Rattle.upon_language_spec.specs.Faults.{span_of}
+use Rattle.upon_language_spec.specs.FirstFault.{IsFirstFault}
+use Rattle.upon_language_spec.specs.LaterFaults.{is_comment_begin, comment_wants}
+use Rattle.upon_language_spec.specs.Lexing.{LexerState, HasRead, IsGiven}
+use Rattle.upon_language_spec.specs.Reading.{last_of}
+use Rattle.upon_language_spec.specs.Wanted.{expected_found}
+use Rattle.upon_language_spec.proofs.NoTreeWithFault.InsideTag.{raw_then_raw}
+use Rattle.upon_language_spec.proofs.OneCut.Token.{raw_is_no_end}
+use Rattle.upon_language_spec.proofs.Totality.InsideClear.{last_more}
+use Rattle.upon_language_spec.proofs.Totality.Stage.{outside_is_clear, comment_is_clear, empty_is_first, comment_eof_is_first}
 use Rattle.upon_syntax.specs.PieceReading.{ReadTo, TokenGiven, token_lexeme, AfterCommentBegin, AfterCommentRaw, PassesEnd}
 use Rattle.upon_syntax.proofs.NextTokens.{reads_in, stage_of, Step, step_of, read_on, below_end}
 

@@ -1,7 +1,7 @@
 -- A cut in two parts, one after the other.
 use Rattle.std.proofs.Common.{◌≡◌, ℕ, List, [], ◌∷◌, ◌++◌, refl, sym, ◌∙◌, subst}
-use Rattle.upon_language.specs.Search.{DelimiterText}
-use Rattle.upon_language.specs.Cut.{Lexeme, Mode, mode_after, Cut}
+use Rattle.upon_language_spec.specs.Search.{DelimiterText}
+use Rattle.upon_language_spec.specs.Cut.{Lexeme, Mode, mode_after, Cut}
 
 -- a cut over two lists of tokens
 pub record TwoCuts (delimiters : List DelimiterText) (s : List ℕ) (mode : Mode) (m : ℕ) (ls ks : List Lexeme) (mode' : Mode) (n : ℕ) : Type 0 where

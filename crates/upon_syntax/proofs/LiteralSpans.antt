@@ -7,18 +7,18 @@ use Rattle.upon_types.specs.declared.types.Span.{Span}
 use Rattle.upon_types.specs.declared.types.token.Token.{Token}
 use Rattle.upon_types.specs.declared.types.token.Token.TheVariants.{Minus, Plus}
 use Rattle.upon_types.specs.Span.{LiesIn, slice}
-use Rattle.upon_language.specs.Cut.{Lexeme}
-use Rattle.upon_language.specs.Words.{IsRun}
-use Rattle.upon_language.specs.Inside.{continues_number}
-use Rattle.upon_language.specs.Tokens.{is_raw}
-use Rattle.upon_language.specs.Literal.{IsInteger, digits_in}
-use Rattle.upon_language.specs.LiteralFaults.{NumberFault, bad_digit, too_large, number_fault, is_float, base_text}
-use Rattle.upon_language.specs.Faults.{span_of}
-use Rattle.upon_language.specs.LaterFaults.{Report, minus_before, start_from, number_report_of, number_report}
-use Rattle.upon_language.proofs.NoTreeWithFault.LiteralValue.{integer_no_fault}
-use Rattle.upon_language.proofs.Totality.LiteralValues.{ascii_digits}
-use Rattle.upon_language.proofs.Spans.Literals.{number_between, digit_in_number}
-use Rattle.upon_language.proofs.Spans.FirstFault.{told_place}
+use Rattle.upon_language_spec.specs.Cut.{Lexeme}
+use Rattle.upon_language_spec.specs.Words.{IsRun}
+use Rattle.upon_language_spec.specs.Inside.{continues_number}
+use Rattle.upon_language_spec.specs.Tokens.{is_raw}
+use Rattle.upon_language_spec.specs.Literal.{IsInteger, digits_in}
+use Rattle.upon_language_spec.specs.LiteralFaults.{NumberFault, bad_digit, too_large, number_fault, is_float, base_text}
+use Rattle.upon_language_spec.specs.Faults.{span_of}
+use Rattle.upon_language_spec.specs.LaterFaults.{Report, minus_before, start_from, number_report_of, number_report}
+use Rattle.upon_language_spec.proofs.NoTreeWithFault.LiteralValue.{integer_no_fault}
+use Rattle.upon_language_spec.proofs.Totality.LiteralValues.{ascii_digits}
+use Rattle.upon_language_spec.proofs.Spans.Literals.{number_between, digit_in_number}
+use Rattle.upon_language_spec.proofs.Spans.FirstFault.{told_place}
 use Rattle.upon_syntax.specs.TagEnds.{SignLies}
 
 -- a number that denotes an integer has no report

@@ -7,19 +7,19 @@ use Rattle.upon_types.specs.declared.types.token.Token.{Token}
 use Rattle.upon_types.specs.declared.error.Error.{Error}
 use Rattle.upon_types.specs.Error.{fault_of}
 use Rattle.upon_types.specs.Fault.{syntax, bare_fault, fault_with_picture, OrMemory}
-use Rattle.upon_language.specs.Search.{DelimiterText, HasTexts}
-use Rattle.upon_language.specs.Cut.{Lexeme, Mode, outside, in_tag, in_comment, IsToken, Cut, mode_after}
-use Rattle.upon_language.specs.CutFaults.{ClearTo}
-use Rattle.upon_language.specs.Faults.{span_of}
-use Rattle.upon_language.specs.FirstFault.{IsFirstFault}
-use Rattle.upon_language.specs.Lexing.{LexerState, HasRead, begin_in, brackets_in, EachIsSpace, Lexes, LexesAfterSpace, IsCutError}
-use Rattle.upon_language.specs.Reading.{ReadsTo}
-use Rattle.upon_language.specs.Tokens.{is_space}
-use Rattle.upon_language.proofs.NoTreeWithFault.NextToken.{begin_is_no_space}
-use Rattle.upon_language.proofs.OneCut.Token.{step_ends}
-use Rattle.upon_language.proofs.Totality.First.{cut_is_first}
-use Rattle.upon_language.proofs.Totality.FittingClears.{AllClear, NoLaterFault, clear_behind}
-use Rattle.upon_language.proofs.Totality.Stage.{Stage}
+use Rattle.upon_language_spec.specs.Search.{DelimiterText, HasTexts}
+use Rattle.upon_language_spec.specs.Cut.{Lexeme, Mode, outside, in_tag, in_comment, IsToken, Cut, mode_after}
+use Rattle.upon_language_spec.specs.CutFaults.{ClearTo}
+use Rattle.upon_language_spec.specs.Faults.{span_of}
+use Rattle.upon_language_spec.specs.FirstFault.{IsFirstFault}
+use Rattle.upon_language_spec.specs.Lexing.{LexerState, HasRead, begin_in, brackets_in, EachIsSpace, Lexes, LexesAfterSpace, IsCutError}
+use Rattle.upon_language_spec.specs.Reading.{ReadsTo}
+use Rattle.upon_language_spec.specs.Tokens.{is_space}
+use Rattle.upon_language_spec.proofs.NoTreeWithFault.NextToken.{begin_is_no_space}
+use Rattle.upon_language_spec.proofs.OneCut.Token.{step_ends}
+use Rattle.upon_language_spec.proofs.Totality.First.{cut_is_first}
+use Rattle.upon_language_spec.proofs.Totality.FittingClears.{AllClear, NoLaterFault, clear_behind}
+use Rattle.upon_language_spec.proofs.Totality.Stage.{Stage}
 use Rattle.upon_syntax.specs.PieceReading.{ReadTo}
 use Rattle.upon_syntax.specs.TagReading.{IsSyntaxError}
 use Rattle.upon_syntax.proofs.CutParts.{cut_same, cut_rest}

@@ -6,9 +6,9 @@ use Rattle.std.proofs.lemmas.List.{append-nil}
 use Rattle.std.proofs.Math.ListN.{set}
 use Rattle.std.proofs.Math.Seq.{set-append_seam, get_or-append_seam}
 use Rattle.upon_types.specs.declared.types.Span.{Span}
-use Rattle.upon_language.specs.Blocks.{Block, if_block, for_block, with_block, OpenBlock, Closer, else_if, plain_else, end_if, end_for, end_with, block_takes, takes, after_closer, outermost}
+use Rattle.upon_language_spec.specs.Blocks.{Block, if_block, for_block, with_block, OpenBlock, Closer, else_if, plain_else, end_if, end_for, end_with, block_takes, takes, after_closer, outermost}
 use Rattle.upon_syntax.specs.declared.compile.parse.open_blocks.OpenBlock.{OpenBlock as CodeBlock}
-use Rattle.upon_tags.specs.BlockTags.{BlockTag, if_tag, else_if_tag, else_tag, endif_tag, for_tag, endfor_tag, with_tag, endwith_tag, include_tag}
+use Rattle.upon_tag_parser.specs.BlockTags.{BlockTag, if_tag, else_if_tag, else_tag, endif_tag, for_tag, endfor_tag, with_tag, endwith_tag, include_tag}
 use Rattle.upon_syntax.specs.Pieces.{BlockKind, else_after, else_if_after, closed_after, blocks_after_tag}
 use Rattle.upon_syntax.specs.OpenBlocks.{block_of, stack_from, innermost, kinds_of, after_tag, IsTaken}
 

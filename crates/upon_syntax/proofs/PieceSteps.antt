@@ -4,22 +4,22 @@ use Rattle.std.proofs.lemmas.List.{append-nil}
 use Rattle.upon_types.specs.declared.types.Span.{Span}
 use Rattle.upon_types.specs.declared.types.token.Token.{Token}
 use Rattle.upon_types.specs.declared.types.token.Token.TheVariants.{Raw, BeginExpr, BeginBlock, BeginComment, EndComment}
-use Rattle.upon_language.specs.Search.{DelimiterText, HasTexts}
-use Rattle.upon_language.specs.Delimiters.{Sort, expression, block, comment, begin_token}
-use Rattle.upon_language.specs.Cut.{Lexeme, Mode, outside, IsToken, Cut}
-use Rattle.upon_language.specs.Blocks.{OpenBlock, blocks_from, open_blocks}
-use Rattle.upon_language.specs.Lexing.{LexerState, HasRead, Lexes, IsGiven, is_trimming_end}
-use Rattle.upon_language.specs.Shown.{shown_span, shown_lexemes, begin_trims, is_end}
-use Rattle.upon_language.specs.Tokens.{significant}
-use Rattle.upon_language.proofs.GivenTokens.Shown.{next_trims}
-use Rattle.upon_language.proofs.NoTreeWithFault.ReadBefore.{Ended, read_before}
-use Rattle.upon_language.proofs.NoTreeWithFault.TagBlocks.{AllTaken, Walks, walks_nothing, walks_one}
-use Rattle.upon_language.proofs.OneCut.Cut.{cut_ends, cut_joined, takes_some}
-use Rattle.upon_language.proofs.Totality.FittingClears.{AllClear}
-use Rattle.upon_language.proofs.Totality.InsideClear.{last_more}
-use Rattle.upon_language.proofs.Totality.OpenBlocks.{blocks_append, taken_append}
-use Rattle.upon_language.proofs.Totality.Pieces.{Known}
-use Rattle.upon_language.proofs.Totality.Stage.{outside_is_clear}
+use Rattle.upon_language_spec.specs.Search.{DelimiterText, HasTexts}
+use Rattle.upon_language_spec.specs.Delimiters.{Sort, expression, block, comment, begin_token}
+use Rattle.upon_language_spec.specs.Cut.{Lexeme, Mode, outside, IsToken, Cut}
+use Rattle.upon_language_spec.specs.Blocks.{OpenBlock, blocks_from, open_blocks}
+use Rattle.upon_language_spec.specs.Lexing.{LexerState, HasRead, Lexes, IsGiven, is_trimming_end}
+use Rattle.upon_language_spec.specs.Shown.{shown_span, shown_lexemes, begin_trims, is_end}
+use Rattle.upon_language_spec.specs.Tokens.{significant}
+use Rattle.upon_language_spec.proofs.GivenTokens.Shown.{next_trims}
+use Rattle.upon_language_spec.proofs.NoTreeWithFault.ReadBefore.{Ended, read_before}
+use Rattle.upon_language_spec.proofs.NoTreeWithFault.TagBlocks.{AllTaken, Walks, walks_nothing, walks_one}
+use Rattle.upon_language_spec.proofs.OneCut.Cut.{cut_ends, cut_joined, takes_some}
+use Rattle.upon_language_spec.proofs.Totality.FittingClears.{AllClear}
+use Rattle.upon_language_spec.proofs.Totality.InsideClear.{last_more}
+use Rattle.upon_language_spec.proofs.Totality.OpenBlocks.{blocks_append, taken_append}
+use Rattle.upon_language_spec.proofs.Totality.Pieces.{Known}
+use Rattle.upon_language_spec.proofs.Totality.Stage.{outside_is_clear}
 use Rattle.upon_syntax.specs.OpenBlocks.{kinds_of}
 use Rattle.upon_syntax.specs.PieceReading.{ReadTo, BetweenPieces, token_lexeme, TokenGiven, ReadsOn, PassesComment, PiecesSoFar, GoesFurther}
 use Rattle.upon_syntax.specs.Pieces.{Piece, raw_piece, BlockKind, ArePieces, LeaveOpen}

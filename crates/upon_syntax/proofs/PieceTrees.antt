@@ -15,15 +15,15 @@ use Rattle.upon_types.specs.declared.types.ast.InlineExpr.{InlineExpr}
 use Rattle.upon_types.specs.declared.types.ast.Stmt.{Stmt}
 use Rattle.upon_types.specs.declared.types.ast.Stmt as stmt
 use Rattle.upon_types.proofs.Trees.{view-Raw, view-InlineExpr, view-Include}
-use Rattle.upon_language.specs.Cut.{Lexeme}
-use Rattle.upon_language.specs.Blocks.{Block, if_block, for_block, with_block, plain_else, block_takes}
-use Rattle.upon_language.specs.Grammar.{IsStatement, AreStatements, IsElse}
-use Rattle.upon_tags.specs.BlockTags.{if_tag, else_if_tag, else_tag, for_tag, with_tag, include_tag, tag_of}
+use Rattle.upon_language_spec.specs.Cut.{Lexeme}
+use Rattle.upon_language_spec.specs.Blocks.{Block, if_block, for_block, with_block, plain_else, block_takes}
+use Rattle.upon_language_spec.specs.Grammar.{IsStatement, AreStatements, IsElse}
+use Rattle.upon_tag_parser.specs.BlockTags.{if_tag, else_if_tag, else_tag, for_tag, with_tag, include_tag, tag_of}
 use Rattle.upon_syntax.specs.Pieces.{Piece, raw_piece, inline_piece, block_piece, IsPiece, ArePieces, piece_of, pieces_of, BlockKind, blocks_after, else_after, else_if_after, LeaveOpen}
 use Rattle.upon_syntax.specs.declared.compile.parse.piece.Piece.{Piece as CodePiece}
 use Rattle.upon_syntax.specs.declared.compile.parse.piece.Piece.TheVariants as code_piece
-use Rattle.upon_tags.specs.declared.compile.parse.tag.Tag.{Tag}
-use Rattle.upon_tags.specs.declared.compile.parse.tag.Tag.TheVariants as code_tag
+use Rattle.upon_tag_parser.specs.declared.compile.parse.tag.Tag.{Tag}
+use Rattle.upon_tag_parser.specs.declared.compile.parse.tag.Tag.TheVariants as code_tag
 use Rattle.upon_syntax.specs.PieceTrees.{branch_of, with_branch, IsBlockEnd, ReadsOut, Reads, Ends, EndEach, Closes, MayPrecede, Pushes, Enters, Leaves, ReadsPiece, IsClosed, ReadsWith}
 use Rattle.upon_syntax.specs.declared.compile.parse.tree.BlockEnd.{BlockEnd}
 use Rattle.upon_syntax.specs.declared.compile.parse.tree.BlockEnd.TheVariants.{If, For, With}

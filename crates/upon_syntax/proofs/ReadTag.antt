@@ -4,34 +4,34 @@ use Rattle.upon_types.specs.declared.types.Span.{Span}
 use Rattle.upon_types.specs.declared.types.token.Token.{Token}
 use Rattle.upon_types.specs.declared.types.token.Token.TheVariants.{Index, Number, String}
 use Rattle.upon_types.specs.Span.{slice}
-use Rattle.upon_language.specs.Search.{DelimiterText}
-use Rattle.upon_language.specs.Delimiters.{Sort, expression, block, comment, begin_token}
-use Rattle.upon_language.specs.Cut.{Lexeme, Mode, outside, in_tag, IsToken, mode_after, Cut}
-use Rattle.upon_language.specs.Inside.{IsInside, in_path_after}
-use Rattle.upon_language.specs.Tokens.{is_space, without_spaces}
-use Rattle.upon_language.specs.Tags.{symbol_of, symbols_of, word_of}
-use Rattle.upon_language.specs.Reading.{ReadsTo, last_of, opens_tag, from_begin, open_tag}
-use Rattle.upon_language.specs.Faults.{span_of, lexeme_at, tag_tokens}
-use Rattle.upon_language.specs.LaterFaults.{Report, number_report}
-use Rattle.upon_language.specs.CutFaults.{ClearTo, IsFirstCutFault}
-use Rattle.upon_language.specs.FirstFault.{wrong_number, wrong_index, wrong_escape, IsFirstFault}
-use Rattle.upon_language.specs.Lexing.{LexerState}
-use Rattle.upon_language.specs.Parts.{Part, tag_start, after_symbol, Path, wanted_at}
-use Rattle.upon_language.specs.Wanted.{Wanted, reason_for, wanted_at_end, expected_found}
-use Rattle.upon_language.proofs.NoTreeWithFault.FineAt.{last_or}
-use Rattle.upon_language.proofs.NoTreeWithFault.InsideTag.{EachInside, inside_stays, no_space_step, spaces_append}
-use Rattle.upon_language.proofs.NoTreeWithFault.NextToken.{begin_is_no_space}
-use Rattle.upon_language.proofs.NoTreeWithFault.SplitInTag.{last_is}
-use Rattle.upon_language.proofs.NoTreeWithFault.BeforeTag.{inner_from}
-use Rattle.upon_language.proofs.OneCut.Cut.{cut_ends}
-use Rattle.upon_language.proofs.OneCut.Token.{step_ends}
-use Rattle.upon_language.proofs.Totality.FittingClears.{StandsAt, AllClear, stuck_end}
-use Rattle.upon_language.proofs.Totality.First.{first_at, cut_is_first, end_is_first}
-use Rattle.upon_language.proofs.Totality.LiteralHere.{begins, least, least_index, least_escape}
-use Rattle.upon_language.proofs.Totality.Stage.{Stage}
-use Rattle.upon_language.proofs.Totality.InsideClear.{LiteralsFine, inside_clear, stuck_is_first, split_spaces}
+use Rattle.upon_language_spec.specs.Search.{DelimiterText}
+use Rattle.upon_language_spec.specs.Delimiters.{Sort, expression, block, comment, begin_token}
+use Rattle.upon_language_spec.specs.Cut.{Lexeme, Mode, outside, in_tag, IsToken, mode_after, Cut}
+use Rattle.upon_language_spec.specs.Inside.{IsInside, in_path_after}
+use Rattle.upon_language_spec.specs.Tokens.{is_space, without_spaces}
+use Rattle.upon_language_spec.specs.Tags.{symbol_of, symbols_of, word_of}
+use Rattle.upon_language_spec.specs.Reading.{ReadsTo, last_of, opens_tag, from_begin, open_tag}
+use Rattle.upon_language_spec.specs.Faults.{span_of, lexeme_at, tag_tokens}
+use Rattle.upon_language_spec.specs.LaterFaults.{Report, number_report}
+use Rattle.upon_language_spec.specs.CutFaults.{ClearTo, IsFirstCutFault}
+use Rattle.upon_language_spec.specs.FirstFault.{wrong_number, wrong_index, wrong_escape, IsFirstFault}
+use Rattle.upon_language_spec.specs.Lexing.{LexerState}
+use Rattle.upon_language_spec.specs.Parts.{Part, tag_start, after_symbol, Path, wanted_at}
+use Rattle.upon_language_spec.specs.Wanted.{Wanted, reason_for, wanted_at_end, expected_found}
+use Rattle.upon_language_spec.proofs.NoTreeWithFault.FineAt.{last_or}
+use Rattle.upon_language_spec.proofs.NoTreeWithFault.InsideTag.{EachInside, inside_stays, no_space_step, spaces_append}
+use Rattle.upon_language_spec.proofs.NoTreeWithFault.NextToken.{begin_is_no_space}
+use Rattle.upon_language_spec.proofs.NoTreeWithFault.SplitInTag.{last_is}
+use Rattle.upon_language_spec.proofs.NoTreeWithFault.BeforeTag.{inner_from}
+use Rattle.upon_language_spec.proofs.OneCut.Cut.{cut_ends}
+use Rattle.upon_language_spec.proofs.OneCut.Token.{step_ends}
+use Rattle.upon_language_spec.proofs.Totality.FittingClears.{StandsAt, AllClear, stuck_end}
+use Rattle.upon_language_spec.proofs.Totality.First.{first_at, cut_is_first, end_is_first}
+use Rattle.upon_language_spec.proofs.Totality.LiteralHere.{begins, least, least_index, least_escape}
+use Rattle.upon_language_spec.proofs.Totality.Stage.{Stage}
+use Rattle.upon_language_spec.proofs.Totality.InsideClear.{LiteralsFine, inside_clear, stuck_is_first, split_spaces}
 use Rattle.upon_syntax.specs.declared.compile.parse.tag_tokens.Ended.{Ended}
-use Rattle.upon_tags.specs.TagTokens.{EachTagToken}
+use Rattle.upon_tag_parser.specs.TagTokens.{EachTagToken}
 use Rattle.upon_syntax.specs.TagEnds.{DenotesNothing}
 use Rattle.upon_syntax.specs.TagFaults.{TagRead}
 use Rattle.upon_syntax.proofs.CutParts.{TwoCuts, cut_split, cut_rest}

@@ -4,25 +4,25 @@ use Rattle.std.specs.Str.{IsUtf8}
 use Rattle.upon_types.specs.declared.types.Span.{Span}
 use Rattle.upon_types.specs.declared.types.token.Token.TheVariants.{BeginExpr, BeginBlock}
 use Rattle.upon_types.specs.Expression.{Expression}
-use Rattle.upon_language.specs.Search.{DelimiterText, HasTexts}
-use Rattle.upon_language.specs.LiesIn.{HasUtf8}
-use Rattle.upon_language.specs.Delimiters.{expression, block}
-use Rattle.upon_language.specs.Cut.{Lexeme, outside, in_tag}
-use Rattle.upon_language.specs.Blocks.{OpenBlock, Closer, takes, closer_words}
-use Rattle.upon_language.specs.Faults.{span_of}
-use Rattle.upon_language.specs.FirstFault.{IsFirstFault}
-use Rattle.upon_language.specs.Lexing.{LexerState, HasRead}
-use Rattle.upon_language.specs.Wanted.{in_quotes}
-use Rattle.upon_language.proofs.NoTreeWithFault.BeforeTag.{open_tag_is}
-use Rattle.upon_language.proofs.Totality.Stage.{outside_is_clear}
+use Rattle.upon_language_spec.specs.Search.{DelimiterText, HasTexts}
+use Rattle.upon_language_spec.specs.LiesIn.{HasUtf8}
+use Rattle.upon_language_spec.specs.Delimiters.{expression, block}
+use Rattle.upon_language_spec.specs.Cut.{Lexeme, outside, in_tag}
+use Rattle.upon_language_spec.specs.Blocks.{OpenBlock, Closer, takes, closer_words}
+use Rattle.upon_language_spec.specs.Faults.{span_of}
+use Rattle.upon_language_spec.specs.FirstFault.{IsFirstFault}
+use Rattle.upon_language_spec.specs.Lexing.{LexerState, HasRead}
+use Rattle.upon_language_spec.specs.Wanted.{in_quotes}
+use Rattle.upon_language_spec.proofs.NoTreeWithFault.BeforeTag.{open_tag_is}
+use Rattle.upon_language_spec.proofs.Totality.Stage.{outside_is_clear}
 use Rattle.upon_lexer.specs.declared.compile.lex.Lexer.{Lexer}
 use Rattle.upon_lexer.specs.Lexers.{lexer_text, lexer_delimiters, lexer_state, ReadSoFar}
 use Rattle.upon_syntax.specs.OpenBlocks.{closed_by, after_tag, IsTaken}
 use Rattle.upon_syntax.specs.PieceReading.{token_lexeme, TokenGiven, ReadsOn}
-use Rattle.upon_tags.specs.BlockTags.{BlockTag}
+use Rattle.upon_tag_parser.specs.BlockTags.{BlockTag}
 use Rattle.upon_syntax.specs.Pieces.{inline_piece, block_piece}
 use Rattle.upon_syntax.specs.TagReading.{AfterBegin, AfterEnd}
-use Rattle.upon_tags.specs.WholeTags.{IsInlineTag, IsTagInside}
+use Rattle.upon_tag_parser.specs.WholeTags.{IsInlineTag, IsTagInside}
 use Rattle.upon_syntax.proofs.NextTokens.{back, stage_of, read_on, below_end}
 use Rattle.upon_syntax.proofs.TagSteps.{inline_on, block_on, untaken_is_first}
 

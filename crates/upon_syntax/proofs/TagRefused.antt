@@ -7,36 +7,36 @@ use Rattle.upon_types.specs.declared.types.token.Token.TheVariants.{Index, Numbe
 use Rattle.upon_types.specs.declared.error.Error.{Error}
 use Rattle.upon_types.specs.Error.{fault_of}
 use Rattle.upon_types.specs.Fault.{OrMemory}
-use Rattle.upon_language.specs.Search.{DelimiterText}
-use Rattle.upon_language.specs.Delimiters.{Sort, expression, block, comment, end_token}
-use Rattle.upon_language.specs.Cut.{Lexeme, outside, in_tag, IsToken}
-use Rattle.upon_language.specs.Tokens.{is_space, without_spaces}
-use Rattle.upon_language.specs.Tags.{symbols_of, word_of}
-use Rattle.upon_language.specs.Keys.{Key, key_of}
-use Rattle.upon_language.specs.Faults.{span_of, lexeme_at}
-use Rattle.upon_language.specs.LaterFaults.{Report}
-use Rattle.upon_language.specs.CutFaults.{ClearTo}
-use Rattle.upon_language.specs.FirstFault.{IsFirstFault}
-use Rattle.upon_language.specs.LiteralWords.{fits_word}
-use Rattle.upon_language.specs.Parts.{Part, after, Path, wanted_at}
-use Rattle.upon_language.specs.Wanted.{Wanted, reason_for, wanted_at_end, expected_found}
-use Rattle.upon_language.proofs.NoTreeWithFault.FineAt.{last_or}
-use Rattle.upon_language.proofs.NoTreeWithFault.InsideTag.{end_is_no_space}
-use Rattle.upon_language.proofs.NoTreeWithFault.TagShapes.{ends_a_tag}
-use Rattle.upon_language.proofs.Wanted.LiteralWords.{Decided, number_decided, string_decided, index_decided}
-use Rattle.upon_tags.specs.declared.compile.parse.literal.Lexed.{Lexed}
-use Rattle.upon_tags.specs.declared.compile.parse.literal_fault.Refusal.{Refusal}
-use Rattle.upon_tags.specs.declared.compile.parse.want.Want.{Want}
+use Rattle.upon_language_spec.specs.Search.{DelimiterText}
+use Rattle.upon_language_spec.specs.Delimiters.{Sort, expression, block, comment, end_token}
+use Rattle.upon_language_spec.specs.Cut.{Lexeme, outside, in_tag, IsToken}
+use Rattle.upon_language_spec.specs.Tokens.{is_space, without_spaces}
+use Rattle.upon_language_spec.specs.Tags.{symbols_of, word_of}
+use Rattle.upon_language_spec.specs.Keys.{Key, key_of}
+use Rattle.upon_language_spec.specs.Faults.{span_of, lexeme_at}
+use Rattle.upon_language_spec.specs.LaterFaults.{Report}
+use Rattle.upon_language_spec.specs.CutFaults.{ClearTo}
+use Rattle.upon_language_spec.specs.FirstFault.{IsFirstFault}
+use Rattle.upon_language_spec.specs.LiteralWords.{fits_word}
+use Rattle.upon_language_spec.specs.Parts.{Part, after, Path, wanted_at}
+use Rattle.upon_language_spec.specs.Wanted.{Wanted, reason_for, wanted_at_end, expected_found}
+use Rattle.upon_language_spec.proofs.NoTreeWithFault.FineAt.{last_or}
+use Rattle.upon_language_spec.proofs.NoTreeWithFault.InsideTag.{end_is_no_space}
+use Rattle.upon_language_spec.proofs.NoTreeWithFault.TagShapes.{ends_a_tag}
+use Rattle.upon_language_spec.proofs.Wanted.LiteralWords.{Decided, number_decided, string_decided, index_decided}
+use Rattle.upon_tag_parser.specs.declared.compile.parse.literal.Lexed.{Lexed}
+use Rattle.upon_tag_parser.specs.declared.compile.parse.literal_fault.Refusal.{Refusal}
+use Rattle.upon_tag_parser.specs.declared.compile.parse.want.Want.{Want}
 use Rattle.upon_syntax.specs.declared.compile.parse.tag_tokens.Ended.{Ended}
 use Rattle.upon_syntax.specs.declared.compile.parse.tag_tokens.Ended.TheVariants.{End, Fault as CutFault, Literal, Eof}
-use Rattle.upon_tags.specs.Literals.{lexeme_of}
-use Rattle.upon_tags.specs.LiteralReasons.{report_of, literal_reason}
-use Rattle.upon_tags.specs.TagTokens.{lexemes_of}
-use Rattle.upon_tags.specs.TagParsing.{Refuses}
+use Rattle.upon_tag_parser.specs.Literals.{lexeme_of}
+use Rattle.upon_tag_parser.specs.LiteralReasons.{report_of, literal_reason}
+use Rattle.upon_tag_parser.specs.TagTokens.{lexemes_of}
+use Rattle.upon_tag_parser.specs.TagParsing.{Refuses}
 use Rattle.upon_syntax.specs.TagReading.{IsSyntaxError}
 use Rattle.upon_syntax.specs.TagEnds.{syntax_fault, tag_end, DenotesNothing, ReadsEnd, ReadsWrong, ReportsCut, EndsBy}
 use Rattle.upon_syntax.specs.TagFaults.{token_fault, GoesNoFurther}
-use Rattle.upon_tags.specs.Wants.{wanted_of}
+use Rattle.upon_tag_parser.specs.Wants.{wanted_of}
 use Rattle.upon_syntax.proofs.CutParts.{cut_rest}
 use Rattle.upon_syntax.proofs.ReadTag.{reads_on, stuck_inside, stuck_next, stuck_eof, stuck_cut, stuck_literal}
 

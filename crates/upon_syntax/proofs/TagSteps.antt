@@ -5,35 +5,35 @@ use Rattle.upon_types.specs.declared.types.Span.{Span}
 use Rattle.upon_types.specs.declared.types.token.Token.TheVariants.{BeginExpr, EndExpr, BeginBlock, EndBlock}
 use Rattle.upon_types.specs.Expression.{Expression}
 use Rattle.upon_types.specs.Tree.{inline_expr}
-use Rattle.upon_language.specs.Search.{DelimiterText, HasTexts}
-use Rattle.upon_language.specs.LiesIn.{HasUtf8}
-use Rattle.upon_language.specs.Delimiters.{Sort, expression, block, begin_token, end_token}
-use Rattle.upon_language.specs.Cut.{Lexeme, outside, in_tag, IsToken, Cut}
-use Rattle.upon_language.specs.Blocks.{OpenBlock, Closer, closer_of, takes, open_blocks, closer_words}
-use Rattle.upon_language.specs.Faults.{span_of, lexeme_at, tag_tokens}
-use Rattle.upon_language.specs.FirstFault.{IsFirstFault, unexpected_block}
-use Rattle.upon_language.specs.Grammar.{IsStatement}
-use Rattle.upon_language.specs.Lexing.{LexerState, HasRead}
-use Rattle.upon_language.specs.Reading.{opens_tag, open_tag, first_span, before_tag}
-use Rattle.upon_language.specs.Shown.{shown_lexemes, is_end}
-use Rattle.upon_language.specs.Tokens.{is_raw, begins_comment, without_spaces, significant}
-use Rattle.upon_language.specs.Wanted.{in_quotes}
-use Rattle.upon_language.proofs.NoTreeWithFault.BeforeTag.{open_tag_more, before_tag_more}
-use Rattle.upon_language.proofs.NoTreeWithFault.FineExpression.{passes_expression}
-use Rattle.upon_language.proofs.NoTreeWithFault.InsideTag.{EachInside, end_is_no_comment, end_is_no_space, end_leaves, kept}
-use Rattle.upon_language.proofs.NoTreeWithFault.TagBlocks.{Walks, walks_inline}
-use Rattle.upon_language.proofs.Totality.BlockEnd.{taken_end}
-use Rattle.upon_language.proofs.Totality.First.{first_at}
-use Rattle.upon_language.proofs.Totality.FittingClears.{AllClear, fitting_clears}
-use Rattle.upon_language.proofs.Totality.LiteralHere.{least_block}
-use Rattle.upon_language.proofs.Totality.Pieces.{Plain, plain_inside, plain_read, shown_read, shown_end}
-use Rattle.upon_language.proofs.Totality.Stage.{Stage, on}
-use Rattle.upon_language.proofs.Totality.WholeTag.{EndsAt, ended_tag}
+use Rattle.upon_language_spec.specs.Search.{DelimiterText, HasTexts}
+use Rattle.upon_language_spec.specs.LiesIn.{HasUtf8}
+use Rattle.upon_language_spec.specs.Delimiters.{Sort, expression, block, begin_token, end_token}
+use Rattle.upon_language_spec.specs.Cut.{Lexeme, outside, in_tag, IsToken, Cut}
+use Rattle.upon_language_spec.specs.Blocks.{OpenBlock, Closer, closer_of, takes, open_blocks, closer_words}
+use Rattle.upon_language_spec.specs.Faults.{span_of, lexeme_at, tag_tokens}
+use Rattle.upon_language_spec.specs.FirstFault.{IsFirstFault, unexpected_block}
+use Rattle.upon_language_spec.specs.Grammar.{IsStatement}
+use Rattle.upon_language_spec.specs.Lexing.{LexerState, HasRead}
+use Rattle.upon_language_spec.specs.Reading.{opens_tag, open_tag, first_span, before_tag}
+use Rattle.upon_language_spec.specs.Shown.{shown_lexemes, is_end}
+use Rattle.upon_language_spec.specs.Tokens.{is_raw, begins_comment, without_spaces, significant}
+use Rattle.upon_language_spec.specs.Wanted.{in_quotes}
+use Rattle.upon_language_spec.proofs.NoTreeWithFault.BeforeTag.{open_tag_more, before_tag_more}
+use Rattle.upon_language_spec.proofs.NoTreeWithFault.FineExpression.{passes_expression}
+use Rattle.upon_language_spec.proofs.NoTreeWithFault.InsideTag.{EachInside, end_is_no_comment, end_is_no_space, end_leaves, kept}
+use Rattle.upon_language_spec.proofs.NoTreeWithFault.TagBlocks.{Walks, walks_inline}
+use Rattle.upon_language_spec.proofs.Totality.BlockEnd.{taken_end}
+use Rattle.upon_language_spec.proofs.Totality.First.{first_at}
+use Rattle.upon_language_spec.proofs.Totality.FittingClears.{AllClear, fitting_clears}
+use Rattle.upon_language_spec.proofs.Totality.LiteralHere.{least_block}
+use Rattle.upon_language_spec.proofs.Totality.Pieces.{Plain, plain_inside, plain_read, shown_read, shown_end}
+use Rattle.upon_language_spec.proofs.Totality.Stage.{Stage, on}
+use Rattle.upon_language_spec.proofs.Totality.WholeTag.{EndsAt, ended_tag}
 use Rattle.upon_syntax.specs.OpenBlocks.{kinds_of, closed_by, after_tag, IsTaken}
 use Rattle.upon_syntax.specs.PieceReading.{ReadTo, token_lexeme, TokenGiven, ReadsOn}
-use Rattle.upon_tags.specs.BlockTags.{BlockTag, IsBlockTag}
+use Rattle.upon_tag_parser.specs.BlockTags.{BlockTag, IsBlockTag}
 use Rattle.upon_syntax.specs.Pieces.{Piece, inline_piece, block_piece, IsPiece, ArePieces, LeaveOpen}
-use Rattle.upon_tags.specs.WholeTags.{IsInlineTag, IsTagInside}
+use Rattle.upon_tag_parser.specs.WholeTags.{IsInlineTag, IsTagInside}
 use Rattle.upon_syntax.proofs.BlockTags.{tag_walks, tag_closer}
 use Rattle.upon_syntax.proofs.CutParts.{cut_rest}
 use Rattle.upon_syntax.proofs.OpenBlocks.{kinds_on}

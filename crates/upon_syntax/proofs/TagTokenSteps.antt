@@ -5,25 +5,25 @@ use Rattle.upon_types.specs.declared.types.Span.{Span}
 use Rattle.upon_types.specs.declared.types.token.Token.{Token}
 use Rattle.upon_types.specs.declared.types.token.Token.TheVariants.{Whitespace}
 use Rattle.upon_types.specs.declared.error.Error.{Error}
-use Rattle.upon_language.specs.Search.{DelimiterText}
-use Rattle.upon_language.specs.Delimiters.{Sort, end_token}
-use Rattle.upon_language.specs.Delimiters as sort
-use Rattle.upon_language.specs.Cut.{Lexeme, Mode, outside, in_tag, IsToken, Cut, mode_after}
-use Rattle.upon_language.specs.Inside.{IsInside, in_path_after}
-use Rattle.upon_language.specs.Tokens.{is_space, without_spaces}
-use Rattle.upon_language.specs.Faults.{lexeme_at}
-use Rattle.upon_language.specs.Lexing.{LexerState, HasRead, IsGiven, IsCutError, LexesAfterSpace, EachIsSpace}
-use Rattle.upon_language.specs.CutFaults.{ClearTo}
-use Rattle.upon_language.proofs.NoTreeWithFault.InsideTag.{is_inside, EachInside, extent_is_inside, inside_stays, spaces_append, space_step, no_space_step}
-use Rattle.upon_tags.specs.declared.compile.parse.literal.Lexed.{Lexed}
+use Rattle.upon_language_spec.specs.Search.{DelimiterText}
+use Rattle.upon_language_spec.specs.Delimiters.{Sort, end_token}
+use Rattle.upon_language_spec.specs.Delimiters as sort
+use Rattle.upon_language_spec.specs.Cut.{Lexeme, Mode, outside, in_tag, IsToken, Cut, mode_after}
+use Rattle.upon_language_spec.specs.Inside.{IsInside, in_path_after}
+use Rattle.upon_language_spec.specs.Tokens.{is_space, without_spaces}
+use Rattle.upon_language_spec.specs.Faults.{lexeme_at}
+use Rattle.upon_language_spec.specs.Lexing.{LexerState, HasRead, IsGiven, IsCutError, LexesAfterSpace, EachIsSpace}
+use Rattle.upon_language_spec.specs.CutFaults.{ClearTo}
+use Rattle.upon_language_spec.proofs.NoTreeWithFault.InsideTag.{is_inside, EachInside, extent_is_inside, inside_stays, spaces_append, space_step, no_space_step}
+use Rattle.upon_tag_parser.specs.declared.compile.parse.literal.Lexed.{Lexed}
 use Rattle.upon_syntax.specs.declared.compile.parse.tag_tokens.Ended.{Ended}
 use Rattle.upon_syntax.specs.declared.compile.parse.tag_tokens.Ended.TheVariants.{End, Fault as CutFault, Literal, Eof}
-use Rattle.upon_tags.specs.declared.compile.parse.literal_fault.Refusal.{Refusal}
-use Rattle.upon_tags.specs.Literals.{lexeme_of}
-use Rattle.upon_tags.specs.LiteralReasons.{report_of}
+use Rattle.upon_tag_parser.specs.declared.compile.parse.literal_fault.Refusal.{Refusal}
+use Rattle.upon_tag_parser.specs.Literals.{lexeme_of}
+use Rattle.upon_tag_parser.specs.LiteralReasons.{report_of}
 use Rattle.upon_syntax.specs.TagEnds.{DenotesNothing, StopsAt, ReportsCut, ReadsOn, ReadsUpTo, EndsBy}
-use Rattle.upon_language.proofs.NoTreeWithFault.FineAt.{last_or}
-use Rattle.upon_tags.specs.TagTokens.{IsTagToken, EachTagToken}
+use Rattle.upon_language_spec.proofs.NoTreeWithFault.FineAt.{last_or}
+use Rattle.upon_tag_parser.specs.TagTokens.{IsTagToken, EachTagToken}
 use Rattle.upon_syntax.proofs.CutParts.{cut_rest}
 
 pub each_joined : (xs ys : List Lexeme) → EachInside xs → EachInside ys → EachInside (xs ++ ys)

@@ -2,51 +2,51 @@
 use Rattle.std.proofs.Common.{◌≡◌, inl, inr, ℕ, ◌+◌, ◌^◌, nat_lt, List, [], ◌∷◌, ◌++◌, Bool, true, false, Option, Some, None, refl, sym, ap, ◌∙◌, subst, append_assoc, codes, if◌then◌else◌, Result, Err, IfErr}
 use Rattle.std.proofs.lemmas.Bool.{ltb-true}
 use Rattle.std.proofs.lemmas.List.{append-nil}
-use Rattle.upon_language.specs.Wanted.{Wanted}
+use Rattle.upon_language_spec.specs.Wanted.{Wanted}
 use Rattle.upon_types.specs.declared.types.Span.{Span}
 use Rattle.upon_types.specs.declared.types.token.Token.{Token}
 use Rattle.upon_types.specs.declared.types.token.Token.TheVariants.{Index, Number, String}
 use Rattle.upon_types.specs.Span.{LiesIn, slice}
 use Rattle.upon_types.specs.Token.{token_word}
 use Rattle.upon_types.specs.declared.error.Error.{Error}
-use Rattle.upon_language.specs.Search.{DelimiterText}
-use Rattle.upon_language.specs.Delimiters.{Sort, expression, block, comment, begin_token, end_token}
-use Rattle.upon_language.specs.Cut.{Lexeme, outside, in_tag}
-use Rattle.upon_language.specs.Tokens.{is_space, without_spaces}
-use Rattle.upon_language.specs.Tags.{symbol_of, symbols_of, word_of}
-use Rattle.upon_language.specs.Keys.{Key, key_of}
-use Rattle.upon_language.specs.Reading.{first_span, open_brackets}
-use Rattle.upon_language.specs.Literal.{sum_of_digits}
-use Rattle.upon_language.specs.LiteralFaults.{index_value}
-use Rattle.upon_language.specs.Faults.{span_of, lexeme_at}
-use Rattle.upon_language.specs.CutFaults.{ClearTo}
-use Rattle.upon_language.specs.FirstFault.{unclosed_bracket}
-use Rattle.upon_language.specs.Lexing.{LexerState, HasRead}
-use Rattle.upon_language.specs.Parts.{Part, tag_start, after, after_symbol, Path}
-use Rattle.upon_language.proofs.NoTreeWithFault.FineAt.{last_or}
-use Rattle.upon_language.proofs.NoTreeWithFault.InsideTag.{EachInside}
-use Rattle.upon_language.proofs.NoTreeWithFault.NextToken.{inside_ends_nothing}
-use Rattle.upon_language.proofs.NoTreeWithFault.TagShapes.{ends_a_tag}
-use Rattle.upon_language.proofs.OneCut.Cut.{one_cut_to}
-use Rattle.upon_language.proofs.OneCut.Token.{step_ends}
-use Rattle.upon_language.proofs.Totality.LiteralValues.{number_stands, text_stands}
-use Rattle.upon_language.proofs.Totality.TagTree.{StandsFor, EachStands}
-use Rattle.upon_language.proofs.Totality.WholeTag.{TagAt, EndsAt}
-use Rattle.upon_language.proofs.Totality.NextOrFault.{end_fits}
-use Rattle.upon_language.proofs.Wanted.Opened.{is_open, open_on}
+use Rattle.upon_language_spec.specs.Search.{DelimiterText}
+use Rattle.upon_language_spec.specs.Delimiters.{Sort, expression, block, comment, begin_token, end_token}
+use Rattle.upon_language_spec.specs.Cut.{Lexeme, outside, in_tag}
+use Rattle.upon_language_spec.specs.Tokens.{is_space, without_spaces}
+use Rattle.upon_language_spec.specs.Tags.{symbol_of, symbols_of, word_of}
+use Rattle.upon_language_spec.specs.Keys.{Key, key_of}
+use Rattle.upon_language_spec.specs.Reading.{first_span, open_brackets}
+use Rattle.upon_language_spec.specs.Literal.{sum_of_digits}
+use Rattle.upon_language_spec.specs.LiteralFaults.{index_value}
+use Rattle.upon_language_spec.specs.Faults.{span_of, lexeme_at}
+use Rattle.upon_language_spec.specs.CutFaults.{ClearTo}
+use Rattle.upon_language_spec.specs.FirstFault.{unclosed_bracket}
+use Rattle.upon_language_spec.specs.Lexing.{LexerState, HasRead}
+use Rattle.upon_language_spec.specs.Parts.{Part, tag_start, after, after_symbol, Path}
+use Rattle.upon_language_spec.proofs.NoTreeWithFault.FineAt.{last_or}
+use Rattle.upon_language_spec.proofs.NoTreeWithFault.InsideTag.{EachInside}
+use Rattle.upon_language_spec.proofs.NoTreeWithFault.NextToken.{inside_ends_nothing}
+use Rattle.upon_language_spec.proofs.NoTreeWithFault.TagShapes.{ends_a_tag}
+use Rattle.upon_language_spec.proofs.OneCut.Cut.{one_cut_to}
+use Rattle.upon_language_spec.proofs.OneCut.Token.{step_ends}
+use Rattle.upon_language_spec.proofs.Totality.LiteralValues.{number_stands, text_stands}
+use Rattle.upon_language_spec.proofs.Totality.TagTree.{StandsFor, EachStands}
+use Rattle.upon_language_spec.proofs.Totality.WholeTag.{TagAt, EndsAt}
+use Rattle.upon_language_spec.proofs.Totality.NextOrFault.{end_fits}
+use Rattle.upon_language_spec.proofs.Wanted.Opened.{is_open, open_on}
 use Rattle.upon_lexer.specs.declared.compile.lex.Lexer.{Lexer}
 use Rattle.upon_lexer.specs.Lexers.{lexer_text, lexer_delimiters, lexer_state}
-use Rattle.upon_tags.specs.declared.compile.parse.literal.Lexed.{Lexed}
+use Rattle.upon_tag_parser.specs.declared.compile.parse.literal.Lexed.{Lexed}
 use Rattle.upon_syntax.specs.declared.compile.parse.tag_tokens.Ended.{Ended}
 use Rattle.upon_syntax.specs.declared.compile.parse.tag_tokens.Ended.TheVariants.{End, Fault as CutFault, Literal, Eof}
-use Rattle.upon_tags.specs.declared.compile.parse.path.Failure.{Failure}
-use Rattle.upon_tags.specs.declared.compile.parse.path.Failure.TheVariants.{Memory, Stuck}
-use Rattle.upon_tags.specs.declared.compile.parse.want.Want.{Want}
-use Rattle.upon_tags.specs.Literals.{lexeme_of}
-use Rattle.upon_tags.specs.TagParsing.{OnStuck, IsStuck}
-use Rattle.upon_tags.specs.Wants.{wanted_of}
-use Rattle.upon_tags.specs.WholeTags.{LeadsToEnd}
-use Rattle.upon_tags.specs.TagTokens.{lexemes_of, IsTagToken, EachTagToken}
+use Rattle.upon_tag_parser.specs.declared.compile.parse.path.Failure.{Failure}
+use Rattle.upon_tag_parser.specs.declared.compile.parse.path.Failure.TheVariants.{Memory, Stuck}
+use Rattle.upon_tag_parser.specs.declared.compile.parse.want.Want.{Want}
+use Rattle.upon_tag_parser.specs.Literals.{lexeme_of}
+use Rattle.upon_tag_parser.specs.TagParsing.{OnStuck, IsStuck}
+use Rattle.upon_tag_parser.specs.Wants.{wanted_of}
+use Rattle.upon_tag_parser.specs.WholeTags.{LeadsToEnd}
+use Rattle.upon_tag_parser.specs.TagTokens.{lexemes_of, IsTagToken, EachTagToken}
 use Rattle.upon_syntax.specs.TagEnds.{tag_end, ReadsEnd, EndsBy, ReadsUpTo}
 use Rattle.upon_syntax.specs.TagFaults.{FirstLies, TagRead, GoesNoFurther}
 use Rattle.upon_syntax.specs.TagReading.{AfterBegin, AfterEnd}

@@ -1,10 +1,10 @@
 -- The blocks that the code keeps open, and what a tag does to them.
 use Rattle.std.specs.Prelude.{◌≡◌, List, [], ◌∷◌, map, true, false, Option, Some, None}
 use Rattle.upon_types.specs.declared.types.Span.{Span}
-use Rattle.upon_language.specs.Blocks.{Block, if_block, for_block, with_block, OpenBlock, Closer, else_if, plain_else}
-use Rattle.upon_language.specs.Blocks.{end_if, end_for, end_with, takes, by_closer}
-use Rattle.upon_tags.specs.BlockTags.{BlockTag, if_tag, else_if_tag, else_tag, endif_tag, for_tag, endfor_tag, with_tag}
-use Rattle.upon_tags.specs.BlockTags.{endwith_tag}
+use Rattle.upon_language_spec.specs.Blocks.{Block, if_block, for_block, with_block, OpenBlock, Closer, else_if, plain_else}
+use Rattle.upon_language_spec.specs.Blocks.{end_if, end_for, end_with, takes, by_closer}
+use Rattle.upon_tag_parser.specs.BlockTags.{BlockTag, if_tag, else_if_tag, else_tag, endif_tag, for_tag, endfor_tag, with_tag}
+use Rattle.upon_tag_parser.specs.BlockTags.{endwith_tag}
 use Rattle.upon_syntax.specs.Pieces.{BlockKind}
 use Rattle.upon_syntax.specs.declared.compile.parse.open_blocks.Kind.{Kind}
 use Rattle.upon_syntax.specs.declared.compile.parse.open_blocks.Kind.TheVariants as kind

@@ -1,6 +1,6 @@
 -- What a parser of the whole language reads.
 use Rattle.std.specs.Prelude.{ℕ, List}
-use Rattle.upon_language.specs.Search.{DelimiterText}
+use Rattle.upon_language_spec.specs.Search.{DelimiterText}
 use Rattle.upon_lexer.specs.Searcher.{searcher_delimiters}
 use Rattle.upon_syntax.specs.declared.compile.parse.Parser.{Parser}
 

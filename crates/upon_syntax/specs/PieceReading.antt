@@ -4,17 +4,17 @@ use Rattle.upon_types.specs.declared.types.Span.{Span}
 use Rattle.upon_types.specs.declared.types.token.Token.{Token}
 use Rattle.upon_types.specs.declared.error.Error.{Error}
 use Rattle.upon_types.specs.declared.types.token.Token.TheVariants.{Raw, EndComment}
-use Rattle.upon_language.specs.Search.{DelimiterText}
-use Rattle.upon_language.specs.Cut.{Lexeme, Mode, outside, in_comment, Cut}
-use Rattle.upon_language.specs.Blocks.{OpenBlock, open_blocks}
-use Rattle.upon_language.specs.LaterFaults.{is_comment_begin}
-use Rattle.upon_language.specs.Lexing.{LexerState, HasRead, IsGiven}
-use Rattle.upon_language.specs.Raw.{IsRaw}
-use Rattle.upon_language.specs.Reading.{last_of}
-use Rattle.upon_language.specs.Shown.{shown_lexemes}
-use Rattle.upon_language.specs.Tokens.{significant}
-use Rattle.upon_language.proofs.Totality.FittingClears.{AllClear}
-use Rattle.upon_language.proofs.Totality.Pieces.{Known}
+use Rattle.upon_language_spec.specs.Search.{DelimiterText}
+use Rattle.upon_language_spec.specs.Cut.{Lexeme, Mode, outside, in_comment, Cut}
+use Rattle.upon_language_spec.specs.Blocks.{OpenBlock, open_blocks}
+use Rattle.upon_language_spec.specs.LaterFaults.{is_comment_begin}
+use Rattle.upon_language_spec.specs.Lexing.{LexerState, HasRead, IsGiven}
+use Rattle.upon_language_spec.specs.Raw.{IsRaw}
+use Rattle.upon_language_spec.specs.Reading.{last_of}
+use Rattle.upon_language_spec.specs.Shown.{shown_lexemes}
+use Rattle.upon_language_spec.specs.Tokens.{significant}
+use Rattle.upon_language_spec.proofs.Totality.FittingClears.{AllClear}
+use Rattle.upon_language_spec.proofs.Totality.Pieces.{Known}
 use Rattle.upon_lexer.specs.Lexers.{lexer_text, lexer_delimiters, lexer_state}
 use Rattle.upon_syntax.specs.declared.compile.parse.piece.Piece.{Piece as CodePiece}
 use Rattle.upon_syntax.specs.declared.compile.parse.piece_reader.PieceReader.{PieceReader}

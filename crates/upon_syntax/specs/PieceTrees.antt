@@ -4,9 +4,9 @@ use Rattle.upon_types.specs.Tree.{Statements}
 use Rattle.upon_types.specs.Ast.{scope_of, statements_of, else_of}
 use Rattle.upon_types.specs.declared.types.ast.Scope.{Scope}
 use Rattle.upon_types.specs.declared.types.ast.Stmt.{Stmt}
-use Rattle.upon_language.specs.Cut.{Lexeme}
-use Rattle.upon_language.specs.Blocks.{if_block, for_block, with_block}
-use Rattle.upon_language.specs.Grammar.{AreStatements, IsElse, IsForElse, IsWordTag}
+use Rattle.upon_language_spec.specs.Cut.{Lexeme}
+use Rattle.upon_language_spec.specs.Blocks.{if_block, for_block, with_block}
+use Rattle.upon_language_spec.specs.Grammar.{AreStatements, IsElse, IsForElse, IsWordTag}
 use Rattle.upon_syntax.specs.Pieces.{Piece, IsPiece, ArePieces, pieces_of, BlockKind, blocks_after, LeaveOpen}
 use Rattle.upon_syntax.specs.declared.compile.parse.piece.Piece.{Piece as CodePiece}
 use Rattle.upon_syntax.specs.declared.compile.parse.tree.BlockEnd.{BlockEnd}

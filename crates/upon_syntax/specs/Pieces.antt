@@ -4,11 +4,11 @@ use Rattle.upon_types.specs.declared.types.Span.{Span}
 use Rattle.upon_types.specs.Expression.{Expression}
 use Rattle.upon_types.specs.Tree.{raw, inline_expr}
 use Rattle.upon_types.specs.AstExpression.{expression_of}
-use Rattle.upon_language.specs.Cut.{Lexeme}
-use Rattle.upon_language.specs.Blocks.{Block, if_block, for_block, with_block}
-use Rattle.upon_language.specs.Grammar.{IsStatement}
-use Rattle.upon_tags.specs.BlockTags.{BlockTag, if_tag, else_if_tag, else_tag, endif_tag, for_tag, endfor_tag, with_tag}
-use Rattle.upon_tags.specs.BlockTags.{endwith_tag, include_tag, IsBlockTag, tag_of}
+use Rattle.upon_language_spec.specs.Cut.{Lexeme}
+use Rattle.upon_language_spec.specs.Blocks.{Block, if_block, for_block, with_block}
+use Rattle.upon_language_spec.specs.Grammar.{IsStatement}
+use Rattle.upon_tag_parser.specs.BlockTags.{BlockTag, if_tag, else_if_tag, else_tag, endif_tag, for_tag, endfor_tag, with_tag}
+use Rattle.upon_tag_parser.specs.BlockTags.{endwith_tag, include_tag, IsBlockTag, tag_of}
 use Rattle.upon_syntax.specs.declared.compile.parse.piece.Piece.{Piece as CodePiece}
 use Rattle.upon_syntax.specs.declared.compile.parse.piece.Piece.TheVariants as code_piece
 

@@ -8,21 +8,21 @@ use Rattle.upon_types.specs.declared.error.Error.{Error}
 use Rattle.upon_types.specs.Error.{fault_of}
 use Rattle.upon_types.specs.Fault.{Fault, syntax, out_of_memory, bare_fault, fault_with_picture}
 use Rattle.upon_types.specs.Span.{LiesIn, slice}
-use Rattle.upon_language.specs.Search.{DelimiterText}
-use Rattle.upon_language.specs.Delimiters.{Sort, end_token}
-use Rattle.upon_language.specs.Cut.{Lexeme, in_tag, Ends}
-use Rattle.upon_language.specs.Inside.{IsInside, IsQuoted}
-use Rattle.upon_language.specs.Tokens.{is_raw, without_spaces}
-use Rattle.upon_language.specs.Literal.{digits_in}
-use Rattle.upon_language.specs.LiteralFaults.{index_value, escape_fault}
-use Rattle.upon_language.specs.Faults.{span_of, lexeme_at}
-use Rattle.upon_language.specs.LaterFaults.{Report, number_report}
-use Rattle.upon_language.specs.CutFaults.{ClearTo, IsFirstCutFault}
-use Rattle.upon_language.specs.Lexing.{LexerState, HasRead}
-use Rattle.upon_language.proofs.NoTreeWithFault.InsideTag.{is_inside, EachInside}
-use Rattle.upon_tags.specs.declared.compile.parse.literal.Lexed.{Lexed}
-use Rattle.upon_tags.specs.declared.compile.parse.literal_fault.Refusal.{Refusal}
-use Rattle.upon_tags.specs.LiteralReasons.{report_of}
+use Rattle.upon_language_spec.specs.Search.{DelimiterText}
+use Rattle.upon_language_spec.specs.Delimiters.{Sort, end_token}
+use Rattle.upon_language_spec.specs.Cut.{Lexeme, in_tag, Ends}
+use Rattle.upon_language_spec.specs.Inside.{IsInside, IsQuoted}
+use Rattle.upon_language_spec.specs.Tokens.{is_raw, without_spaces}
+use Rattle.upon_language_spec.specs.Literal.{digits_in}
+use Rattle.upon_language_spec.specs.LiteralFaults.{index_value, escape_fault}
+use Rattle.upon_language_spec.specs.Faults.{span_of, lexeme_at}
+use Rattle.upon_language_spec.specs.LaterFaults.{Report, number_report}
+use Rattle.upon_language_spec.specs.CutFaults.{ClearTo, IsFirstCutFault}
+use Rattle.upon_language_spec.specs.Lexing.{LexerState, HasRead}
+use Rattle.upon_language_spec.proofs.NoTreeWithFault.InsideTag.{is_inside, EachInside}
+use Rattle.upon_tag_parser.specs.declared.compile.parse.literal.Lexed.{Lexed}
+use Rattle.upon_tag_parser.specs.declared.compile.parse.literal_fault.Refusal.{Refusal}
+use Rattle.upon_tag_parser.specs.LiteralReasons.{report_of}
 use Rattle.upon_syntax.specs.declared.compile.parse.tag_tokens.Ended.{Ended}
 use Rattle.upon_syntax.specs.declared.compile.parse.tag_tokens.Ended.TheVariants.{End, Fault as CutFault, Literal, Eof}
 

@@ -2,26 +2,26 @@
 use Rattle.std.specs.Prelude.{◌≡◌, ◌⊎◌, ℕ, List, [], ◌∷◌, true, false, Some, None}
 use Rattle.upon_types.specs.Fault.{Fault}
 use Rattle.upon_types.specs.Span.{LiesIn}
-use Rattle.upon_language.specs.Search.{DelimiterText, HasTexts}
-use Rattle.upon_language.specs.Delimiters.{Sort, begin_token, end_token}
-use Rattle.upon_language.specs.Cut.{Lexeme, in_tag}
-use Rattle.upon_language.specs.Reading.{open_tag}
-use Rattle.upon_language.specs.Tags.{symbol_of, word_of}
-use Rattle.upon_language.specs.Wanted.{Wanted, reason_for}
-use Rattle.upon_language.specs.Parts.{Part, tag_start, after_symbol, wanted_at}
-use Rattle.upon_language.specs.PartLeads.{Leads}
-use Rattle.upon_language.specs.Lexing.{LexerState}
-use Rattle.upon_language.proofs.NoTreeWithFault.FineAt.{last_or}
-use Rattle.upon_language.proofs.NoTreeWithFault.TagShapes.{ends_a_tag}
-use Rattle.upon_language.proofs.Totality.Stage.{Stage}
-use Rattle.upon_language.proofs.Wanted.Opened.{is_open}
-use Rattle.upon_tags.specs.declared.compile.parse.literal.Lexed.{Lexed}
+use Rattle.upon_language_spec.specs.Search.{DelimiterText, HasTexts}
+use Rattle.upon_language_spec.specs.Delimiters.{Sort, begin_token, end_token}
+use Rattle.upon_language_spec.specs.Cut.{Lexeme, in_tag}
+use Rattle.upon_language_spec.specs.Reading.{open_tag}
+use Rattle.upon_language_spec.specs.Tags.{symbol_of, word_of}
+use Rattle.upon_language_spec.specs.Wanted.{Wanted, reason_for}
+use Rattle.upon_language_spec.specs.Parts.{Part, tag_start, after_symbol, wanted_at}
+use Rattle.upon_language_spec.specs.PartLeads.{Leads}
+use Rattle.upon_language_spec.specs.Lexing.{LexerState}
+use Rattle.upon_language_spec.proofs.NoTreeWithFault.FineAt.{last_or}
+use Rattle.upon_language_spec.proofs.NoTreeWithFault.TagShapes.{ends_a_tag}
+use Rattle.upon_language_spec.proofs.Totality.Stage.{Stage}
+use Rattle.upon_language_spec.proofs.Wanted.Opened.{is_open}
+use Rattle.upon_tag_parser.specs.declared.compile.parse.literal.Lexed.{Lexed}
 use Rattle.upon_syntax.specs.declared.compile.parse.tag_tokens.Ended.{Ended}
-use Rattle.upon_tags.specs.declared.compile.parse.want.Want.{Want}
-use Rattle.upon_tags.specs.TagTokens.{lexemes_of, EachTagToken}
-use Rattle.upon_tags.specs.TagParsing.{Refuses}
+use Rattle.upon_tag_parser.specs.declared.compile.parse.want.Want.{Want}
+use Rattle.upon_tag_parser.specs.TagTokens.{lexemes_of, EachTagToken}
+use Rattle.upon_tag_parser.specs.TagParsing.{Refuses}
 use Rattle.upon_syntax.specs.TagEnds.{syntax_fault, ReadsUpTo, tag_end}
-use Rattle.upon_tags.specs.Wants.{wanted_of}
+use Rattle.upon_tag_parser.specs.Wants.{wanted_of}
 
 -- the first of the tokens lies in the text
 abbrev pub FirstLies : List ℕ → List Lexed → Type 0

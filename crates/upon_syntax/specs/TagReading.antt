@@ -4,17 +4,17 @@ use Rattle.upon_types.specs.declared.types.Span.{Span}
 use Rattle.upon_types.specs.declared.error.Error.{Error}
 use Rattle.upon_types.specs.Error.{fault_of}
 use Rattle.upon_types.specs.Fault.{syntax, out_of_memory, bare_fault, fault_with_picture}
-use Rattle.upon_language.specs.Search.{DelimiterText}
-use Rattle.upon_language.specs.Delimiters.{Sort, begin_token, end_token}
-use Rattle.upon_language.specs.Cut.{Lexeme, in_tag, Cut, outside}
-use Rattle.upon_language.specs.Faults.{lexeme_at}
-use Rattle.upon_language.specs.Reading.{open_tag}
-use Rattle.upon_language.specs.Shown.{shown_lexemes}
-use Rattle.upon_language.specs.Tokens.{without_spaces, significant}
-use Rattle.upon_language.specs.FirstFault.{IsFirstFault}
-use Rattle.upon_language.proofs.NoTreeWithFault.InsideTag.{EachInside}
-use Rattle.upon_language.proofs.Totality.Stage.{Stage}
-use Rattle.upon_language.proofs.Totality.WholeTag.{EndsAt}
+use Rattle.upon_language_spec.specs.Search.{DelimiterText}
+use Rattle.upon_language_spec.specs.Delimiters.{Sort, begin_token, end_token}
+use Rattle.upon_language_spec.specs.Cut.{Lexeme, in_tag, Cut, outside}
+use Rattle.upon_language_spec.specs.Faults.{lexeme_at}
+use Rattle.upon_language_spec.specs.Reading.{open_tag}
+use Rattle.upon_language_spec.specs.Shown.{shown_lexemes}
+use Rattle.upon_language_spec.specs.Tokens.{without_spaces, significant}
+use Rattle.upon_language_spec.specs.FirstFault.{IsFirstFault}
+use Rattle.upon_language_spec.proofs.NoTreeWithFault.InsideTag.{EachInside}
+use Rattle.upon_language_spec.proofs.Totality.Stage.{Stage}
+use Rattle.upon_language_spec.proofs.Totality.WholeTag.{EndsAt}
 use Rattle.upon_lexer.specs.declared.compile.lex.Lexer.{Lexer}
 use Rattle.upon_lexer.specs.Lexers.{lexer_text, lexer_delimiters, lexer_state, ReadSoFar}
 use Rattle.upon_syntax.specs.Pieces.{Piece, ArePieces}

@@ -3,5 +3,5 @@
 
 pub mod compile;
 
-pub use upon_language::laws;
+pub use upon_language_spec::laws;
 pub use upon_lexer::{laws as default_laws, types};

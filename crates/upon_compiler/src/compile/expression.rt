@@ -1,6 +1,6 @@
 // The instructions of expressions.
 ghost use Rattle.std.specs.Prelude.{◌≡◌, ◌+◌, ◌++◌, ◌<◌, ◌^◌, [], ◌∷◌, IfOk, OnOk};
-ghost use Rattle.upon_machine.specs.Code.{arguments_code, base_code, base_emission_code, count, emission_code, expression_code};
+ghost use Rattle.upon_machine_spec.specs.Code.{arguments_code, base_code, base_emission_code, count, emission_code, expression_code};
 ghost use Rattle.upon_types.specs.AstExpression.{base_of, call_of, expression_of, filter_of, list_of, map_of, maybe_arguments_of};
 
 use super::Compiler;

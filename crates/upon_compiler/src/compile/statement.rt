@@ -1,6 +1,6 @@
 // The instructions of statements. A jump past instructions is written once they are there.
 ghost use Rattle.std.specs.Prelude.{◌≡◌, ◌+◌, ◌++◌, IfOk, OnOk, length};
-ghost use Rattle.upon_machine.specs.Code.{jump_unless, statement_code, statements_code, turns};
+ghost use Rattle.upon_machine_spec.specs.Code.{jump_unless, statement_code, statements_code, turns};
 ghost use Rattle.upon_types.specs.Ast.{for_of, if_of, scope_of, statement_of, with_of};
 ghost use Rattle.upon_instructions.specs.Program.{instr_of};
 
@@ -22,7 +22,7 @@ fn jump_unless(not: bool, to: usize) -> Instr
 
 impl Compiler {
     ghost use Rattle.std.specs.Prelude.{Some, option_map};
-    ghost use Rattle.upon_machine.specs.Code.{expression_code};
+    ghost use Rattle.upon_machine_spec.specs.Code.{expression_code};
     ghost use Rattle.upon_types.specs.AstExpression.{expression_of};
     ghost use Rattle.upon_types.specs.AstPath.{string_of};
     ghost use Rattle.upon_types.specs.Tree.{include};

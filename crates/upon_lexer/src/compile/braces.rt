@@ -1,7 +1,7 @@
 // Where a default delimiter may begin: with a pair of bytes, of which one is a brace, or a byte before such a pair.
 ghost use Rattle.std.specs.Prelude.{◌≡◌, ℕ, ◌<◌, ◌≤◌, length, slice_index, false, true, MatchOption};
-ghost use Rattle.upon_language.specs.DefaultDelimiters.{default_delimiters};
-ghost use Rattle.upon_language.specs.Search.{NoneFrom};
+ghost use Rattle.upon_language_spec.specs.DefaultDelimiters.{default_delimiters};
+ghost use Rattle.upon_language_spec.specs.Search.{NoneFrom};
 ghost use Rattle.upon_lexer.specs.Pairs.{is_pair, NoPairWith, IsFirstPairWith};
 
 /// Returns the first offset at or after another from which a default delimiter may occur; the text's length if there is

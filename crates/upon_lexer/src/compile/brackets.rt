@@ -2,9 +2,9 @@
 ghost use Rattle.std.specs.Prelude.{◌≡◌, ◌⊎◌, option_map, true, IfSome, IfOk, IfErr};
 ghost use Rattle.std.specs.List.{Contains};
 ghost use Rattle.upon_lexer.specs.Brackets.{open_token, close_token, HasEffect, bracket_lexeme, plain_lexeme, brackets_of, innermost};
-ghost use Rattle.upon_language.specs.Faults.{closes_first};
-ghost use Rattle.upon_language.specs.Lexing.{opens_bracket};
-ghost use Rattle.upon_language.specs.Reading.{brackets_after};
+ghost use Rattle.upon_language_spec.specs.Faults.{closes_first};
+ghost use Rattle.upon_language_spec.specs.Lexing.{opens_bracket};
+ghost use Rattle.upon_language_spec.specs.Reading.{brackets_after};
 ghost use Rattle.upon_lexer.specs.declared.compile.brackets.OpenBracket.{OpenBracket};
 
 use std::alloc::AllocError;

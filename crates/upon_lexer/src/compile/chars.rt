@@ -3,8 +3,8 @@ ghost use Rattle.std.specs.Prelude.{◌≡◌, ◌⊎◌, ℕ, ◌+◌, length, 
 ghost use Rattle.std.specs.Str.{IsCharBoundary};
 ghost use Rattle.std.specs.Char.{len_utf8};
 ghost use Rattle.upon_types.specs.Span.{LiesIn};
-ghost use Rattle.upon_language.specs.Search.{Occurs};
-ghost use Rattle.upon_language.specs.Words.{IsRun, begins_name, is_keyword};
+ghost use Rattle.upon_language_spec.specs.Search.{Occurs};
+ghost use Rattle.upon_language_spec.specs.Words.{IsRun, begins_name, is_keyword};
 ghost use Rattle.upon_lexer.specs.Class.{class_test};
 
 /// The characters of which runs are made.

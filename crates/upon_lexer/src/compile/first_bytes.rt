@@ -1,6 +1,6 @@
 // The bytes with which delimiters begin, if they are three at most.
 ghost use Rattle.std.specs.Prelude.{◌≡◌, ℕ, ◌<◌, ◌≤◌, length, IfSome, slice_index};
-ghost use Rattle.upon_language.specs.Search.{text_at};
+ghost use Rattle.upon_language_spec.specs.Search.{text_at};
 ghost use Rattle.upon_lexer.specs.FirstBytes.{IsOneOf, BeginWithOneOf};
 ghost use Rattle.upon_lexer.specs.Syntax.{syntax_delimiters};
 

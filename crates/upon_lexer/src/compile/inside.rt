@@ -3,12 +3,12 @@ ghost use Rattle.std.specs.Prelude.{◌≡◌, ℕ, ◌+◌, ◌∷◌, [], leng
 ghost use Rattle.std.specs.Str.{IsCharBoundary};
 ghost use Rattle.upon_types.specs.Span.{LiesIn};
 ghost use Rattle.upon_types.specs.declared.types.token.Token.TheVariants.{Ident, QuestionDot, String};
-ghost use Rattle.upon_language.specs.Search.{Occurs};
-ghost use Rattle.upon_language.specs.Words.{begins_name};
-ghost use Rattle.upon_language.specs.Inside.{token_kind, start_kind, Extent, IsQuoted, escape, is_piece};
-ghost use Rattle.upon_language.specs.Faults.{LineEnds};
+ghost use Rattle.upon_language_spec.specs.Search.{Occurs};
+ghost use Rattle.upon_language_spec.specs.Words.{begins_name};
+ghost use Rattle.upon_language_spec.specs.Inside.{token_kind, start_kind, Extent, IsQuoted, escape, is_piece};
+ghost use Rattle.upon_language_spec.specs.Faults.{LineEnds};
 ghost use Rattle.upon_lexer.specs.Reasons.{reason_of};
-ghost use Rattle.upon_language.specs.InsideStart.{BeginsInside, NoInside, NoString};
+ghost use Rattle.upon_language_spec.specs.InsideStart.{BeginsInside, NoInside, NoString};
 
 use crate::compile::chars::{CharClass, begins_name, char_at, is_keyword, run_end};
 use crate::compile::fault::{SyntaxFault, Wrong};

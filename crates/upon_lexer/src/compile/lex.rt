@@ -6,18 +6,18 @@ ghost use Rattle.std.specs.Str.{IsCharBoundary};
 ghost use Rattle.upon_types.specs.Span.{LiesIn};
 ghost use Rattle.upon_types.specs.Fault.{bare_fault, fault_with_picture, syntax, OrMemory};
 ghost use Rattle.upon_types.specs.Error.{fault_of};
-ghost use Rattle.upon_language.specs.Search.{Occurs, NoneAt, IsBestDelimiter};
+ghost use Rattle.upon_language_spec.specs.Search.{Occurs, NoneAt, IsBestDelimiter};
 ghost use Rattle.upon_lexer.specs.Searcher.{searcher_delimiters};
 ghost use Rattle.upon_types.specs.declared.types.token.Token.TheVariants.{Raw};
-ghost use Rattle.upon_language.specs.Raw.{IsRaw};
-ghost use Rattle.upon_language.specs.Cut.{Lexeme, in_tag};
-ghost use Rattle.upon_language.specs.Inside.{IsInside};
-ghost use Rattle.upon_language.specs.Faults.{awaited_sort};
-ghost use Rattle.upon_language.specs.Shown.{shown_span};
+ghost use Rattle.upon_language_spec.specs.Raw.{IsRaw};
+ghost use Rattle.upon_language_spec.specs.Cut.{Lexeme, in_tag};
+ghost use Rattle.upon_language_spec.specs.Inside.{IsInside};
+ghost use Rattle.upon_language_spec.specs.Faults.{awaited_sort};
+ghost use Rattle.upon_language_spec.specs.Shown.{shown_span};
 ghost use Rattle.upon_lexer.specs.Roles.{sort_of};
 ghost use Rattle.upon_lexer.specs.Reasons.{reason_of};
-ghost use Rattle.upon_language.specs.Delimiters.{end_sort};
-ghost use Rattle.upon_language.specs.Delimiters as language;
+ghost use Rattle.upon_language_spec.specs.Delimiters.{end_sort};
+ghost use Rattle.upon_language_spec.specs.Delimiters as language;
 ghost use Rattle.upon_lexer.specs.declared.compile.brackets.OpenBracket.{OpenBracket};
 ghost use Rattle.upon_lexer.specs.OpenTags.{mode_of};
 
@@ -60,8 +60,8 @@ pub struct Lexer<'a> {
 }
 
 impl<'a> Lexer<'a> {
-    ghost use Rattle.upon_language.specs.Lexing.{IsGiven, TrimsAt, opens_bracket};
-    ghost use Rattle.upon_language.specs.LexStep.{state_after};
+    ghost use Rattle.upon_language_spec.specs.Lexing.{IsGiven, TrimsAt, opens_bracket};
+    ghost use Rattle.upon_language_spec.specs.LexStep.{state_after};
     ghost use Rattle.upon_lexer.specs.Spelling.{IsSpelled, LiesBetween};
     ghost use Rattle.upon_lexer.specs.Lexers.{lexer_text, lexer_delimiters, lexer_state, next_lexeme, ReadSoFar, Gives, GivesAfterSpace, Finds, GoesWrong};
 

@@ -1,6 +1,6 @@
 // Marks of the first two bytes of delimiters, by which most offsets are seen to begin none.
 ghost use Rattle.std.specs.Prelude.{◌≡◌, ℕ, ◌<◌, ◌≤◌, List, length, false};
-ghost use Rattle.upon_language.specs.Search.{DelimiterText, HasTexts, NoneAt, NoneFrom};
+ghost use Rattle.upon_language_spec.specs.Search.{DelimiterText, HasTexts, NoneAt, NoneFrom};
 ghost use Rattle.upon_lexer.specs.Marks.{HasMark, MarksText, MarksEach};
 ghost use Rattle.upon_lexer.specs.Syntax.{syntax_delimiters};
 

@@ -1,6 +1,6 @@
 // What the kinds of delimiters have in common: what each begins or ends, and whether it has the hyphen.
 ghost use Rattle.std.specs.Prelude.{◌≡◌};
-ghost use Rattle.upon_language.specs.Delimiters.{begin_token, end_token, has_hyphen};
+ghost use Rattle.upon_language_spec.specs.Delimiters.{begin_token, end_token, has_hyphen};
 ghost use Rattle.upon_lexer.specs.Roles.{sort_of, HasRole};
 
 use upon_types::types::{Delimiter, Token};

@@ -2,9 +2,9 @@
 ghost use Rattle.std.specs.Prelude.{◌≡◌, ℕ, List, ◌<◌, ◌≤◌, ◌+◌, length, MatchOption, IfSome};
 ghost use Rattle.std.specs.Str.{IsCharBoundary};
 ghost use Rattle.upon_types.specs.Span.{LiesIn};
-ghost use Rattle.upon_language.specs.DefaultDelimiters.{default_delimiters};
-ghost use Rattle.upon_language.specs.Search.{DelimiterText, HasTexts, Occurs, NoneAt, NoneFrom, IsBest, IsBestDelimiter, IsFirst};
-ghost use Rattle.upon_language.specs.Raw.{IsRaw};
+ghost use Rattle.upon_language_spec.specs.DefaultDelimiters.{default_delimiters};
+ghost use Rattle.upon_language_spec.specs.Search.{DelimiterText, HasTexts, Occurs, NoneAt, NoneFrom, IsBest, IsBestDelimiter, IsFirst};
+ghost use Rattle.upon_language_spec.specs.Raw.{IsRaw};
 ghost use Rattle.upon_lexer.specs.FirstBytes.{BeginWithOneOf};
 ghost use Rattle.upon_lexer.specs.Marks.{MarksEach};
 ghost use Rattle.upon_lexer.specs.Syntax.{syntax_delimiters};

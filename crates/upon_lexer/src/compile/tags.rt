@@ -1,11 +1,11 @@
 // The tag that is open, and what a token does to it.
 ghost use Rattle.std.specs.Prelude.{◌≡◌, ◌&&◌, false};
-ghost use Rattle.upon_language.specs.Cut.{mode_after};
-ghost use Rattle.upon_language.specs.Inside.{in_path_after};
-ghost use Rattle.upon_language.specs.Shown.{is_end};
-ghost use Rattle.upon_language.specs.Tokens.{is_space};
+ghost use Rattle.upon_language_spec.specs.Cut.{mode_after};
+ghost use Rattle.upon_language_spec.specs.Inside.{in_path_after};
+ghost use Rattle.upon_language_spec.specs.Shown.{is_end};
+ghost use Rattle.upon_language_spec.specs.Tokens.{is_space};
 ghost use Rattle.upon_lexer.specs.OpenTags.{mode_of, begin_of};
-ghost use Rattle.upon_language.specs.LexStep.{begin_after};
+ghost use Rattle.upon_language_spec.specs.LexStep.{begin_after};
 
 use crate::compile::roles::Sort;
 use upon_types::types::{Span, Token};

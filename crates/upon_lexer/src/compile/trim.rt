@@ -1,7 +1,7 @@
 // Spans of a text, in bytes, without the whitespace at their ends.
 ghost use Rattle.std.specs.Prelude.{◌≡◌};
 ghost use Rattle.upon_types.specs.Span.{LiesIn};
-ghost use Rattle.upon_language.specs.Shown.{trim_end_span, trim_start_span};
+ghost use Rattle.upon_language_spec.specs.Shown.{trim_end_span, trim_start_span};
 
 use upon_types::types::{Span, slice};
 

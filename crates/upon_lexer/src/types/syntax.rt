@@ -1,8 +1,8 @@
 // The delimiters of a template language.
 ghost use Rattle.std.specs.Prelude.{◌≡◌, ◌<◌, length, map, true, IfOk};
-ghost use Rattle.upon_language.specs.DefaultDelimiters.{default_delimiters};
-ghost use Rattle.upon_language.specs.LiesIn.{HasUtf8};
-ghost use Rattle.upon_language.specs.Search.{HasTexts, kind_at, text_at};
+ghost use Rattle.upon_language_spec.specs.DefaultDelimiters.{default_delimiters};
+ghost use Rattle.upon_language_spec.specs.LiesIn.{HasUtf8};
+ghost use Rattle.upon_language_spec.specs.Search.{HasTexts, kind_at, text_at};
 ghost use Rattle.upon_lexer.specs.Entries.{delimiter_text_of, entries_list, nodes_list};
 ghost use Rattle.upon_lexer.specs.Grown.{nodes_of};
 ghost use Rattle.upon_lexer.specs.SetTexts.{nothing_set, usual_texts, built_delimiters};

@@ -2,15 +2,15 @@
 ghost use Rattle.std.specs.Prelude.{◌≡◌, ◌≢◌, ◌<◌, ℕ, List, Option};
 ghost use Rattle.upon_types.specs.Val.{Entries, map_val, entry_at};
 ghost use Rattle.upon_render.specs.Environment.{Root, context};
-ghost use Rattle.upon_meaning.specs.Alone.{alone};
-ghost use Rattle.upon_meaning.specs.Engine.{Template, Calls};
-ghost use Rattle.upon_meaning.specs.Includes.{IsNumbered};
-ghost use Rattle.upon_meaning.specs.Names.{Reads, AgreeOn};
-ghost use Rattle.upon_meaning.specs.Outcome.{States, too_deep};
+ghost use Rattle.upon_meaning_spec.specs.Alone.{alone};
+ghost use Rattle.upon_meaning_spec.specs.Engine.{Template, Calls};
+ghost use Rattle.upon_meaning_spec.specs.Includes.{IsNumbered};
+ghost use Rattle.upon_meaning_spec.specs.Names.{Reads, AgreeOn};
+ghost use Rattle.upon_meaning_spec.specs.Outcome.{States, too_deep};
 ghost use Rattle.upon_store.specs.Stored.{folder_table, from_store, stored, ReachesPath};
 ghost use Rattle.upon_store.specs.declared.store.Store.{Store};
 
-use upon_meaning::laws::sources;
+use upon_meaning_spec::laws::sources;
 
 /// Two maps that agree on the names that begin a path in a template, or in one that it reaches in the folder of a path,
 /// render alike with the store's templates: text, end and next states.

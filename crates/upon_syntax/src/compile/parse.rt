@@ -4,7 +4,7 @@ ghost use Rattle.upon_types.specs.Tree.{Statements};
 ghost use Rattle.upon_types.specs.Ast.{tree_of};
 ghost use Rattle.upon_types.specs.Error.{fault_of};
 ghost use Rattle.upon_types.specs.Fault.{syntax};
-ghost use Rattle.upon_language.specs.Grammar.{HasTree};
+ghost use Rattle.upon_language_spec.specs.Grammar.{HasTree};
 ghost use Rattle.upon_lexer.specs.Searcher.{searcher_delimiters};
 ghost use Rattle.upon_syntax.specs.TagReading.{IsSyntaxError};
 
@@ -22,7 +22,7 @@ use crate::compile::parse::piece::read_pieces;
 use crate::compile::parse::tree::tree_of_pieces;
 use std::alloc::Global;
 use upon_lexer::compile::search::Searcher;
-pub use upon_tags::compile::parse::{
+pub use upon_tag_parser::compile::parse::{
     base, expression, list, literal, literal_fault, path, scalar, tag, want,
 };
 use upon_types::error::Result;

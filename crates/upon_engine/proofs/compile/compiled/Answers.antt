@@ -3,11 +3,11 @@ use Rattle.upon_types.specs.Error.{fault_of}
 use Rattle.upon_types.specs.Fault.{syntax}
 use Rattle.upon_types.specs.Tree.{Statements}
 use Rattle.upon_types.specs.declared.error.Error.{Error}
-use Rattle.upon_language.specs.Grammar.{HasTree}
+use Rattle.upon_language_spec.specs.Grammar.{HasTree}
 use Rattle.upon_lexer.specs.Searcher.{searcher_delimiters}
 use Rattle.upon_syntax.specs.Parsed.{source_of}
 use Rattle.upon_syntax.proofs.NextTokens.{handed_on}
-use Rattle.upon_compiled.proofs.CompiledTree.{is_compiled}
+use Rattle.upon_compiled_spec.proofs.CompiledTree.{is_compiled}
 use Rattle.upon_engine.proofs.compile.compiled.Goals as goal
 
 pub returns-clause-program : goal.returns-clause-program

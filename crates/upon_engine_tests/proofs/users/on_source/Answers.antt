@@ -1,7 +1,7 @@
 use Rattle.std.proofs.Common.{rules, ◌≡◌, ◌∙◌, ℕ, List, [], ◌∷◌, Option, Bool, Result, ap, sym, subst}
 use Rattle.upon_types.specs.declared.error.Error.{Error}
-use Rattle.upon_meaning.specs.Outcome.{Outcome, States, states}
-use Rattle.upon_renderer.specs.Reports.{WritesAndLeaves}
+use Rattle.upon_meaning_spec.specs.Outcome.{Outcome, States, states}
+use Rattle.upon_vm.specs.Reports.{WritesAndLeaves}
 use Rattle.upon_engine.specs.Sources.{source_in}
 use Rattle.upon_engine.proofs.Renderings.{on_source}
 use Rattle.upon_engine_tests.proofs.users.on_source.Goals as goal

@@ -2,9 +2,9 @@
 ghost use Rattle.std.specs.Prelude.{◌≡◌, ◌<◌, ◌↔◌, IsTrue, length};
 ghost use Rattle.std.specs.Cmp.{partial_equiv_from_equiv, on_equiv, decided};
 ghost use Rattle.std.specs.Ordering.{on};
-ghost use Rattle.upon_language.specs.SameDelimiters.{delimiters_eq};
-ghost use Rattle.upon_language.specs.Search.{kind_at, text_at};
-ghost use Rattle.upon_language.proofs.SameDelimiters.{delimiters_eq-Decides};
+ghost use Rattle.upon_language_spec.specs.SameDelimiters.{delimiters_eq};
+ghost use Rattle.upon_language_spec.specs.Search.{kind_at, text_at};
+ghost use Rattle.upon_language_spec.proofs.SameDelimiters.{delimiters_eq-Decides};
 ghost use Rattle.upon_lexer.specs.Syntax.{syntax_delimiters};
 
 use super::Syntax;

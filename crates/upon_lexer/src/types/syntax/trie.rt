@@ -1,6 +1,6 @@
 // A trie of the texts of delimiters, as one list of nodes.
 ghost use Rattle.std.specs.Prelude.{◌≡◌, ◌<◌, ◌≤◌, ℕ, List, length, IfOk, OnOk};
-ghost use Rattle.upon_language.specs.Search.{DelimiterText};
+ghost use Rattle.upon_language_spec.specs.Search.{DelimiterText};
 ghost use Rattle.upon_lexer.specs.Nodes.{IsLinked, blank, child_of, node_at};
 ghost use Rattle.upon_lexer.specs.Trie.{IsTrieOf, LongestAt, longer_of};
 ghost use Rattle.upon_lexer.specs.Grown.{with_child, made_child, with_text};

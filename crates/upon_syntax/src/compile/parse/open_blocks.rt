@@ -1,15 +1,15 @@
 // The blocks that are open at an offset of a template, and what a tag does to them.
 ghost use Rattle.std.specs.Prelude.{◌≡◌, [], ◌∷◌, ◌++◌, true, false, option_map, string_bytes, codes, IfOk};
 ghost use Rattle.std.specs.Prelude.{MatchOption};
-ghost use Rattle.upon_language.specs.Blocks.{takes, block_takes, if_takes, for_takes, after_closer, outermost, block_word};
-ghost use Rattle.upon_language.specs.Blocks.{closer_words, plain_else, end_if};
-ghost use Rattle.upon_language.specs.Wanted.{in_quotes};
-ghost use Rattle.upon_tags.specs.BlockTags.{tag_of};
+ghost use Rattle.upon_language_spec.specs.Blocks.{takes, block_takes, if_takes, for_takes, after_closer, outermost, block_word};
+ghost use Rattle.upon_language_spec.specs.Blocks.{closer_words, plain_else, end_if};
+ghost use Rattle.upon_language_spec.specs.Wanted.{in_quotes};
+ghost use Rattle.upon_tag_parser.specs.BlockTags.{tag_of};
 ghost use Rattle.upon_syntax.specs.OpenBlocks.{kind_of, closer_of, block_of, new_block, after_tag, HasEffect, IsTaken};
 ghost use Rattle.upon_syntax.specs.OpenBlocks.{IsUntaken};
 
 use std::alloc::{AllocError, Global};
-use upon_tags::compile::parse::tag::Tag;
+use upon_tag_parser::compile::parse::tag::Tag;
 use upon_types::types::Span;
 
 /// A kind of block.

@@ -7,7 +7,7 @@ ghost use Rattle.upon_syntax.specs.TagReading.{HasPieces, IsSyntaxError};
 use crate::compile::parse::piece_reader::{Next, PieceReader};
 use std::alloc::{AllocError, Global};
 use upon_lexer::compile::search::Searcher;
-use upon_tags::compile::parse::tag::Tag;
+use upon_tag_parser::compile::parse::tag::Tag;
 use upon_types::error::Result;
 use upon_types::types::Span;
 use upon_types::types::ast::InlineExpr;

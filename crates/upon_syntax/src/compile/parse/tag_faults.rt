@@ -3,12 +3,12 @@ ghost use Rattle.std.specs.Prelude.{◌≡◌, List, [], length, true, false, co
 ghost use Rattle.upon_types.specs.Error.{fault_of};
 ghost use Rattle.upon_types.specs.Fault.{OrMemory};
 ghost use Rattle.upon_types.specs.Span.{LiesIn};
-ghost use Rattle.upon_language.specs.Search.{DelimiterText};
-ghost use Rattle.upon_language.specs.Faults.{span_of};
-ghost use Rattle.upon_language.specs.Wanted.{wanted_at_end, expected_found};
-ghost use Rattle.upon_language.specs.LiteralWords.{fits_word};
-ghost use Rattle.upon_tags.specs.LiteralReasons.{literal_reason};
-ghost use Rattle.upon_tags.specs.Wants.{wanted_of};
+ghost use Rattle.upon_language_spec.specs.Search.{DelimiterText};
+ghost use Rattle.upon_language_spec.specs.Faults.{span_of};
+ghost use Rattle.upon_language_spec.specs.Wanted.{wanted_at_end, expected_found};
+ghost use Rattle.upon_language_spec.specs.LiteralWords.{fits_word};
+ghost use Rattle.upon_tag_parser.specs.LiteralReasons.{literal_reason};
+ghost use Rattle.upon_tag_parser.specs.Wants.{wanted_of};
 ghost use Rattle.upon_syntax.specs.TagReading.{IsSyntaxError};
 ghost use Rattle.upon_syntax.specs.TagEnds.{syntax_fault, EndLies};
 ghost use Rattle.upon_syntax.specs.TagFaults.{FirstLies, token_fault, GoesNoFurther};
@@ -16,10 +16,10 @@ ghost use Rattle.upon_syntax.specs.TagFaults.{FirstLies, token_fault, GoesNoFurt
 use crate::compile::parse::fault::syntax_error;
 use crate::compile::parse::tag_tokens::Ended;
 use std::alloc::Global;
-use upon_tags::compile::parse::literal::Lexed;
-use upon_tags::compile::parse::literal_fault::Refusal;
-use upon_tags::compile::parse::path::next_token;
-use upon_tags::compile::parse::want::Want;
+use upon_tag_parser::compile::parse::literal::Lexed;
+use upon_tag_parser::compile::parse::literal_fault::Refusal;
+use upon_tag_parser::compile::parse::path::next_token;
+use upon_tag_parser::compile::parse::want::Want;
 use upon_types::error::Error;
 use upon_types::types::Span;
 

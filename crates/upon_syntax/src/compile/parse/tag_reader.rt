@@ -1,25 +1,25 @@
 // A whole tag of a text: its tokens from the lexer, what they are read to, and the fault where they are no tag.
 ghost use Rattle.std.specs.Prelude.{◌≡◌, List, [], Some, None, IfOk, IfErr};
 ghost use Rattle.upon_types.specs.AstExpression.{expression_of};
-ghost use Rattle.upon_language.specs.Cut.{Lexeme};
-ghost use Rattle.upon_language.specs.Delimiters.{expression, block};
+ghost use Rattle.upon_language_spec.specs.Cut.{Lexeme};
+ghost use Rattle.upon_language_spec.specs.Delimiters.{expression, block};
 ghost use Rattle.upon_lexer.specs.Lexers.{lexer_text, lexer_delimiters};
-ghost use Rattle.upon_language.specs.Search.{DelimiterText};
-ghost use Rattle.upon_tags.specs.BlockTags.{tag_of};
+ghost use Rattle.upon_language_spec.specs.Search.{DelimiterText};
+ghost use Rattle.upon_tag_parser.specs.BlockTags.{tag_of};
 ghost use Rattle.upon_syntax.specs.TagEnds.{EndLies, tag_end};
 ghost use Rattle.upon_syntax.specs.TagFaults.{FirstLies, GoesNoFurther};
-ghost use Rattle.upon_tags.specs.TagParsing.{OnStuck};
-ghost use Rattle.upon_tags.specs.WholeTags.{IsInlineTag, IsTagInside};
+ghost use Rattle.upon_tag_parser.specs.TagParsing.{OnStuck};
+ghost use Rattle.upon_tag_parser.specs.WholeTags.{IsInlineTag, IsTagInside};
 ghost use Rattle.upon_syntax.specs.TagReading.{AfterBegin, AfterEnd, IsSyntaxError};
 
 use crate::compile::parse::tag_faults::{refuse, refuse_end};
 use crate::compile::parse::tag_tokens::{Ended, read_tokens};
 use std::alloc::{AllocError, Global};
 use upon_lexer::compile::lex::Lexer;
-use upon_tags::compile::parse::literal::Lexed;
-use upon_tags::compile::parse::path::{Failure, TagParser};
-use upon_tags::compile::parse::tag::Tag;
-use upon_tags::compile::parse::want::Want;
+use upon_tag_parser::compile::parse::literal::Lexed;
+use upon_tag_parser::compile::parse::path::{Failure, TagParser};
+use upon_tag_parser::compile::parse::tag::Tag;
+use upon_tag_parser::compile::parse::want::Want;
 use upon_types::error::{Error, Result};
 use upon_types::types::Span;
 use upon_types::types::ast::InlineExpr;

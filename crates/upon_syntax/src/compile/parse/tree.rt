@@ -5,17 +5,17 @@ ghost use Rattle.upon_types.specs.Ast.{scope_of, else_of, statement_of};
 ghost use Rattle.upon_types.specs.AstExpression.{expression_of};
 ghost use Rattle.upon_types.specs.AstPath.{ident_of, loop_vars_of};
 ghost use Rattle.upon_types.specs.Tree.{if_else, for_loop, statement_then, no_statements};
-ghost use Rattle.upon_language.specs.Cut.{Lexeme};
-ghost use Rattle.upon_language.specs.Grammar.{AreStatements};
-ghost use Rattle.upon_tags.specs.BlockTags.{if_tag, else_if_tag, else_tag, for_tag, with_tag};
+ghost use Rattle.upon_language_spec.specs.Cut.{Lexeme};
+ghost use Rattle.upon_language_spec.specs.Grammar.{AreStatements};
+ghost use Rattle.upon_tag_parser.specs.BlockTags.{if_tag, else_if_tag, else_tag, for_tag, with_tag};
 ghost use Rattle.upon_syntax.specs.Pieces.{block_piece};
-ghost use Rattle.upon_tags.specs.BlockTags.{tag_of};
+ghost use Rattle.upon_tag_parser.specs.BlockTags.{tag_of};
 ghost use Rattle.upon_syntax.specs.Pieces.{piece_of, pieces_of, ArePieces, LeaveOpen};
 ghost use Rattle.upon_syntax.specs.PieceTrees.{statements_back, branch_of, with_branch, MayPrecede, Pushes, Enters, Leaves, ReadsPiece};
 
 use crate::compile::parse::piece::Piece;
 use std::alloc::{AllocError, Global};
-use upon_tags::compile::parse::tag::{Condition, Tag};
+use upon_tag_parser::compile::parse::tag::{Condition, Tag};
 use upon_types::types::ast::{Expr, ForLoop, Ident, IfElse, LoopVars, Scope, Stmt, With};
 
 /// The statements of a template's pieces, whose closing tags are each taken, and which leave no block open.

@@ -1,8 +1,8 @@
 use Rattle.std.proofs.Common.{◌≡◌, suc, ◌+◌, [], ◌∷◌, ◌++◌, sym, ap, ◌∙◌, arith, add-one, append-nil}
 use Rattle.std.proofs.lemmas.List.{nil_from_length}
 use Rattle.std.specs.Vec.Iter.{into_iter_items}
-use Rattle.upon_machine.specs.Code.{arguments_code, bases_code, count, expression_code, emission_code}
-use Rattle.upon_machine.specs.Instr.{Instr, apply, emit_with}
+use Rattle.upon_machine_spec.specs.Code.{arguments_code, bases_code, count, expression_code, emission_code}
+use Rattle.upon_machine_spec.specs.Instr.{Instr, apply, emit_with}
 use Rattle.upon_types.proofs.Trees.{filter_of-out}
 use Rattle.upon_types.specs.AstExpression.{bases_of, expression_of, maybe_arguments_of}
 use Rattle.upon_types.specs.AstPath.{ident_of}

@@ -1,6 +1,6 @@
 use Rattle.std.proofs.Common.{◌≡◌, ◌++◌}
 use Rattle.std.specs.Vec.Iter.{into_iter_items}
-use Rattle.upon_machine.specs.Code.{bases_code, list_code, map_code}
+use Rattle.upon_machine_spec.specs.Code.{bases_code, list_code, map_code}
 use Rattle.upon_types.specs.AstExpression.{bases_of, items_of}
 use Rattle.upon_compiler.specs.Compiler.{code_of}
 use Rattle.upon_compiler.proofs.compile.Compiler.+expression.Given as goal

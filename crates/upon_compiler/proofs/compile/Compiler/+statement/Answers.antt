@@ -1,6 +1,6 @@
 use Rattle.std.proofs.Common.{ℕ, ◌+◌, [], ◌++◌, length, sym, ap, ◌∙◌}
 use Rattle.std.specs.Prelude.{slice_set}
-use Rattle.upon_machine.specs.Code.{expression_code, for_code, if_code, statement_code, statements_code}
+use Rattle.upon_machine_spec.specs.Code.{expression_code, for_code, if_code, statement_code, statements_code}
 use Rattle.upon_types.specs.Ast.{scope_of}
 use Rattle.upon_types.specs.AstExpression.{expression_of}
 use Rattle.upon_types.specs.AstPath.{loop_vars_of}

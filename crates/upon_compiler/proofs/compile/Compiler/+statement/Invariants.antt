@@ -1,6 +1,6 @@
 use Rattle.std.proofs.Common.{◌≡◌, ◌++◌, length}
 use Rattle.std.specs.Vec.Iter.{into_iter_items}
-use Rattle.upon_machine.specs.Code.{statements_code}
+use Rattle.upon_machine_spec.specs.Code.{statements_code}
 use Rattle.upon_types.specs.Ast.{statements_of}
 use Rattle.upon_compiler.specs.Compiler.{code_of}
 use Rattle.upon_compiler.proofs.compile.Compiler.+statement.Given as goal

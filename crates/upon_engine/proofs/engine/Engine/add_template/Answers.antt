@@ -4,7 +4,7 @@ use Rattle.upon_types.specs.Error.{fault_of}
 use Rattle.upon_types.specs.Fault.{syntax}
 use Rattle.upon_types.specs.Tree.{Statements}
 use Rattle.upon_types.specs.declared.error.Error.{Error}
-use Rattle.upon_language.specs.Grammar.{HasTree}
+use Rattle.upon_language_spec.specs.Grammar.{HasTree}
 use Rattle.upon_syntax.proofs.NextTokens.{handed_on}
 use Rattle.upon_engine.specs.Before.{KeepsOldTemplate}
 use Rattle.upon_engine.specs.Engine.{engine_syntax, HoldsTemplate}

@@ -1,6 +1,6 @@
 use Rattle.std.specs.BTreeMap.{get_by_text}
 use Rattle.upon_types.specs.View.{view}
-use Rattle.upon_renderer.specs.Reports.{Writes}
+use Rattle.upon_vm.specs.Reports.{Writes}
 use Rattle.upon_engine.specs.Engine.{engine_depth}
 use Rattle.upon_engine.specs.TemplateRef.{ref_template}
 use Rattle.upon_engine.proofs.Renderings.{on_value}

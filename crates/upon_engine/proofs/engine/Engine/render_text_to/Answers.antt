@@ -1,6 +1,6 @@
 use Rattle.std.proofs.Common.{ap, sym, ◌∙◌, None, true, inl, inr}
 use Rattle.upon_types.specs.View.{view}
-use Rattle.upon_renderer.specs.Reports.{Writes}
+use Rattle.upon_vm.specs.Reports.{Writes}
 use Rattle.upon_engine.specs.Template.{template_of}
 use Rattle.upon_engine.proofs.Renderings.{on_value}
 use Rattle.upon_engine.proofs.Tables.{made, handed, no_memory, nothing_yet, sends_by}

@@ -1,9 +1,9 @@
 use Rattle.std.proofs.Common.{rules, ℕ, ◌-◌, ap, subst}
 use Rattle.upon_types.specs.TreeSpans.{TreeLiesIn}
-use Rattle.upon_meaning.specs.Engine.{Template}
-use Rattle.upon_meaning.specs.Outcome.{states}
-use Rattle.upon_renderer.specs.Program.{IsProgramOf}
-use Rattle.upon_renderer.specs.Runs.{Ran}
+use Rattle.upon_meaning_spec.specs.Engine.{Template}
+use Rattle.upon_meaning_spec.specs.Outcome.{states}
+use Rattle.upon_vm.specs.Program.{IsProgramOf}
+use Rattle.upon_vm.specs.Runs.{Ran}
 use Rattle.upon_engine.specs.Base.{outcome_within}
 use Rattle.upon_engine.specs.Calls.{call_of}
 use Rattle.upon_engine.specs.Template.{template_of}

@@ -1,4 +1,4 @@
-use Rattle.upon_renderer.proofs.Writes.{writes_alone}
+use Rattle.upon_vm.proofs.Writes.{writes_alone}
 use Rattle.upon_engine.proofs.Laws.{kept}
 use Rattle.upon_engine.proofs.renderer.Renderer.to_output.Goals as goal
 

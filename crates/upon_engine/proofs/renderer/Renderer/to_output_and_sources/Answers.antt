@@ -1,7 +1,7 @@
 use Rattle.std.proofs.Common.{◌≡◌, ◌∙◌, List, ℕ, Option, true, sym, subst}
-use Rattle.upon_meaning.specs.Outcome.{states}
-use Rattle.upon_renderer.specs.Reports.{WritesAndLeaves}
-use Rattle.upon_renderer.proofs.Writes.{waits_where, writes}
+use Rattle.upon_meaning_spec.specs.Outcome.{states}
+use Rattle.upon_vm.specs.Reports.{WritesAndLeaves}
+use Rattle.upon_vm.proofs.Writes.{waits_where, writes}
 use Rattle.upon_engine.specs.Calls.{call_of, outcome}
 use Rattle.upon_engine.proofs.Laws.{kept}
 use Rattle.upon_engine.proofs.renderer.Renderer.to_output_and_sources.Goals as goal

@@ -1,6 +1,6 @@
 use Rattle.std.proofs.Common.{◌≡◌, ℕ, ◌+◌, ◌-◌, ◌≤◌, List, sym, subst, length, max, take, drop, arith, ap, length-take, length-drop}
-use Rattle.upon_language.specs.DefaultDelimiters.{default_delimiters}
-use Rattle.upon_language.specs.Search.{NoneFrom}
+use Rattle.upon_language_spec.specs.DefaultDelimiters.{default_delimiters}
+use Rattle.upon_language_spec.specs.Search.{NoneFrom}
 use Rattle.upon_lexer.specs.Pairs.{NoPairWith, IsFirstPairWith}
 use Rattle.upon_lexer.proofs.Pairing.{NoPairs, none_up_to, none_more, near_pair, no_pair_none}
 use Rattle.upon_lexer.proofs.compile.braces.next.Goals as goal

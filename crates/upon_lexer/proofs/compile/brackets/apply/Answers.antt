@@ -1,6 +1,6 @@
 use Rattle.std.proofs.Common.{◌≡◌, ◌-◌, [], None, sym, ap, ◌∙◌, take}
 use Rattle.upon_types.specs.declared.types.token.Token.{Token}
-use Rattle.upon_language.specs.Reading.{brackets_after}
+use Rattle.upon_language_spec.specs.Reading.{brackets_after}
 use Rattle.upon_lexer.specs.Brackets.{brackets_of, open_token, close_token, plain_lexeme}
 use Rattle.upon_lexer.proofs.OpenBrackets.{opens, closes}
 use Rattle.upon_lexer.proofs.compile.brackets.apply.Goals as goal

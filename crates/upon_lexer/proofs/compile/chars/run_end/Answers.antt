@@ -2,9 +2,9 @@ use Rattle.std.proofs.Common.{◌≡◌, ℕ, ◌+◌, false, encode_utf8, arith
 use Rattle.std.specs.Str.{IsCharBoundary}
 use Rattle.std.specs.Char.{len_utf8}
 use Rattle.std.proofs.lemmas.Str.{length-encode}
-use Rattle.upon_language.specs.Search.{Occurs}
+use Rattle.upon_language_spec.specs.Search.{Occurs}
 use Rattle.upon_lexer.specs.Class.{class_test}
-use Rattle.upon_language.proofs.Offsets.Runs.{passes_more, stops_at_char, stops_at_end, run_or_none}
+use Rattle.upon_language_spec.proofs.Offsets.Runs.{passes_more, stops_at_char, stops_at_end, run_or_none}
 use Rattle.upon_lexer.proofs.compile.chars.run_end.Goals as goal
 use Rattle.upon_lexer.proofs.compile.chars.run_end.Goals.{Then-not-has, In_default}
 

@@ -1,7 +1,7 @@
 use Rattle.std.proofs.Common.{length, ◌-◌}
 use Rattle.std.specs.Str.{IsCharBoundary}
 use Rattle.upon_lexer.specs.Class.{class_test}
-use Rattle.upon_language.proofs.Offsets.Runs.{Passes}
+use Rattle.upon_language_spec.proofs.Offsets.Runs.{Passes}
 use Rattle.upon_lexer.proofs.compile.chars.run_end.Given as goal
 
 abbrev pub invariant-loop-c : goal.invariant-loop-c

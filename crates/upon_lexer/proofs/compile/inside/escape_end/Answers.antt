@@ -1,8 +1,8 @@
 use Rattle.std.proofs.Common.{◌≡◌, ℕ, ◌⊎◌, inl, inr, false, arith, sym, ap, ◌∙◌}
-use Rattle.upon_language.specs.Inside.{escape, is_piece}
-use Rattle.upon_language.proofs.OneCut.Run.{one_char}
-use Rattle.upon_language.proofs.OneFirstFault.Fault.{nothing_at_end}
-use Rattle.upon_language.proofs.Offsets.Bytes.{behind_byte}
+use Rattle.upon_language_spec.specs.Inside.{escape, is_piece}
+use Rattle.upon_language_spec.proofs.OneCut.Run.{one_char}
+use Rattle.upon_language_spec.proofs.OneFirstFault.Fault.{nothing_at_end}
+use Rattle.upon_language_spec.proofs.Offsets.Bytes.{behind_byte}
 use Rattle.upon_lexer.proofs.compile.inside.escape_end.Goals as goal
 
 pub char_at-requires : goal.char_at-requires

@@ -1,9 +1,9 @@
 use Rattle.std.proofs.Common.{inl, inr, arith, refl, sym, ap, ◌+◌, ◌∙◌}
 use Rattle.std.proofs.lemmas.Str.{length-encode}
-use Rattle.upon_language.proofs.OneCut.Run.{one_char}
-use Rattle.upon_language.proofs.OneFirstFault.Fault.{nothing_at_end}
-use Rattle.upon_language.proofs.Offsets.Bytes.{behind_byte}
-use Rattle.upon_language.proofs.Offsets.Unexpected.{no_question}
+use Rattle.upon_language_spec.proofs.OneCut.Run.{one_char}
+use Rattle.upon_language_spec.proofs.OneFirstFault.Fault.{nothing_at_end}
+use Rattle.upon_language_spec.proofs.Offsets.Bytes.{behind_byte}
+use Rattle.upon_language_spec.proofs.Offsets.Unexpected.{no_question}
 use Rattle.upon_lexer.proofs.compile.inside.question_at.Goals as goal
 
 pub char_at-requires : goal.char_at-requires

@@ -2,9 +2,9 @@ use Rattle.std.proofs.Common.{arith, rules, ◌≡◌, ◌≢◌, ◌+◌, ◌�
 use Rattle.std.specs.Str.{IsCharBoundary}
 use Rattle.std.proofs.lemmas.Bool.Decides.{nat_tests}
 use Rattle.std.proofs.lemmas.Str.{length-encode}
-use Rattle.upon_language.specs.Inside.{plain, escape, ends_line, is_piece}
-use Rattle.upon_language.proofs.Offsets.Bytes.{behind_byte, char_as_byte, joined}
-use Rattle.upon_language.proofs.Offsets.Strings.{none_read, read_more, closed, no_string, stuck_at_end, stuck_at_line_end, stuck_at_backslash}
+use Rattle.upon_language_spec.specs.Inside.{plain, escape, ends_line, is_piece}
+use Rattle.upon_language_spec.proofs.Offsets.Bytes.{behind_byte, char_as_byte, joined}
+use Rattle.upon_language_spec.proofs.Offsets.Strings.{none_read, read_more, closed, no_string, stuck_at_end, stuck_at_line_end, stuck_at_backslash}
 use Rattle.upon_lexer.proofs.compile.inside.quote_end.Goals as goal
 
 pub loop-c-init : goal.loop-c-init

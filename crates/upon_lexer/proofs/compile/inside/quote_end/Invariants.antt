@@ -1,6 +1,6 @@
 use Rattle.std.proofs.Common.{length, ◌-◌}
 use Rattle.std.specs.Str.{IsCharBoundary}
-use Rattle.upon_language.proofs.Offsets.Strings.{PiecesRead}
+use Rattle.upon_language_spec.proofs.Offsets.Strings.{PiecesRead}
 use Rattle.upon_lexer.proofs.compile.inside.quote_end.Given as goal
 
 abbrev pub invariant-loop-c : goal.invariant-loop-c

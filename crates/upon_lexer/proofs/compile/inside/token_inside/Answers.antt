@@ -4,14 +4,14 @@ use Rattle.std.specs.Str.{IsCharBoundary}
 use Rattle.std.proofs.lemmas.Str.{length-encode}
 use Rattle.upon_types.specs.Span.{LiesIn}
 use Rattle.upon_types.specs.declared.types.token.Token.TheVariants.{Whitespace, Index, Number}
-use Rattle.upon_language.specs.Words.{is_tag_space}
-use Rattle.upon_language.specs.Inside.{continues_number}
-use Rattle.upon_language.specs.Faults.{span_of}
-use Rattle.upon_language.proofs.SpansLieIn.Token.{char_between, low_between}
-use Rattle.upon_language.proofs.Offsets.KindsBy.{proper_kind, single}
-use Rattle.upon_language.proofs.Offsets.Runs.{some_run}
-use Rattle.upon_language.proofs.Offsets.Unexpected.{no_token, same_span}
-use Rattle.upon_language.proofs.Totality.SomethingOccurs.{digit_continues}
+use Rattle.upon_language_spec.specs.Words.{is_tag_space}
+use Rattle.upon_language_spec.specs.Inside.{continues_number}
+use Rattle.upon_language_spec.specs.Faults.{span_of}
+use Rattle.upon_language_spec.proofs.SpansLieIn.Token.{char_between, low_between}
+use Rattle.upon_language_spec.proofs.Offsets.KindsBy.{proper_kind, single}
+use Rattle.upon_language_spec.proofs.Offsets.Runs.{some_run}
+use Rattle.upon_language_spec.proofs.Offsets.Unexpected.{no_token, same_span}
+use Rattle.upon_language_spec.proofs.Totality.SomethingOccurs.{digit_continues}
 use Rattle.upon_lexer.proofs.compile.inside.token_inside.Goals as goal
 
 pub returns-in-Some-Whitespace-clause-token : goal.returns-in-Some-Whitespace-clause-token

@@ -1,8 +1,8 @@
 use Rattle.std.proofs.Common.{ap, sym, ◌∙◌}
 use Rattle.unicode_ident.specs.Ident.{is_xid_continue}
-use Rattle.upon_language.specs.Words.{is_keyword}
-use Rattle.upon_language.proofs.Offsets.Names.{begins_continues}
-use Rattle.upon_language.proofs.Offsets.Runs.{some_run}
+use Rattle.upon_language_spec.specs.Words.{is_keyword}
+use Rattle.upon_language_spec.proofs.Offsets.Names.{begins_continues}
+use Rattle.upon_language_spec.proofs.Offsets.Runs.{some_run}
 use Rattle.upon_lexer.proofs.compile.inside.word_at.Goals as goal
 
 pub returns-else-is_keyword-clause-extent : goal.returns-else-is_keyword-clause-extent

@@ -1,4 +1,4 @@
-use Rattle.upon_language.proofs.SpansLieIn.Offsets.{occurs_lies_in}
+use Rattle.upon_language_spec.proofs.SpansLieIn.Offsets.{occurs_lies_in}
 use Rattle.upon_lexer.proofs.compile.search.end_of.Goals as goal
 
 pub returns-clause-span : goal.returns-clause-span

@@ -1,5 +1,5 @@
 use Rattle.std.proofs.Common.{◌≤◌, ◌-◌, List, length}
-use Rattle.upon_language.specs.Search.{DelimiterText, HasTexts, NoneFrom}
+use Rattle.upon_language_spec.specs.Search.{DelimiterText, HasTexts, NoneFrom}
 use Rattle.upon_lexer.specs.FirstBytes.{BeginWithOneOf}
 use Rattle.upon_lexer.specs.Marks.{MarksEach}
 use Rattle.upon_lexer.proofs.compile.search.next_of_few.Given as goal

@@ -1,6 +1,6 @@
 use Rattle.std.proofs.Common.{rules, ◌≡◌, ◌∙◌, ℕ, Ok, Err, true, ap, sym}
-use Rattle.upon_meaning.specs.Outcome.{Outcome, States}
-use Rattle.upon_renderer.specs.Reports.{Writes}
+use Rattle.upon_meaning_spec.specs.Outcome.{Outcome, States}
+use Rattle.upon_vm.specs.Reports.{Writes}
 use Rattle.upon_engine.specs.Sources.{value_in}
 use Rattle.upon_engine.specs.Template.{template_of}
 use Rattle.upon.specs.Renderings.{by_source}

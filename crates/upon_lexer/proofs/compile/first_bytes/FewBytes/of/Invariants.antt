@@ -1,5 +1,5 @@
 use Rattle.std.proofs.Common.{ℕ, ◌<◌, get_or}
-use Rattle.upon_language.specs.Search.{text_at}
+use Rattle.upon_language_spec.specs.Search.{text_at}
 use Rattle.upon_lexer.specs.FirstBytes.{IsOneOf}
 use Rattle.upon_lexer.specs.Syntax.{syntax_delimiters}
 use Rattle.upon_lexer.proofs.compile.first_bytes.FewBytes.of.Given as goal

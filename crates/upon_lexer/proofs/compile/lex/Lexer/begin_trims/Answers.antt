@@ -1,5 +1,5 @@
 use Rattle.std.proofs.Common.{ℕ, sym, ◌∙◌, subst}
-use Rattle.upon_language.specs.Search.{IsBestDelimiter}
+use Rattle.upon_language_spec.specs.Search.{IsBestDelimiter}
 use Rattle.upon_lexer.specs.Roles.{sort_of}
 use Rattle.upon_lexer.specs.Lexers.{lexer_text, lexer_delimiters}
 use Rattle.upon_lexer.proofs.compile.lex.Lexer.begin_trims.Goals as goal

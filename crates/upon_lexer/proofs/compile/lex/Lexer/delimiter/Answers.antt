@@ -1,14 +1,14 @@
 use Rattle.std.proofs.Common.{ℕ, sym, ap, subst}
-use Rattle.upon_language.specs.Search.{IsBestDelimiter}
-use Rattle.upon_language.specs.Faults.{span_of}
+use Rattle.upon_language_spec.specs.Search.{IsBestDelimiter}
+use Rattle.upon_language_spec.specs.Faults.{span_of}
 use Rattle.upon_lexer.specs.Roles.{sort_of}
 use Rattle.upon_lexer.specs.Reasons.{reason_of}
 use Rattle.upon_lexer.specs.declared.compile.fault.SyntaxFault.TheVariants.{UnexpectedEnd}
 use Rattle.upon_lexer.specs.OpenTags.{begin_of}
-use Rattle.upon_language.specs.LexStep.{IsWrong}
+use Rattle.upon_language_spec.specs.LexStep.{IsWrong}
 use Rattle.upon_lexer.specs.Lexers.{lexer_text, lexer_delimiters, lexer_state}
 use Rattle.upon_lexer.proofs.OpenModes.{awaited_of}
-use Rattle.upon_language.proofs.Offsets.LexFaults.{wrong_begin, wrong_end}
+use Rattle.upon_language_spec.proofs.Offsets.LexFaults.{wrong_begin, wrong_end}
 use Rattle.upon_lexer.proofs.compile.lex.Lexer.delimiter.Goals as goal
 
 pub returns-in-Some-clause-wrong_span : goal.returns-in-Some-clause-wrong_span

@@ -1,10 +1,10 @@
 use Rattle.std.proofs.Common.{ℕ, subst}
-use Rattle.upon_language.specs.Search.{IsBestDelimiter}
+use Rattle.upon_language_spec.specs.Search.{IsBestDelimiter}
 use Rattle.upon_lexer.specs.Roles.{sort_of}
 use Rattle.upon_lexer.specs.Brackets.{bracket_lexeme}
 use Rattle.upon_lexer.specs.Lexers.{lexer_text, lexer_delimiters, lexer_state}
 use Rattle.upon_lexer.proofs.OpenBrackets.{innermost_first}
-use Rattle.upon_language.proofs.Offsets.LexFaults.{wrong_bracket}
+use Rattle.upon_language_spec.proofs.Offsets.LexFaults.{wrong_bracket}
 use Rattle.upon_lexer.proofs.compile.lex.Lexer.end.Goals as goal
 
 pub returns-in-Some-clause-wrong_span : goal.returns-in-Some-clause-wrong_span

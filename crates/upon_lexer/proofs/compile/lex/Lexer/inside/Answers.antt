@@ -1,6 +1,6 @@
 use Rattle.upon_lexer.specs.Lexers.{lexer_text, lexer_delimiters, lexer_state}
 use Rattle.upon_lexer.specs.Reasons.{reason_of}
-use Rattle.upon_language.proofs.Offsets.LexFaults.{wrong_inside}
+use Rattle.upon_language_spec.proofs.Offsets.LexFaults.{wrong_inside}
 use Rattle.upon_lexer.proofs.compile.lex.Lexer.inside.Goals as goal
 
 pub returns-in-Err-clause-wrong : goal.returns-in-Err-clause-wrong

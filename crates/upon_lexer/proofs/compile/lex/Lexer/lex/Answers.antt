@@ -1,15 +1,15 @@
 use Rattle.std.proofs.Common.{◌≡◌, ℕ, ◌<◌, ap, arith, ◌++◌, ◌∷◌, [], inl, refl, sym, subst}
 use Rattle.upon_types.specs.declared.types.Span.{Span}
-use Rattle.upon_language.specs.Lexing.{LexerState, HasRead}
+use Rattle.upon_language_spec.specs.Lexing.{LexerState, HasRead}
 use Rattle.upon_lexer.specs.Lexers.{lexer_text, lexer_delimiters, lexer_state, next_lexeme}
-use Rattle.upon_language.specs.Faults.{span_of}
+use Rattle.upon_language_spec.specs.Faults.{span_of}
 use Rattle.upon_lexer.specs.Spelling.{IsSpelled}
 use Rattle.upon_lexer.specs.Reasons.{reason_of}
 use Rattle.upon_lexer.proofs.ReadMore.{read_more}
 use Rattle.upon_lexer.proofs.Spelling.{spelled, given_same, given_spelled}
-use Rattle.upon_language.proofs.Offsets.Clear.{clear_behind, none_at_end}
-use Rattle.upon_language.proofs.OneCut.Token.{step_ends}
-use Rattle.upon_language.proofs.OneFirstFault.CutFault.{first_cut}
+use Rattle.upon_language_spec.proofs.Offsets.Clear.{clear_behind, none_at_end}
+use Rattle.upon_language_spec.proofs.OneCut.Token.{step_ends}
+use Rattle.upon_language_spec.proofs.OneFirstFault.CutFault.{first_cut}
 use Rattle.upon_lexer.proofs.compile.lex.Lexer.lex.Goals as goal
 
 pub returns-in-Ok-clause-token : goal.returns-in-Ok-clause-token

@@ -1,13 +1,13 @@
 use Rattle.std.proofs.Common.{◌≡◌, ℕ, false, sym, subst}
 use Rattle.upon_types.specs.declared.types.token.Token.{Token}
-use Rattle.upon_language.specs.Inside.{IsInside}
-use Rattle.upon_language.specs.Faults.{span_of, closes_first}
+use Rattle.upon_language_spec.specs.Inside.{IsInside}
+use Rattle.upon_language_spec.specs.Faults.{span_of, closes_first}
 use Rattle.upon_lexer.specs.Brackets.{close_token}
 use Rattle.upon_lexer.specs.Reasons.{reason_of}
 use Rattle.upon_lexer.specs.declared.compile.fault.SyntaxFault.TheVariants.{UnexpectedClose}
-use Rattle.upon_language.specs.LexStep.{IsWrong}
+use Rattle.upon_language_spec.specs.LexStep.{IsWrong}
 use Rattle.upon_lexer.specs.Lexers.{lexer_text, lexer_delimiters, lexer_state}
-use Rattle.upon_language.proofs.Offsets.LexFaults.{wrong_close}
+use Rattle.upon_language_spec.proofs.Offsets.LexFaults.{wrong_close}
 use Rattle.upon_lexer.proofs.OpenBrackets.{is_closing}
 use Rattle.upon_lexer.proofs.compile.lex.Lexer.matched.Goals as goal
 

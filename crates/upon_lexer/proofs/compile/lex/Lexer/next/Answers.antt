@@ -1,7 +1,7 @@
 use Rattle.std.proofs.Common.{◌≡◌, ℕ, ◌++◌, ◌∷◌, [], List, true, Some, None, Ok, Err, sym, ap, ◌∙◌, subst}
-use Rattle.upon_language.specs.Search.{DelimiterText}
-use Rattle.upon_language.specs.Tokens.{is_space}
-use Rattle.upon_language.specs.Lexing.{HasRead, Lexes}
+use Rattle.upon_language_spec.specs.Search.{DelimiterText}
+use Rattle.upon_language_spec.specs.Tokens.{is_space}
+use Rattle.upon_language_spec.specs.Lexing.{HasRead, Lexes}
 use Rattle.upon_lexer.specs.Lexers.{lexer_text, lexer_delimiters, lexer_state}
 use Rattle.upon_lexer.proofs.Spaces.{at_once, behind_space, further_still, between_still}
 use Rattle.upon_lexer.proofs.compile.lex.Lexer.next.Goals as goal

@@ -1,5 +1,5 @@
 use Rattle.std.proofs.Common.{List}
-use Rattle.upon_language.specs.Search.{DelimiterText, HasTexts, NoneFrom}
+use Rattle.upon_language_spec.specs.Search.{DelimiterText, HasTexts, NoneFrom}
 use Rattle.upon_lexer.specs.Marks.{MarksEach}
 use Rattle.upon_lexer.proofs.compile.marks.Marks.next.Given as goal
 

@@ -1,5 +1,5 @@
 use Rattle.std.proofs.Common.{ℕ, ◌<◌, ◌%◌}
-use Rattle.upon_language.specs.Search.{text_at}
+use Rattle.upon_language_spec.specs.Search.{text_at}
 use Rattle.upon_lexer.specs.Marks.{MarksText}
 use Rattle.upon_lexer.specs.Syntax.{syntax_delimiters}
 use Rattle.upon_lexer.proofs.compile.marks.Marks.of.Given as goal

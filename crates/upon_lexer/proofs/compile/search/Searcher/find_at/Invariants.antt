@@ -1,6 +1,6 @@
 use Rattle.std.proofs.Common.{◌≤◌, ◌-◌, length}
 use Rattle.upon_lexer.specs.Searcher.{searcher_delimiters}
-use Rattle.upon_language.specs.Search.{NoneFrom}
+use Rattle.upon_language_spec.specs.Search.{NoneFrom}
 use Rattle.upon_lexer.proofs.compile.search.Searcher.find_at.Given as goal
 
 abbrev pub invariant-loop-offset : goal.invariant-loop-offset

@@ -1,5 +1,5 @@
 use Rattle.std.proofs.Common.{ℕ, List, length, sym, subst}
-use Rattle.upon_language.specs.Search.{NoneAt, IsBest}
+use Rattle.upon_language_spec.specs.Search.{NoneAt, IsBest}
 use Rattle.upon_lexer.specs.Nodes.{IsLinked}
 use Rattle.upon_lexer.specs.Syntax.{syntax_delimiters}
 use Rattle.upon_lexer.specs.Trie.{IsTrieOf}

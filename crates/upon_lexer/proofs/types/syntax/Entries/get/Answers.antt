@@ -1,7 +1,7 @@
 use Rattle.std.proofs.Common.{◌<◌, length, arith, sym, ap, ◌∙◌}
 use Rattle.std.specs.Prelude.{string_bytes}
 use Rattle.std.proofs.lemmas.List.{length-map}
-use Rattle.upon_language.specs.Search.{kind_at, text_at}
+use Rattle.upon_language_spec.specs.Search.{kind_at, text_at}
 use Rattle.upon_lexer.specs.declared.types.syntax.Entry.{Entry}
 use Rattle.upon_lexer.specs.Entries.{delimiter_text_of, entries_list}
 use Rattle.upon_lexer.proofs.Entries.{text_of_entry, kind_of_entry}

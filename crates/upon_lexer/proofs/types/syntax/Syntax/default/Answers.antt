@@ -1,5 +1,5 @@
 use Rattle.std.proofs.Common.{refl}
-use Rattle.upon_language.proofs.Computation.DefaultTexts.{default_texts, default_utf8}
+use Rattle.upon_language_spec.proofs.Computation.DefaultTexts.{default_texts, default_utf8}
 use Rattle.upon_lexer.proofs.types.syntax.Syntax.default.Goals as goal
 
 pub invariant_of-result : goal.invariant_of-result

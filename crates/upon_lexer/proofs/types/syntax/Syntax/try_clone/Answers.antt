@@ -1,6 +1,6 @@
 use Rattle.std.proofs.Common.{List, sym, subst, ap, ◌∙◌}
-use Rattle.upon_language.specs.LiesIn.{HasUtf8}
-use Rattle.upon_language.specs.Search.{DelimiterText, HasTexts}
+use Rattle.upon_language_spec.specs.LiesIn.{HasUtf8}
+use Rattle.upon_language_spec.specs.Search.{DelimiterText, HasTexts}
 use Rattle.upon_lexer.specs.Grown.{nodes_of}
 use Rattle.upon_lexer.proofs.types.syntax.Syntax.try_clone.Goals as goal
 

@@ -1,7 +1,7 @@
 use Rattle.std.proofs.Common.{◌≡◌, ◌<◌, ◌≤◌, [], ◌∷◌, rules, map, length, arith, sym, ap, ◌∙◌}
 use Rattle.std.specs.Prelude.{string_bytes}
 use Rattle.std.proofs.lemmas.List.{length-map}
-use Rattle.upon_language.specs.Search.{text_at}
+use Rattle.upon_language_spec.specs.Search.{text_at}
 use Rattle.upon_lexer.specs.Entries.{delimiter_text_of}
 use Rattle.upon_lexer.specs.Nodes.{blank}
 use Rattle.upon_lexer.specs.declared.types.syntax.Entry.{Entry}

@@ -1,5 +1,5 @@
 use Rattle.std.proofs.Common.{◌-◌, ◌<◌, List, length, take, drop}
-use Rattle.upon_language.specs.Search.{DelimiterText}
+use Rattle.upon_language_spec.specs.Search.{DelimiterText}
 use Rattle.upon_lexer.specs.Nodes.{Leads}
 use Rattle.upon_lexer.specs.Trie.{IsTrieOf, LongestShorter}
 use Rattle.upon_lexer.proofs.types.syntax.trie.longest_at.Given as goal

@@ -4,9 +4,9 @@ use Rattle.upon_types.specs.Ast.{tree_of}
 use Rattle.upon_types.specs.Error.{fault_of}
 use Rattle.upon_types.specs.Fault.{Fault, syntax, memory}
 use Rattle.upon_types.specs.Tree.{Statements}
-use Rattle.upon_language.specs.Grammar.{HasTree}
-use Rattle.upon_language.proofs.OneTree.Tree.{one_whole_tree}
-use Rattle.upon_language.proofs.NoTreeWithFault.Fault.{no_tree_with_fault}
+use Rattle.upon_language_spec.specs.Grammar.{HasTree}
+use Rattle.upon_language_spec.proofs.OneTree.Tree.{one_whole_tree}
+use Rattle.upon_language_spec.proofs.NoTreeWithFault.Fault.{no_tree_with_fault}
 use Rattle.upon_syntax.specs.TagReading.{IsSyntaxError}
 use Rattle.upon_syntax.specs.Parsed.{source_of, syntax_of}
 use Rattle.upon_syntax.proofs.NextTokens.{handed_on}

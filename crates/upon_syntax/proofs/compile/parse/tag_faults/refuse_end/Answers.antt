@@ -1,7 +1,7 @@
 use Rattle.std.proofs.Common.{true, false, ◌≡◌, [], refl}
-use Rattle.upon_language.specs.LiteralWords.{fits_word}
+use Rattle.upon_language_spec.specs.LiteralWords.{fits_word}
 use Rattle.upon_syntax.specs.TagReading.{IsSyntaxError}
-use Rattle.upon_tags.specs.Wants.{wanted_of}
+use Rattle.upon_tag_parser.specs.Wants.{wanted_of}
 use Rattle.upon_syntax.proofs.TagRefused.{refused_at_end, refused_at_fault, refused_at_eof, refused_literal, refused_token}
 use Rattle.upon_syntax.proofs.compile.parse.tag_faults.refuse_end.Goals as goal
 

@@ -1,6 +1,6 @@
-use Rattle.upon_language.specs.Tags.{word_of}
-use Rattle.upon_language.specs.Wanted.{reason_for}
-use Rattle.upon_tags.specs.Wants.{wanted_of}
+use Rattle.upon_language_spec.specs.Tags.{word_of}
+use Rattle.upon_language_spec.specs.Wanted.{reason_for}
+use Rattle.upon_tag_parser.specs.Wants.{wanted_of}
 use Rattle.upon_syntax.proofs.compile.parse.tag_faults.refuse_token.Goals as goal
 
 pub returns : goal.returns

@@ -1,7 +1,7 @@
 use Rattle.std.proofs.Common.{List, ℕ, sym, subst}
 use Rattle.upon_lexer.specs.Lexers.{lexer_text, lexer_delimiters, lexer_state}
 use Rattle.upon_lexer.specs.Spelling.{IsSpelled}
-use Rattle.upon_tags.specs.Literals.{before_of}
+use Rattle.upon_tag_parser.specs.Literals.{before_of}
 use Rattle.upon_syntax.proofs.LiteralSpans.{index_digits}
 use Rattle.upon_syntax.proofs.TagTokenSteps.{ends_wrong, ends_eof, stops, goes_on}
 use Rattle.upon_syntax.proofs.compile.parse.tag_tokens.read_token.Goals as goal

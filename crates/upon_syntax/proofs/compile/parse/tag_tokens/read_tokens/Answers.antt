@@ -1,12 +1,12 @@
 use Rattle.std.proofs.Common.{◌≡◌, ℕ, List, [], ◌∷◌, ◌++◌, length, Option, None, refl, sym, ap, ◌∙◌, subst, arith}
 use Rattle.std.proofs.lemmas.List.{map-append}
-use Rattle.upon_language.specs.Cut.{Lexeme}
-use Rattle.upon_language.specs.Lexing.{HasRead}
-use Rattle.upon_language.proofs.NoTreeWithFault.FineAt.{last_or}
+use Rattle.upon_language_spec.specs.Cut.{Lexeme}
+use Rattle.upon_language_spec.specs.Lexing.{HasRead}
+use Rattle.upon_language_spec.proofs.NoTreeWithFault.FineAt.{last_or}
 use Rattle.upon_lexer.specs.Lexers.{lexer_text, lexer_delimiters, lexer_state}
-use Rattle.upon_language.specs.Search.{DelimiterText}
-use Rattle.upon_tags.specs.Literals.{lexeme_of, before_of}
-use Rattle.upon_tags.specs.TagTokens.{lexemes_of, IsTagToken, EachTagToken}
+use Rattle.upon_language_spec.specs.Search.{DelimiterText}
+use Rattle.upon_tag_parser.specs.Literals.{lexeme_of, before_of}
+use Rattle.upon_tag_parser.specs.TagTokens.{lexemes_of, IsTagToken, EachTagToken}
 use Rattle.upon_syntax.specs.TagEnds.{ReadsOn, ReadsUpTo}
 use Rattle.upon_syntax.proofs.TagTokenSteps.{each_token_more, last_token, reads_start, reads_then, reads_up_to}
 use Rattle.upon_syntax.proofs.compile.parse.tag_tokens.read_tokens.Goals as goal

@@ -1,10 +1,10 @@
 use Rattle.std.proofs.Common.{◌≡◌, ◌-◌, List, length, Bool, None}
-use Rattle.upon_language.specs.Cut.{Lexeme, in_tag}
-use Rattle.upon_language.specs.Delimiters.{Sort}
-use Rattle.upon_language.proofs.NoTreeWithFault.FineAt.{last_or}
+use Rattle.upon_language_spec.specs.Cut.{Lexeme, in_tag}
+use Rattle.upon_language_spec.specs.Delimiters.{Sort}
+use Rattle.upon_language_spec.proofs.NoTreeWithFault.FineAt.{last_or}
 use Rattle.upon_lexer.specs.Lexers.{lexer_text, lexer_delimiters, lexer_state, ReadSoFar}
-use Rattle.upon_tags.specs.Literals.{before_of}
-use Rattle.upon_tags.specs.TagTokens.{lexemes_of, EachTagToken}
+use Rattle.upon_tag_parser.specs.Literals.{before_of}
+use Rattle.upon_tag_parser.specs.TagTokens.{lexemes_of, EachTagToken}
 use Rattle.upon_syntax.specs.TagEnds.{SignLies, ReadsOn}
 use Rattle.upon_syntax.proofs.compile.parse.tag_tokens.read_tokens.Given as goal
 

@@ -1,5 +1,5 @@
 use Rattle.std.proofs.Common.{ℕ, List, ◌≡◌, Some, sym, subst}
-use Rattle.upon_language.specs.Literal.{digits_in}
+use Rattle.upon_language_spec.specs.Literal.{digits_in}
 use Rattle.upon_syntax.proofs.LiteralSpans.{index_digits}
 use Rattle.upon_syntax.proofs.compile.parse.tag_tokens.refuse_index.Goals as goal
 

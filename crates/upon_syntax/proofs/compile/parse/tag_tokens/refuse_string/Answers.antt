@@ -1,9 +1,9 @@
 use Rattle.std.proofs.Common.{◌≡◌, ◌≤◌, ◌-◌, ◌+◌, arith, sym, ap, codes, subst}
 use Rattle.upon_types.specs.declared.types.Span.{Span}
 use Rattle.upon_types.specs.Span.{LiesIn}
-use Rattle.upon_language.specs.LaterFaults.{Report}
-use Rattle.upon_language.specs.Faults.{span_of}
-use Rattle.upon_language.proofs.Spans.Literals.{escape_lies}
+use Rattle.upon_language_spec.specs.LaterFaults.{Report}
+use Rattle.upon_language_spec.specs.Faults.{span_of}
+use Rattle.upon_language_spec.proofs.Spans.Literals.{escape_lies}
 use Rattle.upon_syntax.proofs.compile.parse.tag_tokens.refuse_string.Goals as goal
 
 whole : (place : Span) → place.m ≤ place.n → span_of place.m (place.m + (place.n - place.m)) ≡ place

@@ -1,5 +1,5 @@
 use Rattle.std.proofs.Common.{ℕ, List, [], vec_len}
-use Rattle.upon_language.specs.Cut.{Lexeme}
+use Rattle.upon_language_spec.specs.Cut.{Lexeme}
 use Rattle.upon_syntax.specs.Pieces.{pieces_of, ArePieces}
 use Rattle.upon_syntax.specs.PieceTrees.{IsClosed, ReadsWith}
 use Rattle.upon_syntax.proofs.compile.parse.tree.tree_of_pieces.Given as goal

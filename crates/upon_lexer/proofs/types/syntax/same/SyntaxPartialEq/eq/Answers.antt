@@ -1,5 +1,5 @@
 use Rattle.std.proofs.lemmas.Bool.Decides.{same_from_decides}
-use Rattle.upon_language.proofs.SameDelimiters.{delimiters_eq-Decides}
+use Rattle.upon_language_spec.proofs.SameDelimiters.{delimiters_eq-Decides}
 use Rattle.upon_lexer.specs.Syntax.{syntax_delimiters}
 use Rattle.upon_lexer.proofs.types.syntax.same.SyntaxPartialEq.eq.Goals as goal
 

@@ -1,8 +1,8 @@
 use Rattle.std.proofs.Common.{ℕ, List, sym, subst, codes, ◌++◌}
 use Rattle.std.specs.Str.{IsUtf8}
 use Rattle.std.proofs.lemmas.Str.{IsUtf8-had}
-use Rattle.upon_language.specs.Blocks.{block_word}
-use Rattle.upon_language.specs.Wanted.{in_quotes}
+use Rattle.upon_language_spec.specs.Blocks.{block_word}
+use Rattle.upon_language_spec.specs.Wanted.{in_quotes}
 use Rattle.upon_syntax.specs.declared.compile.parse.open_blocks.Kind.{Kind}
 use Rattle.upon_syntax.specs.OpenBlocks.{block_of, kind_of}
 use Rattle.upon_syntax.specs.PieceReading.{pieces_text, pieces_delimiters, pieces_state, pieces_blocks}

@@ -1,8 +1,8 @@
 use Rattle.std.proofs.Common.{◌≡◌, ℕ, List, [], ◌∷◌, ◌++◌, true, None, Some, Ok, Err, refl, sym, ◌∙◌, codes}
 use Rattle.upon_types.specs.declared.types.token.Token.TheVariants.{Raw, EndComment}
 use Rattle.upon_types.specs.declared.error.Error.{Error}
-use Rattle.upon_language.specs.Search.{DelimiterText}
-use Rattle.upon_language.specs.Cut.{Lexeme, in_comment}
+use Rattle.upon_language_spec.specs.Search.{DelimiterText}
+use Rattle.upon_language_spec.specs.Cut.{Lexeme, in_comment}
 use Rattle.upon_lexer.specs.Lexers.{lexer_text, lexer_delimiters, lexer_state}
 use Rattle.upon_syntax.specs.PieceReading.{pieces_text, pieces_delimiters, pieces_state, AfterCommentBegin, AfterCommentRaw, PassesEnd, PassesComment}
 use Rattle.upon_syntax.specs.TagReading.{IsSyntaxError}

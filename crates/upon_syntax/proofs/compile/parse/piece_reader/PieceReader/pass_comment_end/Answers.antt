@@ -1,6 +1,6 @@
 use Rattle.std.proofs.Common.{List, false, None, Some, Ok, Err, refl, codes}
 use Rattle.upon_types.specs.declared.error.Error.{Error}
-use Rattle.upon_language.specs.Cut.{Lexeme, in_comment}
+use Rattle.upon_language_spec.specs.Cut.{Lexeme, in_comment}
 use Rattle.upon_lexer.specs.Lexers.{lexer_text, lexer_state}
 use Rattle.upon_syntax.specs.PieceReading.{pieces_text, pieces_delimiters, pieces_state, AfterCommentRaw}
 use Rattle.upon_syntax.specs.TagReading.{IsSyntaxError}

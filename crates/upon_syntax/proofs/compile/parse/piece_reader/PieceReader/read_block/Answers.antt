@@ -3,14 +3,14 @@ use Rattle.std.specs.Str.{IsUtf8}
 use Rattle.std.proofs.lemmas.Str.{IsUtf8-had}
 use Rattle.upon_types.specs.declared.types.token.Token.TheVariants.{BeginBlock}
 use Rattle.upon_types.specs.Span.{LiesIn}
-use Rattle.upon_language.specs.Blocks.{closer_words}
-use Rattle.upon_language.specs.Wanted.{in_quotes}
-use Rattle.upon_language.proofs.SpansLieIn.Characters.{had_utf8}
+use Rattle.upon_language_spec.specs.Blocks.{closer_words}
+use Rattle.upon_language_spec.specs.Wanted.{in_quotes}
+use Rattle.upon_language_spec.proofs.SpansLieIn.Characters.{had_utf8}
 use Rattle.upon_lexer.specs.Lexers.{lexer_text}
 use Rattle.upon_syntax.specs.declared.compile.parse.open_blocks.Closing.{Closing}
 use Rattle.upon_syntax.specs.OpenBlocks.{closer_of, stack_of}
 use Rattle.upon_syntax.specs.PieceReading.{pieces_text, pieces_delimiters, pieces_blocks, token_lexeme}
-use Rattle.upon_tags.specs.BlockTags.{tag_of}
+use Rattle.upon_tag_parser.specs.BlockTags.{tag_of}
 use Rattle.upon_syntax.specs.TagReading.{IsSyntaxError}
 use Rattle.upon_syntax.proofs.BlockFaults.{first_lies_in}
 use Rattle.upon_syntax.proofs.NextTokens.{handed_on, said_at}

@@ -3,14 +3,14 @@ use Rattle.upon_types.specs.declared.error.Error.{Error}
 use Rattle.upon_types.specs.declared.types.ast.InlineExpr.{InlineExpr}
 use Rattle.upon_types.specs.declared.types.token.Token.TheVariants.{BeginExpr}
 use Rattle.upon_types.specs.AstExpression.{expression_of}
-use Rattle.upon_language.specs.Cut.{Lexeme}
-use Rattle.upon_language.specs.Delimiters.{expression}
-use Rattle.upon_language.specs.Lexing.{LexerState}
+use Rattle.upon_language_spec.specs.Cut.{Lexeme}
+use Rattle.upon_language_spec.specs.Delimiters.{expression}
+use Rattle.upon_language_spec.specs.Lexing.{LexerState}
 use Rattle.upon_lexer.specs.Lexers.{lexer_text, lexer_state}
 use Rattle.upon_syntax.specs.PieceReading.{pieces_text, pieces_delimiters, pieces_state, pieces_blocks, token_lexeme, TokenGiven, ReadsOn}
 use Rattle.upon_syntax.specs.Pieces.{inline_piece}
 use Rattle.upon_syntax.specs.TagReading.{AfterBegin, AfterEnd, IsSyntaxError}
-use Rattle.upon_tags.specs.WholeTags.{IsInlineTag}
+use Rattle.upon_tag_parser.specs.WholeTags.{IsInlineTag}
 use Rattle.upon_syntax.proofs.NextTokens.{ok_both, err_on}
 use Rattle.upon_syntax.proofs.TagEnds.{after_begin_expr, inline_step}
 use Rattle.upon_syntax.proofs.compile.parse.piece_reader.PieceReader.read_inline.Goals as goal

@@ -1,8 +1,8 @@
 use Rattle.std.proofs.Common.{ℕ, List, ◌++◌, sym, subst, codes}
 use Rattle.upon_types.specs.Error.{fault_of}
 use Rattle.upon_types.specs.Fault.{OrMemory}
-use Rattle.upon_language.specs.Blocks.{closer_words}
-use Rattle.upon_language.specs.Wanted.{in_quotes}
+use Rattle.upon_language_spec.specs.Blocks.{closer_words}
+use Rattle.upon_language_spec.specs.Wanted.{in_quotes}
 use Rattle.upon_syntax.specs.OpenBlocks.{closer_of}
 use Rattle.upon_syntax.specs.TagEnds.{syntax_fault}
 use Rattle.upon_syntax.proofs.compile.parse.piece_reader.PieceReader.unexpected.Goals as goal

@@ -1,21 +1,21 @@
 use Rattle.std.proofs.Common.{ℕ, List, [], ◌∷◌, None, false, refl, sym, ◌∙◌, subst}
 use Rattle.std.proofs.lemmas.Result.{err_from_is_err_and}
 use Rattle.upon_types.specs.declared.types.token.Token.TheVariants.{EndBlock}
-use Rattle.upon_tags.specs.BlockTags.{tag_of}
-use Rattle.upon_language.specs.Cut.{Lexeme}
-use Rattle.upon_language.specs.Delimiters.{block}
-use Rattle.upon_language.specs.Parts.{Part, block_word}
-use Rattle.upon_language.specs.Wanted.{an_end_block}
-use Rattle.upon_language.proofs.NoTreeWithFault.FineAt.{last_or}
+use Rattle.upon_tag_parser.specs.BlockTags.{tag_of}
+use Rattle.upon_language_spec.specs.Cut.{Lexeme}
+use Rattle.upon_language_spec.specs.Delimiters.{block}
+use Rattle.upon_language_spec.specs.Parts.{Part, block_word}
+use Rattle.upon_language_spec.specs.Wanted.{an_end_block}
+use Rattle.upon_language_spec.proofs.NoTreeWithFault.FineAt.{last_or}
 use Rattle.upon_lexer.specs.Lexers.{lexer_text, lexer_delimiters, lexer_state}
-use Rattle.upon_tags.specs.declared.compile.parse.literal.Lexed.{Lexed}
-use Rattle.upon_tags.specs.declared.compile.parse.want.Want.TheVariants as want
-use Rattle.upon_tags.specs.TagTokens.{lexemes_of, EachTagToken}
-use Rattle.upon_tags.specs.TagParsing.{OnStuck, IsStuck}
+use Rattle.upon_tag_parser.specs.declared.compile.parse.literal.Lexed.{Lexed}
+use Rattle.upon_tag_parser.specs.declared.compile.parse.want.Want.TheVariants as want
+use Rattle.upon_tag_parser.specs.TagTokens.{lexemes_of, EachTagToken}
+use Rattle.upon_tag_parser.specs.TagParsing.{OnStuck, IsStuck}
 use Rattle.upon_syntax.specs.TagEnds.{ReadsUpTo}
 use Rattle.upon_syntax.specs.TagFaults.{GoesNoFurther}
 use Rattle.upon_syntax.specs.TagReading.{AfterBegin, IsSyntaxError}
-use Rattle.upon_tags.specs.WholeTags.{LeadsToEnd, IsTagInside}
+use Rattle.upon_tag_parser.specs.WholeTags.{LeadsToEnd, IsTagInside}
 use Rattle.upon_syntax.proofs.WholeTags.{mode_is, tag_read, end_is, failure_lies, failure_stops, end_stops, leads_all, after_end, error_handed}
 use Rattle.upon_syntax.proofs.compile.parse.tag_reader.TagReader.read_block.Goals as goal
 

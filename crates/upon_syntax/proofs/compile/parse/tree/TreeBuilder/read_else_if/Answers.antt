@@ -1,7 +1,7 @@
 use Rattle.std.proofs.Common.{Some}
 use Rattle.std.proofs.lemmas.Result.{IfOk-weaker}
 use Rattle.upon_types.specs.AstExpression.{expression_of}
-use Rattle.upon_tags.specs.BlockTags.{else_if_tag}
+use Rattle.upon_tag_parser.specs.BlockTags.{else_if_tag}
 use Rattle.upon_syntax.specs.Pieces.{block_piece}
 use Rattle.upon_syntax.specs.PieceTrees.{Enters, ReadsPiece}
 use Rattle.upon_syntax.specs.declared.compile.parse.tree.BlockEnd.TheVariants.{If}

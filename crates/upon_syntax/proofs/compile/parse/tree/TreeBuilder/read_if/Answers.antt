@@ -1,6 +1,6 @@
 use Rattle.std.proofs.lemmas.Result.{IfOk-weaker}
 use Rattle.upon_types.specs.AstExpression.{expression_of}
-use Rattle.upon_tags.specs.BlockTags.{if_tag}
+use Rattle.upon_tag_parser.specs.BlockTags.{if_tag}
 use Rattle.upon_syntax.specs.Pieces.{block_piece}
 use Rattle.upon_syntax.specs.PieceTrees.{Pushes, ReadsPiece}
 use Rattle.upon_syntax.proofs.PieceTrees.{reads_if}

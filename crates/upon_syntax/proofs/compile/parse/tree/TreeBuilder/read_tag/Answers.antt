@@ -1,5 +1,5 @@
 use Rattle.std.proofs.lemmas.Result.{IfOk-weaker}
-use Rattle.upon_tags.specs.BlockTags.{tag_of}
+use Rattle.upon_tag_parser.specs.BlockTags.{tag_of}
 use Rattle.upon_syntax.specs.Pieces.{block_piece}
 use Rattle.upon_syntax.specs.PieceTrees.{Pushes, ReadsPiece}
 use Rattle.upon_syntax.proofs.PieceTrees.{reads_include}

@@ -5,7 +5,7 @@ use Rattle.upon_types.specs.AstPath.{ident_of}
 use Rattle.upon_types.specs.declared.types.ast.Stmt as stmt
 use Rattle.upon_types.specs.declared.types.ast.With.{With, roll-With}
 use Rattle.upon_types.proofs.Trees.{view-With, with_of-out}
-use Rattle.upon_tags.specs.BlockTags.{with_tag}
+use Rattle.upon_tag_parser.specs.BlockTags.{with_tag}
 use Rattle.upon_syntax.specs.Pieces.{block_piece}
 use Rattle.upon_syntax.specs.PieceTrees.{Pushes, ReadsPiece}
 use Rattle.upon_syntax.proofs.PieceTrees.{reads_with}

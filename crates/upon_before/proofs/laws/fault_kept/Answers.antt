@@ -1,5 +1,0 @@
-use Rattle.upon_before.proofs.FaultKept.{fault_kept}
-use Rattle.upon_before.proofs.laws.fault_kept.Goals as goal
-
-pub returns : goal.returns
-returns c = fault_kept

@@ -1,5 +1,0 @@
-use Rattle.upon_language.proofs.Wanted.TagsLead.{leads_on}
-use Rattle.upon_language.proofs.laws.beginning_leads.Goals as goal
-
-pub returns : goal.returns
-returns c = leads_on

@@ -1,5 +1,0 @@
-use Rattle.upon_language.proofs.RawText.{empty_text}
-use Rattle.upon_language.proofs.laws.empty_text.Goals as goal
-
-pub returns : goal.returns
-returns c = empty_text

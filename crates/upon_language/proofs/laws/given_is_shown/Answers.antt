@@ -1,5 +1,0 @@
-use Rattle.upon_language.proofs.GivenTokens.Shown.{given_is_shown}
-use Rattle.upon_language.proofs.laws.given_is_shown.Goals as goal
-
-pub returns : goal.returns
-returns c = given_is_shown

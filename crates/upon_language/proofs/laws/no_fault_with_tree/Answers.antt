@@ -1,5 +1,0 @@
-use Rattle.upon_language.proofs.NoTreeWithFault.Fault.{no_tree_with_row}
-use Rattle.upon_language.proofs.laws.no_fault_with_tree.Goals as goal
-
-pub returns : goal.returns
-returns c = λ delimiters s tree row p place reason texts has f. no_tree_with_row delimiters s texts row p place reason f tree has

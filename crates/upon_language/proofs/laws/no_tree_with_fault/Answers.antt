@@ -1,5 +1,0 @@
-use Rattle.upon_language.proofs.NoTreeWithFault.Fault.{no_tree_with_fault}
-use Rattle.upon_language.proofs.laws.no_tree_with_fault.Goals as goal
-
-pub returns : goal.returns
-returns c = no_tree_with_fault

@@ -1,5 +1,0 @@
-use Rattle.upon_language.proofs.Totality.OneAnswer.{one_answer}
-use Rattle.upon_language.proofs.laws.one_answer.Goals as goal
-
-pub returns : goal.returns
-returns c = one_answer

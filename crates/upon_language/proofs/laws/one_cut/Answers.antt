@@ -1,5 +1,0 @@
-use Rattle.upon_language.proofs.OneCut.Cut.{one_cut}
-use Rattle.upon_language.proofs.laws.one_cut.Goals as goal
-
-pub returns : goal.returns
-returns c = one_cut

@@ -1,5 +1,0 @@
-use Rattle.upon_language.proofs.OneTree.Literal.{one_index}
-use Rattle.upon_language.proofs.laws.one_index.Goals as goal
-
-pub returns : goal.returns
-returns c = one_index

@@ -1,5 +1,0 @@
-use Rattle.upon_language.proofs.OneTree.Literal.{one_text}
-use Rattle.upon_language.proofs.laws.one_text.Goals as goal
-
-pub returns : goal.returns
-returns c = one_text

@@ -1,5 +1,0 @@
-use Rattle.upon_language.proofs.OneTree.Tree.{one_whole_tree}
-use Rattle.upon_language.proofs.laws.one_tree.Goals as goal
-
-pub returns : goal.returns
-returns c = one_whole_tree

@@ -1,5 +1,0 @@
-use Rattle.upon_language.proofs.Spans.Trees.{tree_lies_in}
-use Rattle.upon_language.proofs.laws.tree_lies_in.Goals as goal
-
-pub returns : goal.returns
-returns c = tree_lies_in

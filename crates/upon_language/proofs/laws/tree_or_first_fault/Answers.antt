@@ -1,5 +1,0 @@
-use Rattle.upon_language.proofs.Totality.OneAnswer.{tree_or_fault}
-use Rattle.upon_language.proofs.laws.tree_or_first_fault.Goals as goal
-
-pub returns : goal.returns
-returns c = tree_or_fault

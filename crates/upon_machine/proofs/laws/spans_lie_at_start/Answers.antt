@@ -1,5 +1,0 @@
-use Rattle.upon_machine.proofs.FaultsLie.Steps.{start_lies}
-use Rattle.upon_machine.proofs.laws.spans_lie_at_start.Goals as goal
-
-pub returns : goal.returns
-returns g c = start_lies

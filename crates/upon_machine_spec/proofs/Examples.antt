@@ -1,0 +1,42 @@
+-- Programs of trees, and what they give.
+use Rattle.std.proofs.Common.{◌≡◌, pos, [], ◌∷◌, Some, None, true, refl, codes}
+use Rattle.upon_types.specs.Expression.{base}
+use Rattle.upon_types.specs.Path.{item}
+use Rattle.upon_types.specs.Tree.{if_else, for_loop, include, with, otherwise, no_else}
+use Rattle.upon_types.specs.Val.{int_val}
+use Rattle.upon_render.specs.Environment.{context}
+use Rattle.upon_meaning_spec.specs.Engine.{calls_of, from_table}
+use Rattle.upon_meaning_spec.specs.Outcome.{text_outcome}
+use Rattle.upon_meaning_spec.proofs.Computing.{computing}
+use Rattle.upon_meaning_spec.proofs.Examples.ShortContexts.{at, word, first, name, quoted, number, statements, shows, text, list_of, map_of, template, engine, no_source, no_states}
+use Rattle.upon_machine_spec.specs.Code.{program_of}
+use Rattle.upon_machine_spec.specs.Instr.{jump, jump_if_true, emit, emit_raw, loop_start, loop_next, with_start, with_end, include_with, expr_start_var, expr_start_literal}
+use Rattle.upon_machine_spec.specs.Run.{run, steps}
+use Rattle.upon_machine_spec.specs.State.{at_start}
+
+-- `{% if not a %}x{% else %}y{% endif %}`: past the body where the condition holds, and past the other case after the body
+both_cases : program_of (statements (if_else true (base (name 10 (codes "a"))) (statements (text 14 15 ∷ [])) (otherwise (statements (text 25 26 ∷ []))) ∷ []))
+    ≡ expr_start_var (first 10 (codes "a")) [] ∷ jump_if_true 4 ∷ emit_raw (at 14 15) ∷ jump 5 ∷ emit_raw (at 25 26) ∷ []
+both_cases = refl
+
+-- `{% for x in xs %}{{ x }}{% endfor %}`: back to the next turn after the body
+in_turns : program_of (statements (for_loop (item (word 7 (codes "x"))) (base (name 12 (codes "xs"))) (statements (shows 17 24 (name 20 (codes "x")) ∷ [])) no_else ∷ []))
+    ≡ expr_start_var (first 12 (codes "xs")) [] ∷ loop_start (item (word 7 (codes "x"))) (at 12 14) ∷ loop_next 6 ∷ expr_start_var (first 20 (codes "x")) [] ∷ emit ∷ jump 2 ∷ []
+in_turns = refl
+
+-- `{% with 1 as n %}{% include "t" with n %}{% endwith %}`
+inside : program_of (statements (with (base (number 8 9 (pos 1))) (word 13 (codes "n")) (statements (include (quoted 28 (codes "t")) (Some (base (name 37 (codes "n")))) ∷ [])) ∷ []))
+    ≡ expr_start_literal (int_val (pos 1)) (at 8 9) ∷ with_start (word 13 (codes "n")) ∷ expr_start_var (first 37 (codes "n")) [] ∷ include_with (quoted 28 (codes "t")) ∷ with_end ∷ []
+inside = refl
+
+-- the loop on {xs: [1, 2]}: eleven steps go on, and the next one ends the run
+eleven_steps : steps (calls_of (engine [] []) no_source) (from_table (engine [] []).templates) (context (map_of ((codes "xs", list_of (int_val (pos 1) ∷ int_val (pos 2) ∷ [])) ∷ []))) 100
+    (at_start (template (codes "{% for x in xs %}{{ x }}{% endfor %}") (for_loop (item (word 7 (codes "x"))) (base (name 12 (codes "xs"))) (statements (shows 17 24 (name 20 (codes "x")) ∷ [])) no_else ∷ [])) None 63 no_states) ≡ 11
+unfolding computing
+eleven_steps = refl
+
+both_items : run (calls_of (engine [] []) no_source) (from_table (engine [] []).templates) (context (map_of ((codes "xs", list_of (int_val (pos 1) ∷ int_val (pos 2) ∷ [])) ∷ []))) 12
+    (at_start (template (codes "{% for x in xs %}{{ x }}{% endfor %}") (for_loop (item (word 7 (codes "x"))) (base (name 12 (codes "xs"))) (statements (shows 17 24 (name 20 (codes "x")) ∷ [])) no_else ∷ [])) None 63 no_states)
+    ≡ Some (text_outcome (codes "12") no_states)
+unfolding computing
+both_items = refl

@@ -1,5 +1,0 @@
-use Rattle.upon_meaning.proofs.FaultsStated.Ends.{end_stated}
-use Rattle.upon_meaning.proofs.laws.faults.faults_are_stated.Goals as goal
-
-pub returns : goal.returns
-returns g c = end_stated

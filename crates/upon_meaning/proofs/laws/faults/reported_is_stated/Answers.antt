@@ -1,9 +1,0 @@
-use Rattle.upon_meaning.specs.Alone.{alone, includes_left}
-use Rattle.upon_meaning.specs.RenderFaults.{Anywhere}
-use Rattle.upon_meaning.proofs.FaultsStated.Ends.{end_stated, told_stated}
-use Rattle.upon_meaning.proofs.laws.faults.reported_is_stated.Goals as goal
-
-pub returns : goal.returns
-returns g c = λ rendering t name root s f e.
-    told_stated rendering.calls rendering.resolve t name Anywhere rendering.limit (alone rendering t name root s).end f
-    (end_stated rendering.calls rendering.resolve (includes_left rendering.limit) t name root s) e

@@ -1,5 +1,0 @@
-use Rattle.upon_meaning.proofs.FaultsStated.Ends.{default_refusal, table_refusal}
-use Rattle.upon_meaning.proofs.laws.faults.usual_refusals.Goals as goal
-
-pub returns : goal.returns
-returns g c = record { of_formatter = default_refusal; of_table = table_refusal }

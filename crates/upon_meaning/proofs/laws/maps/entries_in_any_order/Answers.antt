@@ -1,5 +1,0 @@
-use Rattle.upon_meaning.proofs.RisingEntries.{any_order}
-use Rattle.upon_meaning.proofs.laws.maps.entries_in_any_order.Goals as goal
-
-pub returns : goal.returns
-returns c = any_order

@@ -1,5 +1,0 @@
-use Rattle.upon_meaning.proofs.MapOrder.{last_stands}
-use Rattle.upon_meaning.proofs.laws.maps.literal_last_counts.Goals as goal
-
-pub returns : goal.returns
-returns g c = λ calls items span env q o e. last_stands calls env items span q o e

@@ -1,5 +1,0 @@
-use Rattle.upon_meaning.proofs.NumberedDepth.{numbered_depth}
-use Rattle.upon_meaning.proofs.laws.numbered_depth.Goals as goal
-
-pub returns : goal.returns
-returns c given = numbered_depth

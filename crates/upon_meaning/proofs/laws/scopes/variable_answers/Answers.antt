@@ -1,7 +1,0 @@
-use Rattle.std.proofs.Common.{refl}
-use Rattle.upon_render.specs.Environment.{binding}
-use Rattle.upon_meaning.proofs.LoopNames.{innermost_answers}
-use Rattle.upon_meaning.proofs.laws.scopes.variable_answers.Goals as goal
-
-pub returns : goal.returns
-returns g c = λ ask inside name bound env first rest q is none. innermost_answers ask name inside (binding name bound) env refl none first rest q is

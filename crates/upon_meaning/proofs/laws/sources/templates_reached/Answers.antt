@@ -1,6 +1,0 @@
-use Rattle.upon_meaning.specs.Alone.{includes_left}
-use Rattle.upon_meaning.proofs.NamesRead.{templates_reached_from}
-use Rattle.upon_meaning.proofs.laws.sources.templates_reached.Goals as goal
-
-pub returns : goal.returns
-returns g c = λ calls table these those limit template name root s hands_on alike. templates_reached_from calls template name (includes_left limit) table these those root s hands_on alike

@@ -1,5 +1,0 @@
-use Rattle.upon_meaning.proofs.Scopes.InBody.{boundary}
-use Rattle.upon_meaning.proofs.laws.whole_scopes.boundary_hides.Goals as goal
-
-pub returns : goal.returns
-returns g c = boundary

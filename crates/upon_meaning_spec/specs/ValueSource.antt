@@ -1,0 +1,15 @@
+-- Renderings that differ only in their value source, and what they agree on.
+use Rattle.std.specs.Prelude.{◌≡◌}
+use Rattle.upon_render.specs.Source.{Source}
+use Rattle.upon_meaning_spec.specs.Engine.{Calls}
+use Rattle.upon_meaning_spec.specs.Outcome.{Outcome, States}
+
+-- the same callables and default formatter, with another value source, whose states may be others
+abbrev pub with_source : {V W : Type 0} → Source W → Calls V → Calls W
+with_source ask calls = record { callables = calls.callables; default_formatter = calls.default_formatter; ask = ask }
+
+-- the same text, end and next state of the template source
+pub record SameBesideValues {V W T : Type 0} (one : Outcome (States V T)) (other : Outcome (States W T)) : Type 0 where
+  pub text : one.text ≡ other.text
+  pub end : one.end ≡ other.end
+  pub templates : one.next.templates ≡ other.next.templates

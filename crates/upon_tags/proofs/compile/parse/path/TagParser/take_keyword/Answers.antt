@@ -1,8 +1,0 @@
-use Rattle.std.proofs.Common.{rules, ap, ◌≡◌}
-use Rattle.upon_types.specs.declared.types.token.Token.TheVariants.{Keyword}
-use Rattle.upon_tags.specs.TagTokens.{is_minus}
-use Rattle.upon_tags.proofs.TagTokens.{rest_next}
-use Rattle.upon_tags.proofs.compile.parse.path.TagParser.take_keyword.Goals as goal
-
-pub returns-then-eq-2-clause-rest : goal.returns-then-eq-2-clause-rest
-returns-then-eq-2-clause-rest c = let e : c.in-Some.first.token ≡ Keyword = search rules in rest_next c.in-Some.first c.in-Some.rest.now c.args.tokens.now c.in-Some.ensures (ap is_minus e)

@@ -1,0 +1,97 @@
+// Why a run fails, with the template that ran.
+ghost use Rattle.std.specs.Prelude.{◌≡◌, option_map};
+ghost use Rattle.upon_types.specs.Error.{fault_of as error_of, kind_of as error_kind_of};
+ghost use Rattle.upon_types.specs.Fault.{fault_with_picture, OrMemory};
+ghost use Rattle.upon_types.specs.Span.{LiesIn};
+ghost use Rattle.upon_vm_calls.specs.Halt.{fault_of, kind_of};
+ghost use Rattle.upon_vm.specs.Failures.{FailsBy, FailsSo, HaltLies, Names, StopLies, is_memory};
+ghost use Rattle.upon_vm.specs.Machine.{active_of};
+
+use crate::act::Stop;
+use crate::machine::Running;
+use std::alloc::{AllocError, Global};
+use upon_types::error::{Error, ErrorKind};
+use upon_vm_calls::fault::{Fault, FaultKind, Halt};
+
+/// Why a run ends before its program does.
+#[derive(Drop)]
+pub enum Failure {
+    /// A template that ran has a fault, or memory is out.
+    Error(Error),
+    /// The output did not receive a text whole.
+    Output,
+}
+
+/// The failure of a template that ran, where it stops so. Faults have its name, and pictures of its text.
+pub(crate) fn stopped(alloc: Global, running: Running, stop: Stop) -> Failure
+    requires { StopLies running.program.source.now stop }
+    ensures { FailsBy (active_of running.entry).running stop result }
+{
+    match stop {
+        Stop::Error(error) => Failure::Error(with_name(alloc, running.name, error)),
+        Stop::Halt(halt) => halted(alloc, running, halt),
+    }
+}
+
+// The same of an instruction that is not carried out.
+fn halted(alloc: Global, running: Running, halt: Halt) -> Failure
+    requires { HaltLies running.program.source.now halt }
+    ensures { FailsSo (active_of running.entry).running halt result }
+{
+    match halt {
+        Halt::Fault(fault) => {
+            let error = with_picture(alloc, running.program.source, fault);
+            Failure::Error(with_name(alloc, running.name, error))
+        }
+        Halt::Memory => Failure::Error(AllocError.into()),
+        Halt::Output => Failure::Output,
+    }
+}
+
+// A fault with the picture of its span.
+fn with_picture(alloc: Global, source: &str, fault: Fault) -> Error
+    requires { LiesIn source.now fault.span }
+    ensures { OrMemory (fault_with_picture source.now (fault_of fault)) (error_of result) }
+{
+    let kind = error_kind(fault.kind);
+    Error::from_owned_parts(alloc, kind, fault.reason, Some((source, fault.span)))
+}
+
+// The kind of its error.
+fn error_kind(kind: FaultKind) -> ErrorKind
+    ensures { error_kind_of result ≡ kind_of kind }
+{
+    match kind {
+        FaultKind::Render => ErrorKind::Render,
+        FaultKind::Function => ErrorKind::Function,
+        FaultKind::Format => ErrorKind::Format,
+    }
+}
+
+// An error in a template of this name, or of none. That memory is out has no name.
+fn with_name(alloc: Global, name: Option<&str>, error: Error) -> Error
+    ensures { Names (option_map (λ n. n.now) name.entry) error result }
+{
+    if reports_memory(&error) {
+        return error;
+    }
+    match name {
+        Some(name) => error.with_name(alloc, name),
+        None => error,
+    }
+}
+
+// Whether the error says that memory is out.
+fn reports_memory(error: &Error) -> bool
+    ensures { result ≡ is_memory (error_of error.now).kind }
+{
+    match error.kind() {
+        ErrorKind::OutOfMemory => true,
+        ErrorKind::Syntax => false,
+        ErrorKind::Serialize => false,
+        ErrorKind::Render => false,
+        ErrorKind::Function => false,
+        ErrorKind::Format => false,
+        ErrorKind::Io(_) => false,
+    }
+}

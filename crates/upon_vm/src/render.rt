@@ -1,0 +1,71 @@
+// A rendering: the program of a template, from its start to its end.
+ghost use Rattle.std.specs.Prelude.{◌≡◌, ℕ, List, [], option_map};
+ghost use Rattle.upon_types.specs.TreeSpans.{TreeLiesIn};
+ghost use Rattle.upon_render.specs.Roots.{pure_root};
+ghost use Rattle.upon_render.specs.Source.{Source};
+ghost use Rattle.upon_render.specs.Stack.{frames_of, root_of};
+ghost use Rattle.upon_meaning_spec.specs.Alone.{alone_within};
+ghost use Rattle.upon_meaning_spec.specs.Engine.{Template};
+ghost use Rattle.upon_meaning_spec.specs.Outcome.{states};
+ghost use Rattle.upon_vm.specs.Acts.{calls_of};
+ghost use Rattle.upon_vm.specs.Keeps.{HasState, SourceHas};
+ghost use Rattle.upon_vm.specs.Machine.{source_state};
+ghost use Rattle.upon_vm.specs.Program.{IsProgramOf};
+ghost use Rattle.upon_vm.specs.Runs.{Ran};
+
+use crate::failure::Failure;
+use crate::machine::{Machine, Running};
+use crate::run::{Ending, run};
+use crate::source::ProgramSource;
+use std::alloc::Global;
+use upon_fmt::output::Output;
+use upon_render::source::ValueSource;
+use upon_render::stack::Stack;
+use upon_vm_calls::callables::Callables;
+use upon_vm_calls::operands::Operands;
+
+/// Renders a program over a stack without frames: what its template means by itself.
+///
+/// A failure has the fault's kind, reason, span, picture and the name of the template that ran, or says that memory is
+/// out; or the output did not receive a text whole. The output then has a beginning of the text, and all of it up to a
+/// fault. The stack and the source of templates come back as the run leaves them.
+pub fn render<'r, V: ValueSource, T: ProgramSource<'r>, C: Callables, W: Output>(
+    alloc: Global,
+    callables: &C,
+    running: Running<'r>,
+    stack: Stack<'r, V>,
+    templates: T,
+    out: &mut W,
+) -> (Result<Ending, Failure>, Stack<'r, V>, T)
+    requires program { (t : Template) × IsProgramOf running.program t × TreeLiesIn t.source t.tree }
+    requires state { HasState V.State (root_of stack) }
+    requires frames { frames_of stack ≡ [] }
+    ensures same { W.holds out.new ≡ W.holds out.old }
+    ensures ran { (t : Template) (ask : Source V.State) (q : V.State) → IsProgramOf running.entry.program t → SourceHas V.ask (root_of stack.entry) ask → Ran
+        result.0
+        (W.given out.old)
+        (W.given out.new)
+        (alone_within (calls_of (C.callables callables.now) (C.default_formatter callables.now) ask) (T.resolve templates) running.entry.left t (option_map (λ name. name.now) running.entry.name) (pure_root (root_of stack.entry)) (states (source_state V.value_state q (root_of stack.entry)) (T.template_state templates)))
+        (states (source_state V.value_state q (root_of result.1)) (T.template_state result.2)) }
+    ensures root { pure_root (root_of result.1) ≡ pure_root (root_of stack.entry) }
+    ensures asks { (ask : Source V.State) → SourceHas V.ask (root_of stack.entry) ask → SourceHas V.ask (root_of result.1) ask }
+    ensures values_held { (names : List ℕ) → SourceHas V.holds (root_of stack.entry) names → SourceHas V.holds (root_of result.1) names }
+    ensures resolve { T.resolve result.2 ≡ T.resolve templates }
+    ensures templates_held { T.holds result.2 ≡ T.holds templates }
+{
+    let mut machine = Machine {
+        running,
+        waiting: Vec::new(alloc),
+        position: 0,
+        operands: Operands::new(alloc),
+        stack,
+        templates,
+    };
+    let ended = run(alloc, callables, &mut machine, out);
+    let Machine {
+        stack,
+        templates,
+        ..
+    } = machine;
+    (ended, stack, templates)
+}

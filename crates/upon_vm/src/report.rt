@@ -1,0 +1,79 @@
+// What is reported of a rendering.
+ghost use Rattle.std.specs.Prelude.{◌≡◌};
+ghost use Rattle.upon_types.specs.Error.{fault_of as error_of};
+ghost use Rattle.upon_types.specs.Fault.{OrMemory};
+ghost use Rattle.upon_meaning_spec.specs.CallFaults.{depth_reached};
+ghost use Rattle.upon_vm.specs.Reports.{EndReport, FailureReport, IsReport, OutputReport};
+
+use crate::failure::Failure;
+use crate::run::Ending;
+use std::alloc::{AllocError, Global};
+use upon_fmt::output::Output;
+use upon_types::error::{self, Error, ErrorKind};
+
+/// The result of a rendering, right after it: nothing, or the fault that is reported.
+///
+/// Where includes were too deep, the reason has `limit`, the depth as it was set. Where the output did not receive a text
+/// whole, its error is taken: the kind is `Io`, or `OutOfMemory` where it has none.
+pub fn reported<W: Output>(
+    alloc: Global,
+    ended: Result<Ending, Failure>,
+    limit: usize,
+    out: &mut W,
+) -> error::Result<()>
+    ensures same { W.holds out.new ≡ W.holds out.old }
+    ensures report { IsReport limit ended (W.waits out.old) result }
+    ensures given { W.given out.new ≡ W.given out.old }
+    ensures failed { W.failed out.new ≡ W.failed out.old }
+{
+    match ended {
+        Ok(end) => end_reported(alloc, end, limit),
+        Err(failure) => Err(failure_reported(failure, out)),
+    }
+}
+
+// The same of an end by itself.
+fn end_reported(alloc: Global, end: Ending, limit: usize) -> error::Result<()>
+    ensures { EndReport limit end result }
+{
+    match end {
+        Ending::Good => Ok(()),
+        Ending::TooDeep => Err(depth_reached(alloc, limit)),
+    }
+}
+
+// The fault of includes that are too deep.
+fn depth_reached(alloc: Global, limit: usize) -> Error
+    ensures { OrMemory (depth_reached limit) (error_of result) }
+{
+    match format!(in alloc; "reached maximum include depth ({limit})") {
+        Ok(reason) => Error::from_owned_parts(alloc, ErrorKind::Render, Some(reason), None),
+        Err(_) => AllocError.into(),
+    }
+}
+
+// The fault of a failure.
+fn failure_reported<W: Output>(failure: Failure, out: &mut W) -> Error
+    ensures same { W.holds out.new ≡ W.holds out.old }
+    ensures report { FailureReport failure (W.waits out.old) result }
+    ensures given { W.given out.new ≡ W.given out.old }
+    ensures failed { W.failed out.new ≡ W.failed out.old }
+{
+    match failure {
+        Failure::Error(error) => error,
+        Failure::Output => output_reported(out),
+    }
+}
+
+// The error that the output has, or that memory is out.
+fn output_reported<W: Output>(out: &mut W) -> Error
+    ensures same { W.holds out.new ≡ W.holds out.old }
+    ensures report { OutputReport (W.waits out.old) result }
+    ensures given { W.given out.new ≡ W.given out.old }
+    ensures failed { W.failed out.new ≡ W.failed out.old }
+{
+    match out.take_err() {
+        Some(error) => error.into(),
+        None => AllocError.into(),
+    }
+}

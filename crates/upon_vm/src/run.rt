@@ -1,0 +1,70 @@
+// A run: step after step, up to the program's end.
+ghost use Rattle.std.specs.Prelude.{◌≡◌};
+ghost use Rattle.upon_vm.specs.Keeps.{Kept};
+ghost use Rattle.upon_vm.specs.Machine.{state_of};
+ghost use Rattle.upon_vm.specs.Runs.{Known, Ran, Starts, ending_of};
+
+use crate::failure::{Failure, stopped};
+use crate::machine::{Flow, Machine};
+use crate::source::ProgramSource;
+use crate::step::step;
+use crate::steps::Steps;
+use std::alloc::Global;
+use std::marker::Brand;
+use upon_fmt::output::Output;
+use upon_render::source::ValueSource;
+use upon_vm_calls::callables::Callables;
+
+/// How a run ends by itself.
+#[derive(Clone, Copy, Debug, PartialEq, Eq)]
+pub enum Ending {
+    /// After the last instruction.
+    Good,
+    /// Where one include more would be too deep inside others.
+    TooDeep,
+}
+
+// How a step ends the run, or `None` where it goes on.
+fn end_of(flow: Flow) -> Option<Ending>
+    requires { flow ≡ Flow.Stuck → ⊥ }
+    ensures { result ≡ ending_of flow }
+{
+    match flow {
+        Flow::Goes => None,
+        Flow::Ends => Some(Ending::Good),
+        Flow::TooDeep => Some(Ending::TooDeep),
+        Flow::Stuck => unreachable!(),
+    }
+}
+
+// Runs the machine's program to its end.
+pub(crate) fn run<'r, V: ValueSource, T: ProgramSource<'r>, C: Callables, W: Output>(
+    alloc: Global,
+    callables: &C,
+    machine: &mut Machine<'r, V, T>,
+    out: &mut W,
+) -> Result<Ending, Failure>
+    requires starts { (known : Known V.State T.State) × Starts V.ask V.value_state T.template_state (T.resolve machine.old.templates) (C.callables callables.now) (C.default_formatter callables.now) known machine.old }
+    ensures same { W.holds out.new ≡ W.holds out.old }
+    ensures kept { Kept V.ask V.holds T.resolve T.holds machine.old machine.new }
+    ensures ran { (known : Known V.State T.State) → Starts V.ask V.value_state T.template_state (T.resolve machine.old.templates) (C.callables callables.now) (C.default_formatter callables.now) known machine.old → Ran
+        result
+        (W.given out.old)
+        (W.given out.new)
+        known.outcome
+        (state_of V.value_state T.template_state known.values machine.new).asked }
+{
+    let mut left = Steps::some::<_, _, Brand>(callables, &*machine);
+    'steps: loop {
+        let running = machine.running;
+        match step(alloc, callables, machine, out) {
+            Err(stop) => return Err(stopped(alloc, running, stop)),
+            Ok(flow) => {
+                if let Some(end) = end_of(flow) {
+                    return Ok(end);
+                }
+            }
+        }
+        left = Steps::less(&left);
+    }
+}

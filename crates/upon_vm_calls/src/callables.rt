@@ -1,0 +1,54 @@
+// What programs call: functions and formatters, by their names.
+ghost use Rattle.std.specs.Prelude.{◌≡◌, List, ℕ, Option, Some, IsTrue, option_map};
+ghost use Rattle.upon_functions.specs.Blames.{BlamesGiven};
+ghost use Rattle.upon_functions.specs.Says.{Says, arguments_view};
+ghost use Rattle.upon_types.specs.Answers.{Callable, Formatter as PureFormatter, Function as PureFunction, formatter, function};
+ghost use Rattle.upon_types.specs.View.{view};
+ghost use Rattle.upon_meaning_spec.specs.DefaultFormat.{default_format};
+ghost use Rattle.upon_fmt.specs.Formatter.{Formats};
+ghost use Rattle.upon_vm_calls.specs.Calls.{sort_of};
+
+use std::alloc::Global;
+use upon_fmt::fmt::{self, Formatter};
+use upon_functions::function::CallError;
+use upon_types::value::{Value, ValueCow};
+
+/// What a name denotes that can be called.
+#[derive(Clone, Copy, Debug, PartialEq, Eq)]
+pub enum EngineCallable {
+    /// A formatter, which writes a value.
+    Formatter,
+    /// A function, which makes a value.
+    Function,
+}
+
+/// Functions and formatters by their names, and the formatter of all values that are shown without one.
+pub trait Callables {
+    // What each name denotes.
+    ghost callables: { Self → List ℕ → Option Callable };
+
+    // What is written where no formatter is named.
+    ghost default_formatter: { Self → PureFormatter };
+
+    /// Whether a name is a formatter's or a function's, or `None`.
+    fn get(&self, name: &str) -> Option<EngineCallable>
+        ensures { result ≡ option_map sort_of (callables self.now name.now) };
+
+    /// What the function of this name answers.
+    fn call(&self, alloc: Global, name: &str, args: &[ValueCow]) -> Result<Value, CallError>
+        ensures says { (f : PureFunction) → callables self.now name.now ≡ Some (function f) → Says result (f (arguments_view args.now)) }
+        ensures blames_given { (f : PureFunction) → callables self.now name.now ≡ Some (function f) → BlamesGiven (arguments_view args.now) (f (arguments_view args.now)) };
+
+    /// Appends what the formatter of this name writes for a value.
+    fn format(&self, name: &str, f: &mut Formatter, value: &Value) -> fmt::Result
+        ensures { (g : PureFormatter) → callables self.now name.now ≡ Some (formatter g) → Formats f.old f.new result (g (view value.now)) };
+
+    /// Whether the default formatter is the plain one, which writes a text as it is and an integer in decimal. `false`
+    /// says nothing.
+    fn is_plain(&self) -> bool
+        ensures { IsTrue result → default_formatter self.now ≡ default_format };
+
+    /// Appends what is written for a value where no formatter is named.
+    fn default_format(&self, f: &mut Formatter, value: &Value) -> fmt::Result
+        ensures { Formats f.old f.new result (default_formatter self.now (view value.now)) };
+}

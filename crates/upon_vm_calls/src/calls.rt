@@ -1,0 +1,165 @@
+// The calls of functions on operands, and their faults.
+ghost use Rattle.std.specs.Prelude.{◌≡◌, [], Some, length, slice_get, string_bytes};
+ghost use Rattle.upon_functions.specs.Blames.{BlamesGiven};
+ghost use Rattle.upon_functions.specs.Says.{Says, arguments_view, misfit_of};
+ghost use Rattle.upon_types.specs.Answers.{Answer, Function as PureFunction, function, wrong_type, out_of_range};
+ghost use Rattle.upon_types.specs.AstPath.{ident_of};
+ghost use Rattle.upon_types.specs.Val.{int_val};
+ghost use Rattle.upon_types.specs.View.{view};
+ghost use Rattle.upon_meaning_spec.specs.CallFaults.{argument_misfits, number_text};
+ghost use Rattle.upon_meaning_spec.specs.Evaluation.{answer_value, call_value, misfit_at, values_of};
+ghost use Rattle.upon_vm_calls.specs.Halt.{IsHalt, Finds};
+ghost use Rattle.upon_vm_calls.specs.Operands.{row};
+
+use crate::callables::{Callables, EngineCallable};
+use crate::fault::{self, Halt};
+use std::alloc::Global;
+use upon_functions::function::{ArgError, CallError};
+use upon_types::types::Span;
+use upon_types::types::ast::Ident;
+use upon_types::value::{Value, ValueCow};
+
+/// The value that the function of a name gives for operands, or its fault: of an argument at the argument, else at the
+/// whole.
+pub fn call<C: Callables>(
+    alloc: Global,
+    callables: &C,
+    name: &Ident,
+    values: &[ValueCow],
+    spans: &[Span],
+    whole: Span,
+) -> Result<Value, Halt>
+    requires { length values.now ≡ length spans.now }
+    ensures { Finds
+        result
+        (call_value (ident_of name.now) whole (row values.now spans.now) (C.callables callables.now (string_bytes name.now.name))) }
+{
+    match callables.get(name.name.as_str()) {
+        None => Err(fault::wrong(alloc, "unknown function", name.span)),
+        Some(EngineCallable::Formatter) => Err(fault::wrong(
+            alloc,
+            "expected function, found formatter",
+            name.span,
+        )),
+        Some(EngineCallable::Function) => {
+            call_function(alloc, callables, name, values, spans, whole)
+        }
+    }
+}
+
+/// The same of a name that is a function's.
+pub(crate) fn call_function<C: Callables>(
+    alloc: Global,
+    callables: &C,
+    name: &Ident,
+    values: &[ValueCow],
+    spans: &[Span],
+    whole: Span,
+) -> Result<Value, Halt>
+    requires { length values.now ≡ length spans.now }
+    ensures { (f : PureFunction) → C.callables callables.now (string_bytes name.now.name) ≡ Some (function f) → Finds
+        result
+        (answer_value (ident_of name.now) whole (row values.now spans.now) (f (values_of (row values.now spans.now)))) }
+{
+    let answer = callables.call(alloc, name.name.as_str(), values);
+    report(alloc, answer, name, values, spans, whole)
+}
+
+// The value of an answer, or its fault.
+fn report(
+    alloc: Global,
+    answer: Result<Value, CallError>,
+    name: &Ident,
+    values: &[ValueCow],
+    spans: &[Span],
+    whole: Span,
+) -> Result<Value, Halt>
+    requires { length values.now ≡ length spans.now }
+    ensures { (a : Answer) → Says answer a → Finds result (answer_value (ident_of name.now) whole (row values.now spans.now) a) }
+{
+    match answer {
+        Ok(value) => Ok(value),
+        Err(CallError::Arity(expected)) => {
+            Err(fault::function_expects(alloc, expected, values.len(), whole))
+        }
+        Err(CallError::Arg(index, error)) => {
+            Err(misfit(alloc, name, index, error, values, spans, whole))
+        }
+        Err(CallError::Fault(text)) => Err(fault::function_declined(text, whole)),
+        Err(CallError::Memory) => Err(Halt::Memory),
+    }
+}
+
+// An argument that does not fit.
+#[tactic(auto, using(crate::proofs::Rows::row_at, crate::proofs::Rows::row_past))]
+fn misfit(
+    alloc: Global,
+    name: &Ident,
+    index: usize,
+    error: ArgError,
+    values: &[ValueCow],
+    spans: &[Span],
+    whole: Span,
+) -> Halt
+    requires { length values.now ≡ length spans.now }
+    ensures { IsHalt (misfit_at (ident_of name.now) (misfit_of error) (slice_get (row values.now spans.now) index) whole) result }
+{
+    if index < values.len() {
+        return argument_misfits(
+            alloc,
+            name.name.as_str(),
+            error,
+            &values[index],
+            spans[index],
+        );
+    }
+    fault::function_declined(String::new(alloc), whole)
+}
+
+// The fault of an argument that is given.
+fn argument_misfits(alloc: Global, name: &str, error: ArgError, value: &Value, span: Span) -> Halt
+    ensures { IsHalt (argument_misfits name.now (misfit_of error) (view value.now) span) result }
+{
+    match error {
+        ArgError::WrongType(word) => wrong_type(alloc, name, word, value, span),
+        ArgError::OutOfRange(word) => match value {
+            Value::Integer(number) => number_out_of_range(alloc, name, word, number, span),
+            _ => out_of_range(alloc, name, word, value, span),
+        },
+    }
+}
+
+// An argument is of another kind.
+fn wrong_type(alloc: Global, name: &str, word: &str, value: &Value, span: Span) -> Halt
+    ensures { IsHalt (argument_misfits name.now (wrong_type word.now) (view value.now) span) result }
+{
+    let kind = value.human();
+    fault::wrong_owned(
+        format!(in alloc; "function `{name}` expects {word} argument, found {kind}"),
+        span,
+    )
+}
+
+// An argument is an integer that its type does not hold.
+fn number_out_of_range(alloc: Global, name: &str, word: &str, number: &i64, span: Span) -> Halt
+    ensures { IsHalt (argument_misfits name.now (out_of_range word.now) (int_val number.now) span) result }
+{
+    fault::wrong_owned(
+        format!(in alloc;
+            "function `{name}` expects {word} argument, but `{number}` is out of range"
+        ),
+        span,
+    )
+}
+
+// Out of range, which only an integer can be.
+fn out_of_range(alloc: Global, name: &str, word: &str, value: &Value, span: Span) -> Halt
+    requires { number_text (view value.now) ≡ [] }
+    ensures { IsHalt (argument_misfits name.now (out_of_range word.now) (view value.now) span) result }
+{
+    let _ = value;
+    fault::wrong_owned(
+        format!(in alloc; "function `{name}` expects {word} argument, but `` is out of range"),
+        span,
+    )
+}

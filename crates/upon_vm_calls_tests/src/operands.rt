@@ -1,0 +1,84 @@
+// Operands: what is on top, and lists and maps that are made on them.
+use std::test::Fail;
+use upon_types::types::Span;
+use upon_types::types::ast::String as Quoted;
+use upon_types::value::{Value, ValueCow};
+use upon_vm_calls::items::{insert_entry, push_item};
+use upon_vm_calls::operands::Operands;
+
+fn at(m: usize) -> Span {
+    Span {
+        m,
+        n: m.saturating_add(1),
+    }
+}
+
+#[test]
+fn the_last_is_on_top(rt: HostRuntime) -> Result<(), Fail> {
+    let mut operands = Operands::new(rt.alloc());
+    assert!(rt; operands.is_empty());
+    operands.push(ValueCow::Owned(Value::Integer(1)), at(1))?;
+    operands.push(ValueCow::Owned(Value::Integer(2)), at(2))?;
+    assert!(rt; !operands.is_empty());
+    let (value, span) = operands.pop().ok_or("none")?;
+    assert!(rt; *value == Value::Integer(2));
+    assert_eq!(rt; span, at(2));
+    Ok(())
+}
+
+#[test]
+fn so_many_from_the_top(rt: HostRuntime) -> Result<(), Fail> {
+    let mut operands = Operands::new(rt.alloc());
+    operands.push(ValueCow::Owned(Value::Integer(1)), at(1))?;
+    operands.push(ValueCow::Owned(Value::Integer(2)), at(2))?;
+    operands.push(ValueCow::Owned(Value::Integer(3)), at(3))?;
+    assert!(rt; operands.top(4).is_none());
+    let (values, spans) = operands.top(2).ok_or("none")?;
+    assert_eq!(rt; values.len(), 2);
+    assert!(rt; *values[0] == Value::Integer(2));
+    assert_eq!(rt; spans, [at(2), at(3)].as_slice());
+    operands.drop_top(2);
+    let (value, _) = operands.pop().ok_or("none")?;
+    assert!(rt; *value == Value::Integer(1));
+    Ok(())
+}
+
+#[test]
+fn a_list_grows(rt: HostRuntime) -> Result<(), Fail> {
+    let alloc = rt.alloc();
+    let lent = Value::from_text(alloc, "b")?;
+    let mut operands = Operands::new(alloc);
+    operands.push(ValueCow::Owned(Value::List(Vec::new(alloc))), at(0))?;
+    operands.push(ValueCow::Owned(Value::Integer(1)), at(1))?;
+    assert_eq!(rt; push_item(&mut operands)?, Some(()));
+    operands.push(ValueCow::Borrowed(&lent), at(2))?;
+    assert_eq!(rt; push_item(&mut operands)?, Some(()));
+    let (value, span) = operands.pop().ok_or("none")?;
+    let wanted = Value::List(vec![in alloc; Value::Integer(1), Value::from_text(alloc, "b")?]?);
+    assert!(rt; *value == wanted);
+    assert_eq!(rt; span, at(0));
+    Ok(())
+}
+
+fn key(alloc: std::alloc::Global, text: &str) -> Result<Quoted, std::alloc::AllocError> {
+    Ok(Quoted {
+        value: String::from_str(alloc, text)?,
+        span: at(9),
+    })
+}
+
+#[test]
+fn the_last_of_equal_keys_counts(rt: HostRuntime) -> Result<(), Fail> {
+    let alloc = rt.alloc();
+    let map = Value::from_entries(alloc, Vec::<(String, Value)>::new(alloc).into_iter())?;
+    let mut operands = Operands::new(alloc);
+    operands.push(ValueCow::Owned(map), at(0))?;
+    operands.push(ValueCow::Owned(Value::Integer(1)), at(1))?;
+    assert_eq!(rt; insert_entry(&mut operands, &key(alloc, "k")?)?, Some(()));
+    operands.push(ValueCow::Owned(Value::Integer(2)), at(2))?;
+    assert_eq!(rt; insert_entry(&mut operands, &key(alloc, "k")?)?, Some(()));
+    let (value, _) = operands.pop().ok_or("none")?;
+    let wanted = Value::from_pairs(alloc, [(String::from_str(alloc, "k")?, Value::Integer(2))])?;
+    assert!(rt; *value == wanted);
+    Ok(())
+}

@@ -1,6 +1,0 @@
-use Rattle.std.proofs.Common.{IsTrue}
-use Rattle.upon_woven.proofs.WovenTemplates.{only_woven}
-use Rattle.upon_woven.proofs.laws.written_only.Goals as goal
-
-pub returns : goal.returns
-returns g c = λ P. only_woven (λ text. IsTrue (P text))

@@ -1,0 +1,100 @@
+-- The raw parts that a template can show, and the formatters that it can call: its own, and those of the templates that it reaches.
+use Rattle.std.specs.Prelude.{◌≡◌, ℕ, List, ◌⊎◌, Option, Some}
+use Rattle.upon_types.specs.declared.types.Span.{Span}
+use Rattle.upon_types.specs.Answers.{Formatter, formatter}
+use Rattle.upon_types.specs.Expression.{Expression, base, filtered, Base, var, literal, list, mapping, paren, call}
+use Rattle.upon_types.specs.Span.{slice}
+use Rattle.upon_types.specs.Tree.{Statement, raw, inline_expr, include, if_else, for_loop, with, Statements, no_statements, statement_then, Else, no_else, otherwise}
+use Rattle.upon_types.specs.Val.{Val}
+use Rattle.upon_render.specs.Source.{says}
+use Rattle.upon_meaning_spec.specs.Engine.{Template, Calls, Resolver}
+use Rattle.upon_meaning_spec.specs.Includes.{Includes}
+
+-- a raw part of the tree is at this span
+abbrev mutual
+  -- a raw part of a statement is at this span
+  pub StatementHasRaw : Span → Statement → Type 0
+  StatementHasRaw at (raw span) = span ≡ at
+  StatementHasRaw at (inline_expr e span) = ⊥
+  StatementHasRaw at (include word value) = ⊥
+  StatementHasRaw at (if_else negated e body other) = HasRaw at body ⊎ ElseHasRaw at other
+  StatementHasRaw at (for_loop names e body other) = HasRaw at body ⊎ ElseHasRaw at other
+  StatementHasRaw at (with e word body) = HasRaw at body
+
+  -- a raw part of statements is at this span
+  pub HasRaw : Span → Statements → Type 0
+  HasRaw at no_statements = ⊥
+  HasRaw at (statement_then t ts) = StatementHasRaw at t ⊎ HasRaw at ts
+
+  -- a raw part of the other branch of an `if` or a `for` is at this span
+  pub ElseHasRaw : Span → Else → Type 0
+  ElseHasRaw at no_else = ⊥
+  ElseHasRaw at (otherwise body) = HasRaw at body
+
+-- what the expression gives is written by the formatter of this name, if the name is a formatter's
+abbrev mutual
+  -- what an expression gives is written by the formatter of this name, if the name is a formatter's
+  pub WritesBy : List ℕ → Expression → Type 0
+  WritesBy name (base b) = BaseWritesBy name b
+  WritesBy name (filtered receiver word args span) = word.text ≡ name
+
+  -- the same of an expression without a filter
+  pub BaseWritesBy : List ℕ → Base → Type 0
+  BaseWritesBy name (paren e span) = WritesBy name e
+  BaseWritesBy name (call word args span) = word.text ≡ name
+  BaseWritesBy name (var first rest) = ⊥
+  BaseWritesBy name (literal v span) = ⊥
+  BaseWritesBy name (list bases span) = ⊥
+  BaseWritesBy name (mapping items span) = ⊥
+
+-- a tag of the tree names this as its formatter
+abbrev mutual
+  -- a tag of a statement names this as its formatter
+  pub StatementNames : List ℕ → Statement → Type 0
+  StatementNames name (raw span) = ⊥
+  StatementNames name (inline_expr e span) = WritesBy name e
+  StatementNames name (include word value) = ⊥
+  StatementNames name (if_else negated e body other) = NamesFormatter name body ⊎ ElseNames name other
+  StatementNames name (for_loop names e body other) = NamesFormatter name body ⊎ ElseNames name other
+  StatementNames name (with e word body) = NamesFormatter name body
+
+  -- a tag of statements does
+  pub NamesFormatter : List ℕ → Statements → Type 0
+  NamesFormatter name no_statements = ⊥
+  NamesFormatter name (statement_then t ts) = StatementNames name t ⊎ NamesFormatter name ts
+
+  -- a tag of the other branch of an `if` or a `for` does
+  pub ElseNames : List ℕ → Else → Type 0
+  ElseNames name no_else = ⊥
+  ElseNames name (otherwise body) = NamesFormatter name body
+
+-- the template itself, and each one that is answered for the name of an include in one of these
+pub data Reached {T : Type 0} (resolve : Resolver T) (t : Template) : Template → Type 0 where
+  itself : Reached resolve t t
+  included_by : (by u : Template) (name : List ℕ) (q : T) → Reached resolve t by → Includes name by.tree
+      → (resolve q name).answer ≡ says u → Reached resolve t u
+
+-- a raw part of a template that is reached: what its text has at the span, which is trimmed
+pub record IsRawPart {T : Type 0} (resolve : Resolver T) (t : Template) (text : List ℕ) : Type 0 where
+  pub template : Template
+  pub reached : Reached resolve t template
+  pub span : Span
+  pub raw_at : HasRaw span template.tree
+  pub shows : text ≡ slice template.source span
+
+-- the default formatter, and each formatter that a template that is reached names
+pub data CanFormat {V T : Type 0} (calls : Calls V) (resolve : Resolver T) (t : Template) : Formatter → Type 0 where
+  by_default : CanFormat calls resolve t calls.default_formatter
+  by_name : (u : Template) (name : List ℕ) (f : Formatter) → Reached resolve t u → NamesFormatter name u.tree
+      → calls.callables name ≡ Some (formatter f) → CanFormat calls resolve t f
+
+-- what such a formatter wrote for a value, also where it refused
+pub record IsWritten {V T : Type 0} (calls : Calls V) (resolve : Resolver T) (t : Template) (text : List ℕ) : Type 0 where
+  pub format : Formatter
+  pub can : CanFormat calls resolve t format
+  pub value : Val
+  pub wrote : text ≡ (format value).text
+
+-- each formatter that can be called writes only such texts
+abbrev pub WritesOnly : {V T : Type 0} → Calls V → Resolver T → Template → (List ℕ → Type 0) → Type 0
+WritesOnly calls resolve t P = (f : Formatter) → CanFormat calls resolve t f → (v : Val) → P (f v).text
