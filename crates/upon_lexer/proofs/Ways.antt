@@ -1,14 +1,15 @@
--- Where none of a few bytes is; and that a searcher's way is right for its delimiters.
-use Rattle.std.proofs.Common.{◌≡◌, ℕ, ◌+◌, ◌-◌, ◌<◌, ◌≤◌, List, length, take, drop, get_or, arith, sym, ap, ◌∙◌, get_or-take, get_or-drop}
+-- Where no delimiter has one of a few bytes; and that a searcher's way is right for its delimiters.
+use Rattle.std.proofs.Common.{◌≡◌, ◌⊎◌, ℕ, ◌+◌, ◌-◌, ◌<◌, ◌≤◌, List, length, take, drop, get_or, arith, sym, ap, ◌∙◌, get_or-take, get_or-drop, length-take, length-drop}
 use Rattle.std.proofs.Common.{subst}
 use Rattle.std.proofs.Math.Logic.{∥∥₁_elim}
 use Rattle.memchr.specs.Find.{Passes, Nowhere, is_byte3}
 use Rattle.upon_language_spec.specs.DefaultDelimiters.{default_delimiters}
-use Rattle.upon_language_spec.specs.Search.{DelimiterText, Occurs, HasTexts, NoneFrom}
-use Rattle.upon_lexer.specs.FirstBytes.{IsOneOf, BeginWithOneOf}
+use Rattle.upon_language_spec.specs.Search.{DelimiterText, Occurs, HasTexts, NoneAt, NoneFrom, text_at}
+use Rattle.upon_language_spec.proofs.SpansLieIn.Offsets.{occurs_within}
+use Rattle.upon_lexer.specs.FewBytes.{HaveOneOf}
 use Rattle.upon_lexer.specs.Marks.{MarksEach}
 use Rattle.upon_lexer.specs.Ways.{WayFits}
-use Rattle.upon_lexer.specs.declared.compile.first_bytes.FewBytes.{FewBytes}
+use Rattle.upon_lexer.specs.declared.compile.few_bytes.FewBytes.{FewBytes}
 use Rattle.upon_lexer.specs.declared.compile.marks.Marks.{Marks}
 use Rattle.upon_lexer.specs.declared.compile.search.Way.{Way}
 use Rattle.upon_lexer.specs.declared.compile.search.Way.TheVariants.{Brace, Few, Marked}
@@ -18,19 +19,53 @@ pub occurs_reads : (s : List ℕ) (q : ℕ) (d : List ℕ) (k : ℕ) → Occurs 
 occurs_reads s q d k occurs inside =
     ap (λ x. get_or x k 0) occurs ∙ get_or-take (length d) (drop q s) k 0 inside ∙ get_or-drop q s k 0
 
--- none of the bytes is in the text where a search for them passed
-module _ (few : FewBytes) (s bytes : List ℕ) (at k : ℕ) (same : bytes ≡ s) (room : k ≤ length bytes - at)
-    (none : Nowhere (Passes (is_byte3 few.first few.second few.third) (take (length bytes - at) (drop at bytes))) 0 k) where
-  pub others_before : (q : ℕ) → at ≤ q → q < at + k → IsOneOf few (get_or s q 0) → ⊥
-  others_before q after below one =
-      let within : q - at < k = omega (arith, after, below) in
-      let here : at + (q - at) ≡ q = omega (arith, after) in
-      let byte : get_or (take (length bytes - at) (drop at bytes)) (q - at) 0 ≡ get_or s q 0 =
-      get_or-take (length bytes - at) (drop at bytes) (q - at) 0 (omega (arith, within, room))
-      ∙ get_or-drop at bytes (q - at) 0
-      ∙ ap (λ x. get_or bytes x 0) here
-      ∙ ap (λ x. get_or x q 0) same in
-      none (q - at) (omega arith) within (ap (λ b. is_byte3 few.first few.second few.third b) byte ∙ one)
+-- where a search for a few bytes passed, no delimiter occurs that has one of them
+module _ (few : FewBytes) (s bytes rest : List ℕ) (at : ℕ) (same : bytes ≡ s) where
+  -- what is searched: the text from an offset on, without as many bytes as the place says
+  abbrev pub Searched : Type 0
+  Searched = let after = take (length bytes - at) (drop at bytes) in
+      (few.place ≤ length after) × (rest ≡ take (length after - few.place) (drop few.place after))
+
+  abbrev pub NotTo : ℕ → Type 0
+  NotTo k = Nowhere (Passes (is_byte3 few.first few.second few.third) rest) 0 k
+
+  searched_length : Searched → length rest + few.place ≡ length s - at
+  searched_length searched =
+      let after = take (length bytes - at) (drop at bytes) in
+      let total : length after ≡ length bytes - at = omega (arith, length-take (length bytes - at) (drop at bytes), length-drop at bytes) in
+      let size = ap length searched.1 in
+      omega (arith, searched.0, total, size, length-take (length after - few.place) (drop few.place after), length-drop few.place after, ap length same)
+
+  searched_reads : Searched → (j : ℕ) → j < length rest → get_or rest j 0 ≡ get_or s (at + (few.place + j)) 0
+  searched_reads searched j inside =
+      let after = take (length bytes - at) (drop at bytes) in
+      let total : length after ≡ length bytes - at = omega (arith, length-take (length bytes - at) (drop at bytes), length-drop at bytes) in
+      let size = ap length searched.1 in
+      let below : j < length after - few.place =
+      omega (arith, inside, size, length-take (length after - few.place) (drop few.place after)) in
+      ap (λ x. get_or x j 0) searched.1
+      ∙ get_or-take (length after - few.place) (drop few.place after) j 0 below
+      ∙ get_or-drop few.place after j 0
+      ∙ get_or-take (length bytes - at) (drop at bytes) (few.place + j) 0 (omega (arith, below, total))
+      ∙ get_or-drop at bytes (few.place + j) 0
+      ∙ ap (λ x. get_or x (at + (few.place + j)) 0) same
+
+  passed : (q k : ℕ) → at ≤ q → q - at < length rest → (q < at + k) ⊎ (length rest ≤ k) → q - at < k
+  passed q k after near below = grind (arith, after, near, below)
+
+  pub none_searched : Searched → (k : ℕ) → NotTo k → (ds : List DelimiterText) → HaveOneOf few ds
+      → (q : ℕ) → at ≤ q → (q < at + k) ⊎ (length rest ≤ k) → NoneAt ds s q
+  none_searched searched k none ds have q after below i inside occurs =
+      let d = text_at ds i in
+      let place : few.place < length d = (have i inside).0 in
+      let fits : q + length d ≤ length s = occurs_within s q d (omega (arith, place)) occurs in
+      let size = searched_length searched in
+      let near : q - at < length rest = omega (arith, place, fits, size, after) in
+      let there : at + (few.place + (q - at)) ≡ q + few.place = omega (arith, after) in
+      let byte : get_or rest (q - at) 0 ≡ get_or d few.place 0 =
+      searched_reads searched (q - at) near ∙ ap (λ x. get_or s x 0) there ∙ sym (occurs_reads s q d few.place occurs place) in
+      none (q - at) (omega arith) (passed q k after near below)
+      (ap (λ b. is_byte3 few.first few.second few.third b) byte ∙ (have i inside).1)
 
 -- a searcher's way is right for its delimiters
 module _ (way : Way) (ds : List DelimiterText) (s : List ℕ) (at end : ℕ) (fits : ∥ WayFits way ds ∥₁) where
@@ -44,7 +79,7 @@ module _ (way : Way) (ds : List DelimiterText) (s : List ℕ) (at end : ℕ) (fi
       subst From (sym same) none q after below i inside occurs)
 
   pub few_fits : (few : FewBytes) (marks : Marks) → way ≡ Few few marks → HasTexts ds
-      → ((delimiters : List DelimiterText) → HasTexts delimiters → BeginWithOneOf few delimiters → MarksEach marks delimiters
+      → ((delimiters : List DelimiterText) → HasTexts delimiters → HaveOneOf few delimiters → MarksEach marks delimiters
       → NoneFrom delimiters s at end)
       → NoneFrom ds s at end
   few_fits few marks is texts none q after below i inside occurs = ∥∥₁_elim fits (λ x y. absurd x) (λ f.

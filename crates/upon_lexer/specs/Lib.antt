@@ -15,6 +15,6 @@ pub mod Nodes
 pub mod Grown
 pub mod Trie
 pub mod Pairs
-pub mod FirstBytes
+pub mod FewBytes
 pub mod Marks
 pub mod Ways

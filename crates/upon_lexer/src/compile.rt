@@ -3,7 +3,7 @@ mod braces;
 mod brackets;
 pub mod chars;
 mod fault;
-mod first_bytes;
+mod few_bytes;
 mod inside;
 pub mod lex;
 mod marks;

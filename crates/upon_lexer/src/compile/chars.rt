@@ -45,21 +45,15 @@ pub fn begins_name(c: char) -> bool
 pub fn is_keyword(word: &str) -> bool
     ensures { result ≡ is_keyword word.now }
 {
-    matches!(
-        word,
-        "if" | "not"
-            | "else"
-            | "endif"
-            | "for"
-            | "in"
-            | "endfor"
-            | "with"
-            | "as"
-            | "endwith"
-            | "include"
-            | "true"
-            | "false"
-    )
+    match word.len() {
+        2 => matches!(word, "if" | "in" | "as"),
+        3 => matches!(word, "not" | "for"),
+        4 => matches!(word, "else" | "with" | "true"),
+        5 => matches!(word, "endif" | "false"),
+        6 => word == "endfor",
+        7 => matches!(word, "endwith" | "include"),
+        _ => false,
+    }
 }
 
 /// The character at an offset of a text, in bytes; none is at its end.

@@ -69,9 +69,6 @@ impl Marks {
             → NoneAt delimiters bytes.now at }
     {
         let begin = self.first[bytes[at] as usize];
-        if begin == 0 {
-            return false;
-        }
         match bytes.get(at + 1) {
             Some(next) => begin & self.second[*next as usize] != 0,
             None => true,

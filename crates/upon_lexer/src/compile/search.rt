@@ -1,17 +1,17 @@
-// Where delimiters occur in a text: by a brace or the first bytes, and then by a walk of the trie.
+// Where delimiters occur in a text: by a brace, by a few bytes or by marks, and then by a walk of the trie.
 ghost use Rattle.std.specs.Prelude.{◌≡◌, ℕ, List, ◌<◌, ◌≤◌, ◌+◌, length, MatchOption, IfSome};
 ghost use Rattle.std.specs.Str.{IsCharBoundary};
 ghost use Rattle.upon_types.specs.Span.{LiesIn};
 ghost use Rattle.upon_language_spec.specs.DefaultDelimiters.{default_delimiters};
 ghost use Rattle.upon_language_spec.specs.Search.{DelimiterText, HasTexts, Occurs, NoneAt, NoneFrom, IsBest, IsBestDelimiter, IsFirst};
 ghost use Rattle.upon_language_spec.specs.Raw.{IsRaw};
-ghost use Rattle.upon_lexer.specs.FirstBytes.{BeginWithOneOf};
+ghost use Rattle.upon_lexer.specs.FewBytes.{HaveOneOf};
 ghost use Rattle.upon_lexer.specs.Marks.{MarksEach};
 ghost use Rattle.upon_lexer.specs.Syntax.{syntax_delimiters};
 ghost use Rattle.upon_lexer.specs.Ways.{WayFits};
 
 use crate::compile::braces;
-use crate::compile::first_bytes::FewBytes;
+use crate::compile::few_bytes::FewBytes;
 use crate::compile::marks::Marks;
 use crate::types::syntax::{Syntax, trie};
 use upon_types::types::{Delimiter, Span};
@@ -24,7 +24,7 @@ pub struct Searcher {
     ghost fits: { ∥ WayFits way (syntax_delimiters syntax) ∥₁ },
 }
 
-// How it looks for the next delimiter: by the next brace; by the bytes with which delimiters begin, if there are at most
+// How it looks for the next delimiter: by the next brace; by the bytes at one place of all delimiters, if there are at most
 // three, and marks of their first two bytes; or by marks alone.
 #[derive(Drop)]
 enum Way {
@@ -185,15 +185,15 @@ fn end_of(source: &str, at: usize, text: &str) -> usize
     at + text.len()
 }
 
-// How many bytes are looked at by marks before the next search for first bytes: after one of them others are often near.
+// How many bytes are looked at by marks before the next search for few bytes: after one of them others are often near.
 const WINDOW: usize = 32;
 
-// The next offset from which a delimiter may occur that begins with one of a few bytes; the text's length if there is none.
+// The next offset from which a delimiter may occur that has one of a few bytes; the text's length if there is none.
 fn next_of_few(few: FewBytes, marks: &Marks, source: &str, at: usize) -> usize
     requires { at ≤ length source.now }
     ensures after { at ≤ result }
     ensures within { result ≤ length source.now }
-    ensures none { (delimiters : List DelimiterText) → HasTexts delimiters → BeginWithOneOf few delimiters
+    ensures none { (delimiters : List DelimiterText) → HasTexts delimiters → HaveOneOf few delimiters
         → MarksEach marks.now delimiters → NoneFrom delimiters source.now at result }
 {
     let mut from = at;

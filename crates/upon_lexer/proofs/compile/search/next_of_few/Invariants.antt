@@ -1,6 +1,6 @@
 use Rattle.std.proofs.Common.{◌≤◌, ◌-◌, List, length}
 use Rattle.upon_language_spec.specs.Search.{DelimiterText, HasTexts, NoneFrom}
-use Rattle.upon_lexer.specs.FirstBytes.{BeginWithOneOf}
+use Rattle.upon_lexer.specs.FewBytes.{HaveOneOf}
 use Rattle.upon_lexer.specs.Marks.{MarksEach}
 use Rattle.upon_lexer.proofs.compile.search.next_of_few.Given as goal
 
@@ -8,7 +8,7 @@ abbrev pub invariant-loop-from : goal.invariant-loop-from
 invariant-loop-from l = record {
   after : l.at ≤ l.from;
   within : l.from ≤ length l.source;
-  none : (delimiters : List DelimiterText) → HasTexts delimiters → BeginWithOneOf l.few delimiters → MarksEach l.marks delimiters
+  none : (delimiters : List DelimiterText) → HasTexts delimiters → HaveOneOf l.few delimiters → MarksEach l.marks delimiters
       → NoneFrom delimiters l.source l.at l.from;
 }
 

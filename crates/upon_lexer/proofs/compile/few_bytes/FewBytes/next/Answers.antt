@@ -1,0 +1,16 @@
+use Rattle.std.proofs.Common.{length, arith, inl, inr}
+use Rattle.upon_lexer.proofs.Ways.{none_searched}
+use Rattle.upon_lexer.proofs.compile.few_bytes.FewBytes.next.Goals as goal
+
+pub returns-in-Some-memchr3-clause-none : goal.returns-in-Some-memchr3-clause-none
+returns-in-Some-memchr3-clause-none c = λ ds have q after below.
+    let looked = c.in-Some.ensures.lookup.0 in
+    let found = c.in-Some-memchr3.ensures.0 in
+    none_searched c.args.self c.args.source.now c.as_bytes.result.now c.in-Some.rest.now c.args.at c.as_bytes.ensures.value
+    (looked.0, looked.2) c.in-Some-memchr3.found found.before ds have q after (inl below)
+
+pub returns-in-None-clause-none : goal.returns-in-None-clause-none
+returns-in-None-clause-none c = λ ds have q after below.
+    let looked = c.in-Some.ensures.lookup.0 in
+    none_searched c.args.self c.args.source.now c.as_bytes.result.now c.in-Some.rest.now c.args.at c.as_bytes.ensures.value
+    (looked.0, looked.2) (length c.in-Some.rest.now) c.in-None.ensures ds have q after (inr (omega arith))
