@@ -90,3 +90,26 @@ module _ (way : Way) (ds : List DelimiterText) (s : List ℕ) (at end : ℕ) (fi
       → NoneFrom ds s at end
   marks_fit marks is texts none q after below i inside occurs = ∥∥₁_elim fits (λ x y. absurd x) (λ f.
       none ds texts (subst Fits is f) q after below i inside occurs)
+
+-- the same at one offset
+module _ (way : Way) (ds : List DelimiterText) (s : List ℕ) (at : ℕ) (fits : ∥ WayFits way ds ∥₁) where
+  abbrev Fitting : Way → Type 0
+  Fitting w = WayFits w ds
+
+  pub brace_fits_at : way ≡ Brace → NoneAt default_delimiters s at → NoneAt ds s at
+  brace_fits_at is none i inside occurs = ∥∥₁_elim fits (λ x y. absurd x) (λ f.
+      let same : ds ≡ default_delimiters = subst Fitting is f in
+      let At : List DelimiterText → Type 0 = λ d. NoneAt d s at in
+      subst At (sym same) none i inside occurs)
+
+  pub few_fit_at : (few : FewBytes) (marks : Marks) → way ≡ Few few marks → HasTexts ds
+      → ((delimiters : List DelimiterText) → HasTexts delimiters → MarksEach marks delimiters → NoneAt delimiters s at)
+      → NoneAt ds s at
+  few_fit_at few marks is texts none i inside occurs = ∥∥₁_elim fits (λ x y. absurd x) (λ f.
+      none ds texts (subst Fitting is f).1 i inside occurs)
+
+  pub marks_fit_at : (marks : Marks) → way ≡ Marked marks → HasTexts ds
+      → ((delimiters : List DelimiterText) → HasTexts delimiters → MarksEach marks delimiters → NoneAt delimiters s at)
+      → NoneAt ds s at
+  marks_fit_at marks is texts none i inside occurs = ∥∥₁_elim fits (λ x y. absurd x) (λ f.
+      none ds texts (subst Fitting is f) i inside occurs)

@@ -1,7 +1,7 @@
 // Where a default delimiter may begin: with a pair of bytes, of which one is a brace, or a byte before such a pair.
 ghost use Rattle.std.specs.Prelude.{◌≡◌, ℕ, ◌<◌, ◌≤◌, length, slice_index, false, true, MatchOption};
 ghost use Rattle.upon_language_spec.specs.DefaultDelimiters.{default_delimiters};
-ghost use Rattle.upon_language_spec.specs.Search.{NoneFrom};
+ghost use Rattle.upon_language_spec.specs.Search.{NoneAt, NoneFrom};
 ghost use Rattle.upon_lexer.specs.Pairs.{is_pair, NoPairWith, IsFirstPairWith};
 
 /// Returns the first offset at or after another from which a default delimiter may occur; the text's length if there is
@@ -22,6 +22,13 @@ pub(crate) fn next(source: &str, at: usize) -> usize
         from = brace + 1;
     }
     bytes.len()
+}
+
+/// Whether a default delimiter may begin at an offset: with one of five bytes.
+pub(crate) fn may_begin(bytes: &[u8], at: usize) -> bool
+    ensures { result ≡ false → NoneAt default_delimiters bytes.now at }
+{
+    matches!(bytes.get(at), Some(b'{' | b'}' | b'%' | b'#' | b'-'))
 }
 
 // The first offset at or after another where a pair is that a brace belongs to.

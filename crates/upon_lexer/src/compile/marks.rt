@@ -62,8 +62,8 @@ impl Marks {
         end
     }
 
-    // Whether a delimiter may begin at an offset.
-    fn may_begin(&self, bytes: &[u8], at: usize) -> bool
+    /// Whether a delimiter may begin at an offset.
+    pub(crate) fn may_begin(&self, bytes: &[u8], at: usize) -> bool
         requires { at < length bytes.now }
         ensures { result ≡ false → (delimiters : List DelimiterText) → HasTexts delimiters → MarksEach self.now delimiters
             → NoneAt delimiters bytes.now at }

@@ -1,5 +1,5 @@
 // Where delimiters occur in a text: by a brace, by a few bytes or by marks, and then by a walk of the trie.
-ghost use Rattle.std.specs.Prelude.{◌≡◌, ℕ, List, ◌<◌, ◌≤◌, ◌+◌, length, MatchOption, IfSome};
+ghost use Rattle.std.specs.Prelude.{◌≡◌, ℕ, List, ◌<◌, ◌≤◌, ◌+◌, false, length, MatchOption, IfSome};
 ghost use Rattle.std.specs.Str.{IsCharBoundary};
 ghost use Rattle.upon_types.specs.Span.{LiesIn};
 ghost use Rattle.upon_language_spec.specs.DefaultDelimiters.{default_delimiters};
@@ -97,6 +97,9 @@ impl Searcher {
         ensures start { IfSome result (λ best. best.1.m ≡ at) }
         ensures span { IfSome result (λ best. LiesIn source.now best.1) }
     {
+        if at < source.len() && !self.may_begin(source.as_bytes(), at) {
+            return None;
+        }
         match self.best_at(source, at) {
             Some((kind, end)) => Some((kind, Span { m: at, n: end })),
             None => None,
@@ -129,6 +132,18 @@ impl Searcher {
             Way::Brace => braces::next(source, at),
             Way::Few(bytes, marks) => next_of_few(*bytes, marks, source, at),
             Way::Marked(marks) => marks.next(source, at, source.len()),
+        }
+    }
+
+    // Whether a delimiter may begin at an offset, by the first byte there or the first two.
+    fn may_begin(&self, bytes: &[u8], at: usize) -> bool
+        requires { at < length bytes.now }
+        ensures { result ≡ false → NoneAt (searcher_delimiters self.now) bytes.now at }
+    {
+        match &self.way {
+            Way::Brace => braces::may_begin(bytes, at),
+            Way::Few(_, marks) => marks.may_begin(bytes, at),
+            Way::Marked(marks) => marks.may_begin(bytes, at),
         }
     }
 
