@@ -200,8 +200,11 @@ fn end_of(source: &str, at: usize, text: &str) -> usize
     at + text.len()
 }
 
-// How many bytes are looked at by marks before the next search for few bytes: after one of them others are often near.
-const WINDOW: usize = 32;
+// How many bytes are looked at by marks before the next search for few bytes, if one of them is near to where the search
+// began (others are often near then, and a search for each would cost more); else only the one that is found is looked at.
+const WINDOW: usize = 64;
+
+const NEAR: usize = 8;
 
 // The next offset from which a delimiter may occur that has one of a few bytes; the text's length if there is none.
 fn next_of_few(few: FewBytes, marks: &Marks, source: &str, at: usize) -> usize
@@ -214,7 +217,8 @@ fn next_of_few(few: FewBytes, marks: &Marks, source: &str, at: usize) -> usize
     let mut from = at;
     while from < source.len() {
         let start = few.next(source, from);
-        let end = start + WINDOW.min(source.len() - start);
+        let window = if start - from < NEAR { WINDOW } else { 1 };
+        let end = start + window.min(source.len() - start);
         let offset = marks.next(source, start, end);
         if offset < end {
             return offset;
