@@ -1,1 +1,3 @@
 pub mod Callables
+pub mod Formatters
+pub mod Sources

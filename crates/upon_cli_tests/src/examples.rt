@@ -95,21 +95,19 @@ struct Only<'r> {
 
 impl<'r> TemplateSource<'r> for Only<'r> {
     ghost use Rattle.std.specs.Prelude.{[]};
-    ghost use Rattle.upon_render.specs.Finding.{reply};
-    ghost use Rattle.upon_render.specs.Source.{says};
-    ghost use Rattle.upon_engine.specs.Template.{template_of};
-    ghost use Rattle.upon_engine.proofs.TemplateSpans.{template_lies};
-    ghost use Rattle.upon_meaning_spec.proofs.FaultsStated.Ends.{one_lies};
+    ghost use Rattle.upon.specs.TemplateSpans.{handed_on_lie};
+    ghost use Rattle.upon_engine.specs.HandsOn.{hands_on};
+    ghost use Rattle.upon_cli_tests.specs.Sources.{one_template};
 
     ghost State = { Unit {0} };
 
     ghost template_state = { λ _. tt };
 
-    ghost resolve = { λ s q _. reply (says (template_of s.template.now)) q };
+    ghost resolve = { λ s. hands_on (one_template s.template.now) };
 
     ghost holds = { λ _. [] };
 
-    ghost templates_lie = { λ s. one_lies (template_of s.template.now) (template_lies s.template.now) };
+    ghost templates_lie = { λ s. handed_on_lie (one_template s.template.now) };
 
     fn template(&mut self, _name: &str) -> std::result::Result<&'r Template<'r>, SourceError> {
         Ok(self.template)
