@@ -2,4 +2,3 @@ pub mod Rows
 pub mod Entries
 pub mod Reports
 pub mod Plain
-pub mod Marks
