@@ -2,7 +2,7 @@
 pub use upon_engine::renderer::Renderer;
 pub use upon_engine::sources::{CallName, EngineTemplates, TemplateFn, TemplateSource};
 pub use upon_engine::values::{Context, SerdeContext, SourceValues};
-pub use upon_fmt::output::{Output, Writer};
+pub use upon_fmt::output::{Mark, Output, Writer};
 pub use upon_render::iter::LoopState;
 pub use upon_render::source::{NoSource, SourceError, ValueSource};
 pub use upon_render::stack::{Stack, State};

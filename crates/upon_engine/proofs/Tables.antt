@@ -1,5 +1,5 @@
 -- The texts that an engine holds have one table of trees, and an answer by that table is one by each.
-use Rattle.std.proofs.Common.{◌≡◌, ℕ, List, [], Option, Some, None, Result, String, option_map, refl, sym, ap, ◌∙◌, subst, inl, inr, Ok, Err, IsErrAnd, true}
+use Rattle.std.proofs.Common.{◌≡◌, ℕ, List, [], Option, Some, None, Result, String, option_map, refl, sym, ap, ◌∙◌, subst, inl, inr, Ok, Err, IsErrAnd}
 use mathlib.Core.Path.{fun_ext}
 use Rattle.std.specs.BTreeMap.{get_by_text}
 use Rattle.std.specs.declared.alloc.Global.{Global}
@@ -20,7 +20,7 @@ use Rattle.upon_meaning_spec.specs.Engine.{Table, Template}
 use Rattle.upon_meaning_spec.specs.Outcome.{states}
 use Rattle.std.proofs.KnownBytes.{Appends-nil}
 use Rattle.upon_fmt.specs.Given.{Part}
-use Rattle.upon_vm.specs.Reports.{Writes}
+use Rattle.upon_vm.specs.Reports.{IsAnyIo, Writes}
 use Rattle.upon_syntax.specs.TagReading.{IsSyntaxError}
 use Rattle.upon_compiled_spec.proofs.CompiledTree.{only, had_tree}
 use Rattle.upon_engine.specs.Answers.{AnswersText}
@@ -101,8 +101,8 @@ module _ {X Y : Type 0} {P : X → Type 0} {Q : Y → Type 0} (formats : DynBox 
   -- the same of what a writer receives
   pub sends_by : (name : Option (List ℕ)) (t : Template) (source : List ℕ) (tree : Statements) (v : Val) (result : Result (Unit {0}) Error) (old new : Option (List ℕ))
       → t ≡ made source tree
-      → Writes e.depth true result old new (alone (rendering (texts_of formats answers e) (engine_of formats answers e).templates) t name (context v) (states tt tt))
+      → Writes e.depth IsAnyIo result old new (alone (rendering (texts_of formats answers e) (engine_of formats answers e).templates) t name (context v) (states tt tt))
       → Sends (texts_of formats answers e) name source tree v result old new
   sends_by name t source tree v result old new is said table it =
-      subst (λ z. Writes e.depth true result old new (meaning (texts_of formats answers e) z name source tree v)) (sym (only_table (get_by_text e.templates) table it))
-      (subst (λ z. Writes e.depth true result old new (alone (rendering (texts_of formats answers e) (engine_of formats answers e).templates) z name (context v) (states tt tt))) is said)
+      subst (λ z. Writes e.depth IsAnyIo result old new (meaning (texts_of formats answers e) z name source tree v)) (sym (only_table (get_by_text e.templates) table it))
+      (subst (λ z. Writes e.depth IsAnyIo result old new (alone (rendering (texts_of formats answers e) (engine_of formats answers e).templates) z name (context v) (states tt tt))) is said)

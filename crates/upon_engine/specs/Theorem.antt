@@ -1,5 +1,5 @@
 -- What rendering a text answers, by texts and trees alone.
-use Rattle.std.specs.Prelude.{◌≡◌, ℕ, List, Option, Some, None, true, Result, String}
+use Rattle.std.specs.Prelude.{◌≡◌, ℕ, List, Option, Some, None, Result, String}
 use Rattle.std.specs.declared.alloc.Global.{Global}
 use Rattle.upon_types.specs.Tree.{Statements}
 use Rattle.upon_types.specs.Val.{Val}
@@ -11,7 +11,7 @@ use Rattle.upon_meaning_spec.specs.Alone.{alone}
 use Rattle.upon_meaning_spec.specs.DefaultFormat.{formatter_or_default}
 use Rattle.upon_meaning_spec.specs.Engine.{Table, Template, Rendering, from_table}
 use Rattle.upon_meaning_spec.specs.Outcome.{Outcome, States, states}
-use Rattle.upon_vm.specs.Reports.{Writes}
+use Rattle.upon_vm.specs.Reports.{IsAnyIo, Writes}
 use Rattle.upon_engine.specs.Answers.{AnswersText}
 use Rattle.upon_engine.specs.Texts.{Stored, Texts}
 
@@ -53,4 +53,4 @@ Answers e name source tree v result =
 abbrev pub Sends : Texts → Option (List ℕ) → List ℕ → Statements → Val → Result (Unit {0}) Error
     → Option (List ℕ) → Option (List ℕ) → Type 0
 Sends e name source tree v result old new =
-    (table : Table) → IsTable e.texts table → Writes e.depth true result old new (meaning e table name source tree v)
+    (table : Table) → IsTable e.texts table → Writes e.depth IsAnyIo result old new (meaning e table name source tree v)

@@ -1,8 +1,8 @@
 // The renderer: a rendering before it is made.
 ghost use Rattle.std.specs.Prelude.{◌≡◌, None, true};
 ghost use Rattle.upon_types.specs.View.{view};
-ghost use Rattle.upon_vm.specs.Reports.{Writes, WritesAndLeaves};
-ghost use Rattle.upon_vm.specs.Runs.{Ran};
+ghost use Rattle.upon_vm.specs.Reports.{IsAnyIo, IsTaken, WriteMarks, Writes, WritesAndLeaves};
+ghost use Rattle.upon_vm.specs.Runs.{Ran, RunMarks};
 ghost use Rattle.upon_meaning_spec.specs.Outcome.{states};
 ghost use Rattle.upon_engine.specs.Template.{template_of};
 ghost use Rattle.upon_engine.specs.Answers.{AnswersText};
@@ -187,27 +187,29 @@ impl<'r, E: Callables + Drop, V: Values<'r, T>, T: TemplateSource<'r>> Renderer<
     }
 
     /// Writes the text that the template means, up to its fault. Where the output does not receive a text whole, the fault is
-    /// its error, of the kind `Io`, or says that memory is out. The kind is `Io` only where a write has failed.
+    /// its error, of the kind `Io`, or says that memory is out. Where the kind is `Io`, the fault holds the error that the
+    /// output's last failed write answered; where it is not, no write failed.
     pub fn to_output<O: Output>(self, out: &mut O) -> error::Result<()>
         ensures means { Writes
             (limit_in self.entry)
-            (O.failed out.new)
+            (IsTaken (O.mark out.new))
             result
             (O.given out.old)
             (O.given out.new)
             (outcome (call_of E.callables E.default_formatter V.asks V.root V.values_state T.resolve T.template_state self.entry)) }
         ensures same { O.holds out.new ≡ O.holds out.old }
+        ensures mark { WriteMarks result (O.mark out.old) (O.mark out.new) }
         ensures laws { Kept (call_of E.callables E.default_formatter V.asks V.root V.values_state T.resolve T.template_state self.entry) }
     {
         let (result, _, _) = self.to_output_and_sources(out);
         result
     }
 
-    /// The same to a writer. Where a write fails or takes nothing, the fault is of the kind `Io`.
+    /// The same to a writer, by a [`LentWriter`]. Where a write fails or takes nothing, the fault is of the kind `Io`.
     pub fn to_writer<W: io::Write>(self, writer: &mut W) -> error::Result<()>
         ensures means { Writes
             (limit_in self.entry)
-            true
+            IsAnyIo
             result
             (W.contents writer.old)
             (W.contents writer.new)
@@ -223,13 +225,14 @@ impl<'r, E: Callables + Drop, V: Values<'r, T>, T: TemplateSource<'r>> Renderer<
     pub fn to_output_and_sources<O: Output>(self, out: &mut O) -> (error::Result<()>, V, T)
         ensures means { WritesAndLeaves
             (limit_in self.entry)
-            (O.failed out.new)
+            (IsTaken (O.mark out.new))
             result.0
             (O.given out.old)
             (O.given out.new)
             (outcome (call_of E.callables E.default_formatter V.asks V.root V.values_state T.resolve T.template_state self.entry))
             (states (V.values_state result.1) (T.template_state result.2)) }
         ensures same { O.holds out.new ≡ O.holds out.old }
+        ensures mark { WriteMarks result.0 (O.mark out.old) (O.mark out.new) }
         ensures asks { V.asks result.1 ≡ V.asks (values_in self.entry) }
         ensures root { (r : Root) → V.root (values_in self.entry) ≡ on_root r → V.root result.1 ≡ V.root (values_in self.entry) }
         ensures held { V.holds result.1 ≡ V.holds (values_in self.entry) }
@@ -246,6 +249,7 @@ impl<'r, E: Callables + Drop, V: Values<'r, T>, T: TemplateSource<'r>> Renderer<
     // Runs the template's program into an output.
     fn run<O: Output>(self, out: &mut O) -> (Result<Ending, Failure>, V, T)
         ensures same { O.holds out.new ≡ O.holds out.old }
+        ensures mark { RunMarks result.0 (O.mark out.old) (O.mark out.new) }
         ensures ran { Ran
             result.0
             (O.given out.old)

@@ -6,7 +6,7 @@ ghost use Rattle.upon_meaning_spec.specs.Engine.{Template};
 ghost use Rattle.upon_meaning_spec.specs.Outcome.{states};
 ghost use Rattle.upon_vm.specs.Acts.{calls_of};
 ghost use Rattle.upon_vm.specs.Program.{IsProgramOf};
-ghost use Rattle.upon_vm.specs.Runs.{Ran};
+ghost use Rattle.upon_vm.specs.Runs.{Ran, RunMarks};
 ghost use Rattle.upon_render.specs.Environment.{Root};
 ghost use Rattle.upon_engine.specs.Base.{Base, on_root, outcome_within};
 
@@ -51,6 +51,7 @@ pub trait Values<'r, T: TemplateSource<'r>>: Drop {
     ) -> (Result<Ending, Failure>, Self, T)
         requires { (t : Template) × IsProgramOf running.program t × TreeLiesIn t.source t.tree }
         ensures same { W.holds out.new ≡ W.holds out.old }
+        ensures mark { RunMarks result.0 (W.mark out.old) (W.mark out.new) }
         ensures ran { (t : Template) → IsProgramOf running.entry.program t → Ran
             result.0
             (W.given out.old)

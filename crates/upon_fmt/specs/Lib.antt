@@ -1,4 +1,5 @@
 pub mod Error
 pub mod Formatter
 pub mod Given
+pub mod Mark
 pub mod Writer

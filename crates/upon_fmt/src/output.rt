@@ -1,49 +1,83 @@
 // Where rendered text goes.
-ghost use Rattle.std.specs.Prelude.{◌≡◌, List, ℕ, [], Option, Some, Bool, true, false, is_some, string_bytes};
+ghost use Rattle.std.specs.Prelude.{◌≡◌, List, ℕ, [], Option, Some, string_bytes};
 ghost use Rattle.upon_fmt.specs.Given.{Gave, Wrote};
-ghost use Rattle.upon_fmt.specs.Writer.{is_set, error_waits};
+ghost use Rattle.upon_fmt.specs.Mark.{set_aside, waiting, Notes};
+ghost use Rattle.upon_fmt.specs.declared.output.Mark.{Mark};
+ghost use Rattle.upon_fmt.specs.declared.output.Mark.TheVariants.{Clear};
 
 use std::{fmt, io};
+
+/// The mark of an output: whether a write has failed, and with which error.
+#[derive(Clone, Copy, Debug)]
+pub enum Mark {
+    /// No write has failed.
+    Clear,
+    /// A write has failed. The last that did answered this error, which waits to be taken.
+    Waits(io::Error),
+    /// A write has failed. The last that did answered this error, which was taken, or put aside where memory was refused.
+    Taken(io::Error),
+}
+
+impl Mark {
+    // Takes the error that waits.
+    fn take_err(&mut self) -> Option<io::Error>
+        ensures error { result ≡ waiting self.old }
+        ensures mark { self.new ≡ set_aside self.old }
+    {
+        match *self {
+            Mark::Waits(error) => {
+                *self = Mark::Taken(error);
+                Some(error)
+            }
+            Mark::Clear | Mark::Taken(_) => None,
+        }
+    }
+
+    // Notes how writing ended: where it failed, its error waits.
+    fn note(&mut self, written: io::Result<()>) -> fmt::Result
+        ensures { Notes written self.old self.new result }
+    {
+        match written {
+            Ok(()) => Ok(()),
+            Err(error) => {
+                *self = Mark::Waits(error);
+                Err(fmt::Error)
+            }
+        }
+    }
+}
 
 /// What receives a text, or a beginning of it.
 pub trait Output {
     /// The bytes that were received, where they are known.
     ghost given: { Self → Option (List ℕ) };
 
-    /// Whether a write has failed: the mark.
-    ghost failed: { Self → Bool };
-
-    /// Whether an error waits to be taken.
-    ghost waits: { Self → Bool };
-
-    /// An error waits only where the mark is set.
-    ghost error_marked: { (s : Self) → waits s ≡ true → failed s ≡ true };
+    /// Whether a write has failed, with which error, and whether that waits to be taken.
+    ghost mark: { Self → Mark };
 
     /// The references that it holds, which it keeps.
     ghost holds: { Self → List ℕ };
 
     /// Hands on the whole text. It fails where something of the text was not received: a beginning was.
+    ///
+    /// Then a write failed, whose error waits; or memory was refused, and no error waits.
     fn give(&mut self, text: &str) -> fmt::Result
         ensures same { holds self.new ≡ holds self.old }
-        ensures gave { Gave (given self.old) (given self.new) (failed self.old) (failed self.new) (waits self.new) result text.now };
+        ensures gave { Gave (given self.old) (given self.new) (mark self.old) (mark self.new) result text.now };
 
-    /// The error of a write, right after a text that was not received whole; `None` where memory was refused.
+    /// Takes the error of a write, right after a text that was not received whole; `None` where memory was refused.
     fn take_err(&mut self) -> Option<io::Error>
         ensures same { holds self.new ≡ holds self.old }
-        ensures error { is_some result ≡ waits self.old }
-        ensures mark { failed self.new ≡ failed self.old }
+        ensures error { result ≡ waiting (mark self.old) }
+        ensures mark { mark self.new ≡ set_aside (mark self.old) }
         ensures given { given self.new ≡ given self.old };
 }
 
-/// A text receives all, or nothing where there is no memory. Its mark is never set.
+/// A text receives all, or nothing where there is no memory. Its mark is always clear.
 impl Output for String {
     ghost given = { λ text. Some (string_bytes text) };
 
-    ghost failed = { λ _. false };
-
-    ghost waits = { λ _. false };
-
-    ghost error_marked = { λ _ waits. waits };
+    ghost mark = { λ _. Clear };
 
     ghost holds = { λ _. [] };
 
@@ -56,30 +90,6 @@ impl Output for String {
 
     fn take_err(&mut self) -> Option<io::Error> {
         None
-    }
-}
-
-// The mark of a writer.
-#[derive(Drop)]
-enum Mark {
-    /// No write has failed.
-    Clear,
-    /// A write has failed. Its error waits, or was taken.
-    Set(Option<io::Error>),
-}
-
-impl Mark {
-    ghost use Rattle.upon_fmt.specs.Writer.{is_set, error_waits};
-
-    // The error that waits.
-    fn take_err(&mut self) -> Option<io::Error>
-        ensures error { is_some result ≡ error_waits self.old }
-        ensures mark { is_set self.new ≡ is_set self.old }
-    {
-        match self {
-            Mark::Clear => None,
-            Mark::Set(error) => error.take(),
-        }
     }
 }
 
@@ -101,18 +111,13 @@ fn write_whole<W: io::Write>(writer: &mut W, text: &str) -> io::Result<()>
 
 // Writes a text whole, or sets the mark with the error.
 fn write_or_mark<W: io::Write>(writer: &mut W, mark: &mut Mark, text: &str) -> fmt::Result
-    ensures { Gave (W.contents writer.old) (W.contents writer.new) (is_set mark.old) (is_set mark.new) (error_waits mark.new) result text.now }
+    ensures { Gave (W.contents writer.old) (W.contents writer.new) mark.old mark.new result text.now }
 {
-    match write_whole(writer, text) {
-        Ok(()) => Ok(()),
-        Err(error) => {
-            *mark = Mark::Set(Some(error));
-            Err(fmt::Error)
-        }
-    }
+    mark.note(write_whole(writer, text))
 }
 
-/// A writer as an output. Its mark is set where a write fails or takes nothing; an empty text calls no write.
+/// A writer as an output. Its mark is set where a write fails, with the error that it answered, or takes nothing; an
+/// empty text calls no write.
 #[derive(Drop)]
 pub struct Writer<W> {
     writer: W,
@@ -120,13 +125,13 @@ pub struct Writer<W> {
 }
 
 impl<W: io::Write> Writer<W> {
-    ghost use Rattle.std.specs.Prelude.{◌≡◌, false};
-    ghost use Rattle.upon_fmt.specs.Writer.{writer_of, has_failed};
+    ghost use Rattle.std.specs.Prelude.{◌≡◌};
+    ghost use Rattle.upon_fmt.specs.Writer.{writer_of, mark_of};
 
     /// A writer that no write has failed for.
     pub fn new(writer: W) -> Writer<W>
         ensures writer { writer_of result ≡ writer }
-        ensures failed { has_failed result ≡ false }
+        ensures mark { mark_of result ≡ Clear }
     {
         let mark = Mark::Clear;
         Writer { writer, mark }
@@ -134,17 +139,11 @@ impl<W: io::Write> Writer<W> {
 }
 
 impl<W: io::Write> Output for Writer<W> {
-    ghost use Rattle.upon_fmt.specs.Writer.{writer_of, has_failed, has_error, is_set, error_in};
-    ghost use Rattle.std.specs.Prelude.{is_some};
-    ghost use Rattle.std.proofs.lemmas.Bool.{and_parts};
+    ghost use Rattle.upon_fmt.specs.Writer.{writer_of, mark_of};
 
     ghost given = { λ w. W.contents (writer_of w) };
 
-    ghost failed = { λ w. has_failed w };
-
-    ghost waits = { λ w. has_error w };
-
-    ghost error_marked = { λ w waits. (and_parts (is_set w.mark) (is_some (error_in w.mark)) waits).0 };
+    ghost mark = { λ w. mark_of w };
 
     ghost holds = { λ _. [] };
 
@@ -165,13 +164,13 @@ pub struct LentWriter<'w, W> {
 }
 
 impl<'w, W: io::Write> LentWriter<'w, W> {
-    ghost use Rattle.std.specs.Prelude.{◌≡◌, false};
-    ghost use Rattle.upon_fmt.specs.Writer.{lent_writer_of, lent_has_failed};
+    ghost use Rattle.std.specs.Prelude.{◌≡◌};
+    ghost use Rattle.upon_fmt.specs.Writer.{lent_writer_of, lent_mark_of};
 
     /// A writer that no write has failed for.
     pub fn new(writer: &'w mut W) -> LentWriter<'w, W>
         ensures writer { lent_writer_of result ≡ writer.entry }
-        ensures failed { lent_has_failed result ≡ false }
+        ensures mark { lent_mark_of result ≡ Clear }
     {
         let mark = Mark::Clear;
         LentWriter { writer, mark }
@@ -179,17 +178,12 @@ impl<'w, W: io::Write> LentWriter<'w, W> {
 }
 
 impl<'w, W: io::Write> Output for LentWriter<'w, W> {
-    ghost use Rattle.std.specs.Prelude.{◌∷◌, is_some};
-    ghost use Rattle.upon_fmt.specs.Writer.{lent_writer_of, lent_has_failed, lent_has_error, is_set, error_in};
-    ghost use Rattle.std.proofs.lemmas.Bool.{and_parts};
+    ghost use Rattle.std.specs.Prelude.{◌∷◌};
+    ghost use Rattle.upon_fmt.specs.Writer.{lent_writer_of, lent_mark_of};
 
     ghost given = { λ w. W.contents (lent_writer_of w).now };
 
-    ghost failed = { λ w. lent_has_failed w };
-
-    ghost waits = { λ w. lent_has_error w };
-
-    ghost error_marked = { λ w waits. (and_parts (is_set w.mark) (is_some (error_in w.mark)) waits).0 };
+    ghost mark = { λ w. lent_mark_of w };
 
     ghost holds = { λ w. (lent_writer_of w).ghost_name ∷ [] };
 

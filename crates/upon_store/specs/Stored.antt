@@ -11,7 +11,7 @@ use Rattle.upon_render.specs.Source.{SourceAnswer, says, refuses}
 use Rattle.upon_meaning_spec.specs.Engine.{Template, Table, Resolver}
 use Rattle.upon_meaning_spec.specs.Includes.{Reaches}
 use Rattle.upon_meaning_spec.specs.Outcome.{Outcome}
-use Rattle.upon_vm.specs.Reports.{Writes}
+use Rattle.upon_vm.specs.Reports.{IsAnyIo, Writes}
 use Rattle.upon_engine.specs.HandsOn.{hands_on}
 use Rattle.upon_engine.specs.Template.{template_of}
 use Rattle.upon_engine.specs.declared.template.Template.{Template as Held}
@@ -81,9 +81,9 @@ EndsAdding is_path Refuses (Err OutOfMemory) = is_path ≡ true
 abbrev pub Renders : {Q : Type 0} → Bool → Option Template → ℕ → Result (Unit {0}) StoreError
     → Option (List ℕ) → Option (List ℕ) → (Template → Outcome Q) → Type 0
 Renders is_path held limit (Ok u) old new means =
-    (t : Template) × (is_path ≡ true) × (held ≡ Some t) × Writes limit true (Ok u) old new (means t)
+    (t : Template) × (is_path ≡ true) × (held ≡ Some t) × Writes limit IsAnyIo (Ok u) old new (means t)
 Renders is_path held limit (Err BadPath) old new means = (is_path ≡ false) × (new ≡ old)
 Renders is_path held limit (Err NotFound) old new means = (is_path ≡ true) × (held ≡ None) × (new ≡ old)
 Renders is_path held limit (Err (Engine e)) old new means =
-    (t : Template) × (is_path ≡ true) × (held ≡ Some t) × Writes limit true (Err e) old new (means t)
+    (t : Template) × (is_path ≡ true) × (held ≡ Some t) × Writes limit IsAnyIo (Err e) old new (means t)
 Renders is_path held limit (Err OutOfMemory) old new means = ⊥

@@ -11,7 +11,7 @@ ghost use Rattle.upon_vm.specs.Acts.{calls_of};
 ghost use Rattle.upon_vm.specs.Keeps.{HasState, SourceHas};
 ghost use Rattle.upon_vm.specs.Machine.{source_state};
 ghost use Rattle.upon_vm.specs.Program.{IsProgramOf};
-ghost use Rattle.upon_vm.specs.Runs.{Ran};
+ghost use Rattle.upon_vm.specs.Runs.{Ran, RunMarks};
 
 use crate::failure::Failure;
 use crate::machine::{Machine, Running};
@@ -41,6 +41,7 @@ pub fn render<'r, V: ValueSource, T: ProgramSource<'r>, C: Callables, W: Output>
     requires state { HasState V.State (root_of stack) }
     requires frames { frames_of stack ≡ [] }
     ensures same { W.holds out.new ≡ W.holds out.old }
+    ensures mark { RunMarks result.0 (W.mark out.old) (W.mark out.new) }
     ensures ran { (t : Template) (ask : Source V.State) (q : V.State) → IsProgramOf running.entry.program t → SourceHas V.ask (root_of stack.entry) ask → Ran
         result.0
         (W.given out.old)

@@ -3,7 +3,8 @@ ghost use Rattle.std.specs.Prelude.{◌≡◌};
 ghost use Rattle.upon_types.specs.Error.{fault_of as error_of};
 ghost use Rattle.upon_types.specs.Fault.{OrMemory};
 ghost use Rattle.upon_meaning_spec.specs.CallFaults.{depth_reached};
-ghost use Rattle.upon_vm.specs.Reports.{EndReport, FailureReport, IsReport, OutputReport};
+ghost use Rattle.upon_fmt.specs.Mark.{set_aside};
+ghost use Rattle.upon_vm.specs.Reports.{EndReport, FailureMarks, FailureReport, IsReport, OutputReport, ReportMarks};
 
 use crate::failure::Failure;
 use crate::run::Ending;
@@ -14,7 +15,7 @@ use upon_types::error::{self, Error, ErrorKind};
 /// The result of a rendering, right after it: nothing, or the fault that is reported.
 ///
 /// Where includes were too deep, the reason has `limit`, the depth as it was set. Where the output did not receive a text
-/// whole, its error is taken: the kind is `Io`, or `OutOfMemory` where it has none.
+/// whole, its error is taken: the kind is `Io`, with this error, or `OutOfMemory` where it has none.
 pub fn reported<W: Output>(
     alloc: Global,
     ended: Result<Ending, Failure>,
@@ -22,9 +23,9 @@ pub fn reported<W: Output>(
     out: &mut W,
 ) -> error::Result<()>
     ensures same { W.holds out.new ≡ W.holds out.old }
-    ensures report { IsReport limit ended (W.waits out.old) result }
+    ensures report { IsReport limit ended (W.mark out.old) result }
     ensures given { W.given out.new ≡ W.given out.old }
-    ensures failed { W.failed out.new ≡ W.failed out.old }
+    ensures mark { ReportMarks ended (W.mark out.old) (W.mark out.new) }
 {
     match ended {
         Ok(end) => end_reported(alloc, end, limit),
@@ -55,9 +56,9 @@ fn depth_reached(alloc: Global, limit: usize) -> Error
 // The fault of a failure.
 fn failure_reported<W: Output>(failure: Failure, out: &mut W) -> Error
     ensures same { W.holds out.new ≡ W.holds out.old }
-    ensures report { FailureReport failure (W.waits out.old) result }
+    ensures report { FailureReport failure (W.mark out.old) result }
     ensures given { W.given out.new ≡ W.given out.old }
-    ensures failed { W.failed out.new ≡ W.failed out.old }
+    ensures mark { FailureMarks failure (W.mark out.old) (W.mark out.new) }
 {
     match failure {
         Failure::Error(error) => error,
@@ -68,9 +69,9 @@ fn failure_reported<W: Output>(failure: Failure, out: &mut W) -> Error
 // The error that the output has, or that memory is out.
 fn output_reported<W: Output>(out: &mut W) -> Error
     ensures same { W.holds out.new ≡ W.holds out.old }
-    ensures report { OutputReport (W.waits out.old) result }
+    ensures report { OutputReport (W.mark out.old) result }
     ensures given { W.given out.new ≡ W.given out.old }
-    ensures failed { W.failed out.new ≡ W.failed out.old }
+    ensures mark { W.mark out.new ≡ set_aside (W.mark out.old) }
 {
     match out.take_err() {
         Some(error) => error.into(),

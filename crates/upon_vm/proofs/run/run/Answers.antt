@@ -22,6 +22,7 @@ steps-init g c =
     let s = state_of g.V.ValueSource.value_state g.T.ProgramSource.template_state some.0.values m in
     record {
       same = refl;
+      mark = refl;
       kept = record { unbounded = λ h. h; root = refl; asks = λ ask h. h; values_held = λ names h. h; resolve = refl; templates_held = refl };
       going = λ known starts.
           way_first g.V.ValueSource.ask g.V.ValueSource.value_state g.V.ValueSource.holds g.T.ProgramSource.template_state g.T.ProgramSource.resolve g.T.ProgramSource.holds
@@ -65,6 +66,7 @@ returns-in-Some-clause-ran g c known starts =
 pub steps-preserved : goal.steps-preserved
 steps-preserved g c = record {
   same = c.in-Ok.ensures.same ∙ c.steps.invariant.same;
+  mark = c.in-Ok.ensures.mark ∙ c.steps.invariant.mark;
   kept = kept_on c.steps.invariant.kept c.in-Ok.ensures.kept;
   going = λ known starts.
       let h = c.steps.invariant.going known starts in

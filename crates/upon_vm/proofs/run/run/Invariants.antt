@@ -26,6 +26,7 @@ decreases-steps g l = l.left.left
 abbrev pub invariant-steps : goal.invariant-steps
 invariant-steps g l = record {
   same : g.W.Output.holds l.out ≡ g.W.Output.holds l.initial.out;
+  mark : g.W.Output.mark l.out ≡ g.W.Output.mark l.initial.out;
   kept : Kept g.V.ValueSource.ask g.V.ValueSource.holds g.T.ProgramSource.resolve g.T.ProgramSource.holds l.initial.machine l.machine;
   going :
       (known : Known g.V.ValueSource.State g.T.ProgramSource.State)
