@@ -1,5 +1,5 @@
 -- What each call of rendering keeps: what a depth changes, what an include with a value gives, what a template depends
--- on.
+-- on, of what its text is made.
 use Rattle.std.specs.Prelude.{◌≡◌, ◌≢◌, ℕ, suc, ◌≤◌, ◌<◌, List, Some}
 use Rattle.upon_types.specs.Expression.{Expression}
 use Rattle.upon_types.specs.Path.{Ident}
@@ -14,6 +14,8 @@ use Rattle.upon_meaning_spec.specs.Includes.{Reaches, IsNumbered}
 use Rattle.upon_meaning_spec.specs.Meaning.{RunningTemplate, statement_means}
 use Rattle.upon_meaning_spec.specs.Names.{Reads, AgreeOn}
 use Rattle.upon_meaning_spec.specs.Outcome.{States, too_deep}
+use Rattle.upon_woven_spec.specs.Parts.{IsRawPart, IsWritten}
+use Rattle.upon_woven_spec.specs.Woven.{WovenOf}
 use Rattle.upon_engine.specs.Base.{on_root}
 use Rattle.upon_engine.specs.Calls.{Call, outcome, at_depth, on_base, answered_by}
 
@@ -57,6 +59,13 @@ TemplatesSuffice c =
 abbrev pub SourceStays : {V T : Type 0} → Call V T → Type 0
 SourceStays c = (v : Val) → c.base ≡ on_root (context v) → (outcome c).next.values ≡ c.from.values
 
+-- the text, up to its end, is pieces joined: each is a raw part of the template or of one that it reaches, or what the
+-- default formatter, or one that they name, wrote for a value
+abbrev pub IsWoven : {V T : Type 0} → Call V T → Type 0
+IsWoven c =
+    WovenOf (IsRawPart c.rendering.resolve c.template) (IsWritten c.rendering.calls c.rendering.resolve c.template)
+    (outcome c).text
+
 -- all of these
 pub record Kept {V T : Type 0} (c : Call V T) : Type 0 where
   pub depths : DepthsAgree c
@@ -65,3 +74,4 @@ pub record Kept {V T : Type 0} (c : Call V T) : Type 0 where
   pub names_read : NamesSuffice c
   pub reached : TemplatesSuffice c
   pub source_stays : SourceStays c
+  pub woven : IsWoven c

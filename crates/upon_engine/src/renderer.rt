@@ -150,6 +150,35 @@ impl<'r, E: Drop, V: Drop, T: Drop> Renderer<'r, E, V, T> {
         }
     }
 
+    /// Returns the same with other callables in place of the engine's.
+    pub fn with_callables<C>(self, callables: C) -> Renderer<'r, C, V, T>
+        ensures template { template_in result ≡ template_in self.entry }
+        ensures name { name_in result ≡ name_in self.entry }
+        ensures engine { engine_in result ≡ callables }
+        ensures templates { templates_in result ≡ templates_in self.entry }
+        ensures values { values_in result ≡ values_in self.entry }
+        ensures limit { limit_in result ≡ limit_in self.entry }
+    {
+        let Renderer {
+            alloc,
+            engine: _,
+            template,
+            name,
+            values,
+            templates,
+            limit,
+        } = self;
+        Renderer {
+            alloc,
+            engine: callables,
+            template,
+            name,
+            values,
+            templates,
+            limit,
+        }
+    }
+
     /// The same with a depth of its own for includes. The template that is rendered counts as one; 0 acts as 1.
     pub fn with_max_include_depth(self, depth: usize) -> Renderer<'r, E, V, T>
         ensures template { template_in result ≡ template_in self.entry }

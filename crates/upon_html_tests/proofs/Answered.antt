@@ -19,8 +19,9 @@ use Rattle.upon_engine.specs.Theorem.{IsTable, rendering, meaning, Answers}
 use Rattle.upon_engine.specs.declared.engine.Engine.{Engine as Held}
 use Rattle.upon_html.specs.Escape.{is_markup}
 use Rattle.upon_html.specs.Escaped.{escaped}
-use Rattle.upon_html.proofs.Pages.{markup_is_raw}
-use Rattle.upon_html_tests.specs.Pages.{page, CallsEscape, OnlyEscapes, MarkupIsRaw}
+use Rattle.upon_html.proofs.NoMarkup.{markup_is_raw}
+use Rattle.upon_html.specs.EscapedPage.{page, MarkupIsRaw}
+use Rattle.upon_html_tests.specs.Pages.{CallsEscape, OnlyEscapes}
 
 raw_answer : (e : Texts) (table : Table) (source : List ℕ) (tree : Statements) (v : Val) (r : Result (String Global) Error) → CallsEscape e table source tree → AnswersText e.depth (meaning e table None source tree v) r → MarkupIsRaw table source tree r
 raw_answer e table source tree v (Ok text) all h =

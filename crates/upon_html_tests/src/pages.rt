@@ -3,7 +3,8 @@ ghost use Rattle.upon_types.specs.Tree.{Statements};
 ghost use Rattle.upon_language_spec.specs.Grammar.{HasTree};
 ghost use Rattle.upon_meaning_spec.specs.Engine.{Table};
 ghost use Rattle.upon_engine.specs.Theorem.{IsTable};
-ghost use Rattle.upon_html_tests.specs.Pages.{CallsEscape, OnlyEscapes, MarkupIsRaw};
+ghost use Rattle.upon_html.specs.EscapedPage.{MarkupIsRaw};
+ghost use Rattle.upon_html_tests.specs.Pages.{CallsEscape, OnlyEscapes};
 
 use upon_engine::engine::Engine;
 use upon_engine::texts::EngineTexts;

@@ -13,7 +13,7 @@ use Rattle.upon_html.specs.Escape.{escape, is_markup, has_markup}
 use Rattle.upon_html.specs.Page.{EscapesAll}
 use Rattle.upon_html.proofs.EscapeLaws.{no_markup}
 
-has_same : (text : List ℕ) → has is_markup text ≡ has_markup text
+pub has_same : (text : List ℕ) → has is_markup text ≡ has_markup text
 has_same [] = refl
 has_same (b ∷ bs) = ap (λ x. is_markup b || x) (has_same bs)
 
