@@ -3,4 +3,7 @@ pub mod Sets
 pub mod FaultsLie
 pub mod Midway
 pub mod JumpsWithin
+pub mod Walks
+pub mod NamesOfExpressions
+pub mod NamesOfTree
 mod Examples

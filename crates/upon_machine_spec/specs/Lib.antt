@@ -1,6 +1,7 @@
 pub mod Instr
 pub mod Code
 pub mod Jumps
+pub mod ProgramNames
 pub mod Operands
 pub mod State
 pub mod Step

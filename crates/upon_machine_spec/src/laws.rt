@@ -1,14 +1,17 @@
 // What the machine keeps: it gives what the tree means, and its faults lie in the text of the template that runs.
-ghost use Rattle.std.specs.Prelude.{◌≡◌, ℕ, ◌<◌, List, ◌++◌, length, Option, Some};
+ghost use Rattle.std.specs.Prelude.{◌≡◌, ◌↔◌, ℕ, ◌<◌, List, ◌++◌, length, Option, Some, true};
 ghost use Rattle.upon_types.specs.Tree.{Statements};
 ghost use Rattle.upon_types.specs.TreeSpans.{TreeLiesIn};
 ghost use Rattle.upon_render.specs.Environment.{Root};
 ghost use Rattle.upon_meaning_spec.specs.Alone.{alone_within};
 ghost use Rattle.upon_meaning_spec.specs.Engine.{Template, Calls, Resolver};
+ghost use Rattle.upon_meaning_spec.specs.Includes.{Includes};
+ghost use Rattle.upon_meaning_spec.specs.Needs.{a_name, StatementsBegin, StatementsPass};
 ghost use Rattle.upon_meaning_spec.specs.Outcome.{End, Outcome, States};
 ghost use Rattle.upon_meaning_spec.specs.RenderFaults.{TemplatesLie};
 ghost use Rattle.upon_machine_spec.specs.Code.{program_of};
 ghost use Rattle.upon_machine_spec.specs.Jumps.{JumpWithin};
+ghost use Rattle.upon_machine_spec.specs.ProgramNames.{begins, passes, includes, Lists};
 ghost use Rattle.upon_machine_spec.specs.Run.{run, steps, text_of, Midway};
 ghost use Rattle.upon_machine_spec.specs.Spans.{StateLies, NextLies};
 ghost use Rattle.upon_machine_spec.specs.State.{State, at_start};
@@ -67,4 +70,17 @@ pub fn midway<V, T>()
 /// Each jump of a tree's program goes to one of its instructions, or to its end.
 pub fn jumps_within()
     ensures { (tree : Statements) → JumpWithin (length (program_of tree)) (program_of tree) }
+{}
+
+/// What is found of names in a walk along a tree's program is what the tree says: whether it begins a path with a name
+/// outside of what binds that, which templates it includes there without a value, and which it includes.
+pub fn program_names()
+    ensures begun { (tree : Statements) (name : List ℕ)
+        → (begins name (program_of tree) ≡ true) ↔ StatementsBegin (a_name name) tree }
+
+    ensures passed { (tree : Statements) (name via : List ℕ)
+        → Lists (passes name (program_of tree)) via ↔ StatementsPass (a_name name) via tree }
+
+    ensures included { (tree : Statements) (via : List ℕ)
+        → Lists (includes (program_of tree)) via ↔ Includes via tree }
 {}

@@ -11,6 +11,7 @@ pub mod Scopes
 pub mod Functions
 pub mod Formatters
 pub mod Sources
+pub mod Needs
 pub mod Faults
 pub mod Pictures
 pub mod ShortContexts

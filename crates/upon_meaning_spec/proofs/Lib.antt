@@ -21,3 +21,4 @@ pub mod MapLiterals
 pub mod MapOrder
 pub mod AlikeRenderings
 pub mod FaultsStated
+pub mod WhatIsNeeded

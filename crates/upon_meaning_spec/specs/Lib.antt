@@ -13,6 +13,9 @@ pub mod ValueSource
 pub mod Includes
 pub mod Names
 pub mod Sources
+pub mod Needs
+pub mod SourceNeeds
+pub mod Missing
 pub mod Shadowing
 pub mod RenderFaults
 pub mod MapOrder

@@ -20,6 +20,7 @@ ghost use Rattle.upon_meaning_spec.specs.ValueSource.{with_source, SameBesideVal
 pub mod faults;
 pub mod maps;
 pub mod names;
+pub mod needs;
 pub mod scopes;
 pub mod sources;
 pub mod whole_scopes;

@@ -1,0 +1,8 @@
+pub mod FoundAlike
+pub mod SameExpressions
+pub mod LoopsHide
+pub mod SameNeeded
+pub mod Templates
+pub mod LessThanRead
+pub mod NothingMissing
+pub mod NoUnknown
