@@ -2,7 +2,7 @@
 use Rattle.std.specs.Prelude.{ℤ, List, [], ◌∷◌, Some, codes}
 use Rattle.std.specs.Int.{w64, int_wrapping_add}
 use Rattle.upon_functions.specs.Outcome.{Outcome, value, refusal}
-use Rattle.upon_types.specs.Answers.{Formatted, refused}
+use Rattle.upon_types.specs.Answers.{Formatted, refused, well}
 use Rattle.upon_types.specs.Val.{Val, int_val, list_val, no_vals, none_val}
 use Rattle.upon_meaning_spec.specs.DefaultFormat.{default_format}
 
@@ -36,6 +36,10 @@ declined vs = refusal (codes "no")
 -- two letters, and then a refusal
 abbrev pub half_written : Val → Formatted
 half_written v = record { text = codes "ab"; end = refused (Some (codes "bad")) }
+
+-- four letters
+abbrev pub four_letters : Val → Formatted
+four_letters v = record { text = codes "abcd"; end = well }
 
 -- as the default, but that no value is refused
 abbrev pub none_refused : Val → Formatted

@@ -3,7 +3,7 @@ use crate::callables::{Double, NoNone, engine};
 use std::borrow::CowStr;
 use std::test::Fail;
 use upon::functions::Fn1;
-use upon::{Engine, EngineCallable, Value};
+use upon::{Engine, EngineCallable, Value, value};
 use upon_testing::answers::{all_answer, answer};
 
 #[test]
@@ -81,8 +81,9 @@ fn a_default_formatter(rt: HostRuntime) -> Result<(), Fail> {
             "{% with {} as m %}{{ m?.a }}{% endwith %}",
             "format error: unable to format None at 21..25",
         ),
+        ("{{ ?.a }}", "format error: unable to format None at 3..6"),
     ];
-    all_answer(alloc, &engine, &Value::None, &rows)
+    all_answer(alloc, &engine, &value! { in alloc; b: 1 }?, &rows)
 }
 
 #[test]

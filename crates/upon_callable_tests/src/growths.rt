@@ -103,7 +103,7 @@ fn ends_so(rt: &impl Abort, end: Result<()>, out: &Expects<'_>, reason: Option<&
             if is_out(&error) {
                 assert!(rt; error.place().is_none() && error.template_name().is_none());
             } else {
-                assert_eq!(rt; error.reason(), reason);
+                assert!(rt; reason.is_some() && error.reason() == reason, "{error}");
                 assert!(rt; out.wanted.is_empty());
             }
         }
@@ -236,6 +236,46 @@ impl Format for Swallows {
         f.out_of_memory();
         Ok(())
     }
+}
+
+// It goes on if there is no memory for its letters, and answers that all is well.
+#[derive(Drop)]
+struct GoesOn;
+
+impl Format for GoesOn {
+    ghost use Rattle.upon_callable_tests.specs.Callables.{four_letters};
+
+    ghost formats = { λ _. four_letters };
+
+    fn format(&self, f: &mut Formatter, _value: &Value) -> fmt::Result {
+        match f.write_str("abcd") {
+            Ok(()) => Ok(()),
+            Err(_) => Ok(()),
+        }
+    }
+}
+
+fn going_on(rt: &impl Abort, alloc: Global) -> Result<()> {
+    let mut engine = Engine::new(alloc);
+    engine.add_formatter(CowStr::Borrowed("letters"), Box::new(alloc, GoesOn)?)?;
+    let template = engine.compile(CowStr::Borrowed("x{{ 1 | letters }}y"))?;
+    let mut out = Expects {
+        wanted: b"xabcdy".as_slice(),
+        is_other: false,
+    };
+    let end = template
+        .render_from(&engine, &Value::None)
+        .to_writer(&mut out);
+    ends_so(rt, end, &out, None);
+    Ok(())
+}
+
+#[test]
+fn a_refused_append_is_not_passed_over(rt: HostRuntime) -> std::result::Result<(), Fail> {
+    if let Err(error) = going_on(&rt, rt.alloc()) {
+        assert!(&rt; is_out(&error), "{error}");
+    }
+    Ok(())
 }
 
 // Memory is out at each call.

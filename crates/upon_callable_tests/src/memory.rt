@@ -107,6 +107,42 @@ fn faults(rt: HostRuntime) -> std::result::Result<(), Fail> {
     Ok(())
 }
 
+// Texts of which a fault of each kind is reported: of a delimiter, a number, an index, and what may not come next.
+#[test]
+fn refused_texts(rt: HostRuntime) -> std::result::Result<(), Fail> {
+    let alloc = rt.alloc();
+    for (source, reason, start, end) in [
+        ("a }} b", "unexpected end expression", 2, 4),
+        ("{{ -0b2 }}", "invalid digit for base 2 literal", 6, 7),
+        ("{{ 1.5 }}", "invalid float literal", 3, 6),
+        (
+            "{{ a.18446744073709551616 }}",
+            "base 10 literal out of range for unsigned 64-bit integer",
+            5,
+            25,
+        ),
+        (
+            "{{ a b \"c",
+            "expected end expression, found identifier",
+            5,
+            6,
+        ),
+        (
+            "{{ {\"a\": {\"b\": 1} } }}",
+            "expression evaluated to unformattable type map",
+            3,
+            19,
+        ),
+    ] {
+        ends_so(
+            &rt,
+            text_of(alloc, source),
+            &End::Fault(reason, at(start, end)),
+        );
+    }
+    Ok(())
+}
+
 // Loops with another branch, over a context's empty map and in each other.
 #[test]
 fn other_branches(rt: HostRuntime) -> std::result::Result<(), Fail> {

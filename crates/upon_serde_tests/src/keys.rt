@@ -81,6 +81,8 @@ fn others_are_no_keys(rt: HostRuntime) {
     is_no_key(&rt, None::<u8>);
     is_no_key(&rt, 1.5f64);
     is_no_key(&rt, 1u128);
+    is_no_key(&rt, 1i128);
+    is_no_key(&rt, i128::MIN);
 }
 
 #[test]
