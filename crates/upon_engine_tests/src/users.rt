@@ -12,7 +12,7 @@ ghost use Rattle.upon_before_spec.specs.Grammar.{HasTree as HadTree};
 ghost use Rattle.upon_before_spec.specs.Kept.{HoldAlike, rendering_before};
 ghost use Rattle.upon_before_spec.specs.Now.{template_now};
 ghost use Rattle.upon_before_spec.specs.Tree.{Statements as StatementsBefore};
-ghost use Rattle.upon_vm.specs.Reports.{WritesAndLeaves};
+ghost use Rattle.upon_vm.specs.Reports.{IsTaken, WriteMarks, WritesAndLeaves};
 ghost use Rattle.upon_engine.specs.Answers.{AnswersText};
 ghost use Rattle.upon_engine.specs.Base.{Base, IsContextOf, outcome_over};
 ghost use Rattle.upon_engine.specs.Template.{template_of};
@@ -90,9 +90,10 @@ pub fn on_source<S: ValueSource, O: Output>(
     source: &mut S,
     out: &mut O,
 ) -> Result<()>
-    ensures { WritesAndLeaves
+    ensures mark { WriteMarks result (O.mark out.old) (O.mark out.new) }
+    ensures means { WritesAndLeaves
         (⟦<&'static Engine<'static> as EngineView>⟧.engine_view engine.entry).depth
-        (O.failed out.new)
+        (IsTaken (O.mark out.new))
         result
         (O.given out.old)
         (O.given out.new)
