@@ -5,3 +5,5 @@ pub mod Roots
 pub mod Renderings
 pub mod TemplateSpans
 pub mod Tables
+pub mod SetsOfNames
+pub mod NeededNames
