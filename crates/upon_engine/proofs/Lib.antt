@@ -6,3 +6,5 @@ pub mod Renderings
 pub mod TemplateSpans
 pub mod Tables
 pub mod Boxed
+pub mod SetsOfNames
+pub mod NeededNames

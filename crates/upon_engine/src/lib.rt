@@ -7,6 +7,7 @@ pub mod engine;
 pub mod renderer;
 pub mod sources;
 pub mod template;
+pub mod template_names;
 pub mod template_ref;
 pub mod texts;
 pub mod theorem;

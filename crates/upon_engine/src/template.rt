@@ -4,6 +4,7 @@ ghost use Rattle.std.specs.Cow.{cow_str_bytes};
 ghost use Rattle.upon_lexer.specs.Syntax.{syntax_delimiters};
 ghost use Rattle.upon_compiled_spec.specs.Compiled.{HasProgram};
 
+use std::alloc::Global;
 use std::borrow::CowStr;
 use upon_instructions::types::program::Instr;
 use upon_syntax::types::syntax::Syntax;
@@ -55,6 +56,11 @@ impl<'s> Template<'s> {
         ensures { program_view result.now ≡ program_of (template_tree self.now) }
     {
         self.instrs.as_slice()
+    }
+
+    /// What took memory for its instructions.
+    pub(crate) fn alloc(&self) -> Global {
+        *self.instrs.allocator()
     }
 
     /// The same template, lent for a shorter time.

@@ -1,0 +1,249 @@
+// The names that a template needs, and the templates that it includes, by walks along its instructions.
+ghost use Rattle.std.specs.Prelude.{◌≡◌, ◌||◌, ◌&&◌, ◌↔◌, ◌<◌, ◌-◌, ◌^◌, ℕ, List, Contains, IfOk, OnOk, option_map, true, bytes_eq};
+ghost use Rattle.std.specs.List.{list_any};
+ghost use Rattle.upon_types.specs.AstPath.{loop_vars_of};
+ghost use Rattle.upon_meaning_spec.specs.Includes.{Includes};
+ghost use Rattle.upon_meaning_spec.specs.Needs.{a_name, StatementsBegin};
+ghost use Rattle.upon_machine_spec.specs.Code.{program_of};
+ghost use Rattle.upon_machine_spec.specs.ProgramNames.{loop_binds, count_after, path_name, is_this, plain_include, any_include, path_names, begins, passes, includes};
+ghost use Rattle.upon_machine_spec.specs.ProgramNames.{block_begins as count_at_begin};
+ghost use Rattle.upon_instructions.specs.Program.{instr_of};
+ghost use Rattle.upon_engine.specs.Names.{texts, has, Rise};
+ghost use Rattle.upon_engine.specs.Template.{template_tree};
+
+use crate::template::Template;
+use std::alloc::{AllocError, Global};
+use std::collections::BTreeSet;
+use upon_instructions::types::program::Instr;
+use upon_types::types::ast::{Access, LoopVars};
+
+/// The name that begins an instruction's path.
+fn path_name(instr: &Instr) -> Option<&str>
+    ensures { option_map (λ name. name.now) result ≡ path_name (instr_of instr.now) }
+{
+    match instr {
+        Instr::ExprStartVar(var) => match &var.first().access {
+            Access::Key(ident) => Some(ident.name.as_str()),
+            Access::Index(_) => None,
+        },
+        _ => None,
+    }
+}
+
+/// The name of the template that an instruction includes without a value.
+fn plain_include(instr: &Instr) -> Option<&str>
+    ensures { option_map (λ name. name.now) result ≡ plain_include (instr_of instr.now) }
+{
+    match instr {
+        Instr::Include(name) => Some(name.value.as_str()),
+        _ => None,
+    }
+}
+
+/// The name of the template that an instruction includes.
+fn any_include(instr: &Instr) -> Option<&str>
+    ensures { option_map (λ name. name.now) result ≡ any_include (instr_of instr.now) }
+{
+    match instr {
+        Instr::Include(name) => Some(name.value.as_str()),
+        Instr::IncludeWith(name) => Some(name.value.as_str()),
+        _ => None,
+    }
+}
+
+/// Whether a name is there, and is this one.
+fn is_this(name: &str, other: Option<&str>) -> bool
+    ensures { result ≡ is_this name.now (option_map (λ name. name.now) other.entry) }
+{
+    match other {
+        Some(other) => name == other,
+        None => false,
+    }
+}
+
+/// Whether a loop binds the name: by a variable, or as its state.
+fn loop_binds(name: &str, vars: &LoopVars) -> bool
+    ensures { result ≡ loop_binds name.now (loop_vars_of vars.now) }
+{
+    match vars {
+        LoopVars::Item(word) => "loop" == name || word.name.as_str() == name,
+        LoopVars::KeyValue(both) => {
+            "loop" == name || (both.key.name.as_str() == name || both.value.name.as_str() == name)
+        }
+    }
+}
+
+/// How many open blocks there are from the outermost on that binds a name, after one more begins, which binds it or not.
+fn block_begins(binds: bool, count: usize) -> usize
+    requires { count < 2 ^ 64 - 1 }
+    ensures { result ≡ count_at_begin binds count }
+{
+    if count > 0 {
+        count + 1
+    } else if binds {
+        1
+    } else {
+        0
+    }
+}
+
+/// That number after an instruction at an offset.
+fn count_after(name: &str, at: usize, instr: &Instr, count: usize) -> usize
+    requires { count < 2 ^ 64 - 1 }
+    ensures { result ≡ count_after name.now at (instr_of instr.now) count }
+{
+    match instr {
+        Instr::WithStart(word) => block_begins(word.name.as_str() == name, count),
+        Instr::WithEnd => count.saturating_sub(1),
+        Instr::LoopStart(vars, _) => block_begins(loop_binds(name, vars), count),
+        Instr::Jump(to) => {
+            if *to <= at {
+                count.saturating_sub(1)
+            } else {
+                count
+            }
+        }
+        _ => count,
+    }
+}
+
+/// Puts names into a set.
+pub(crate) fn insert_all<'n>(
+    names: &mut BTreeSet<&'n str>,
+    more: Vec<&'n str>,
+) -> Result<(), AllocError>
+    ensures { OnOk result ((name : List ℕ)
+        → has names.new name ≡ (has names.old name || list_any (bytes_eq name) (texts more.entry.items))) }
+{
+    for name in more {
+        names.insert(name)?;
+    }
+    Ok(())
+}
+
+/// Puts a name into a set where it is so.
+fn insert_if<'n>(names: &mut BTreeSet<&'n str>, name: &'n str, so: bool) -> Result<(), AllocError>
+    ensures { OnOk result ((other : List ℕ)
+        → has names.new other ≡ (has names.old other || (so && bytes_eq other name.now))) }
+{
+    if !so {
+        return Ok(());
+    }
+    names.insert(name)?;
+    Ok(())
+}
+
+/// The names of a set, in ascending order.
+pub(crate) fn ascending<'n>(
+    alloc: Global,
+    names: BTreeSet<&'n str>,
+) -> Result<Vec<&'n str>, AllocError>
+    ensures same { IfOk result (λ v. (name : List ℕ)
+        → Contains (texts v.items) name ↔ (has names.entry name ≡ true)) }
+    ensures rise { IfOk result (λ v. Rise (texts v.items)) }
+{
+    let mut sorted = Vec::new(alloc);
+    for name in names {
+        sorted.push(name)?;
+    }
+    Ok(sorted)
+}
+
+impl<'s> Template<'s> {
+    /// Whether the name begins a path outside of what binds it.
+    pub(crate) fn begins(&self, name: &str) -> bool
+        ensures { result ≡ begins name.now (program_of (template_tree self.now)) }
+    {
+        let instrs = self.instrs();
+        let mut count = 0;
+        for (at, instr) in instrs.iter().enumerate() {
+            let here = is_this(name, path_name(instr));
+            if count == 0 && here {
+                return true;
+            }
+            count = count_after(name, at, instr, count);
+        }
+        false
+    }
+
+    /// The names of the templates that are included without a value outside of what binds the name.
+    pub(crate) fn passes<'t>(&'t self, name: &str) -> Result<Vec<&'t str>, AllocError>
+        ensures { IfOk result (λ v. texts v.items ≡ passes name.now (program_of (template_tree self.now))) }
+    {
+        let instrs = self.instrs();
+        let mut names = Vec::new(self.alloc());
+        let mut count = 0;
+        for (at, instr) in instrs.iter().enumerate() {
+            if let Some(via) = plain_include(instr) {
+                if count == 0 {
+                    names.push(via)?;
+                }
+            }
+            count = count_after(name, at, instr, count);
+        }
+        Ok(names)
+    }
+
+    /// The names of the templates that are included, in order.
+    pub(crate) fn each_include(&self) -> Result<Vec<&str>, AllocError>
+        ensures { IfOk result (λ v. texts v.items ≡ includes (program_of (template_tree self.now))) }
+    {
+        let instrs = self.instrs();
+        let mut names = Vec::new(self.alloc());
+        for instr in instrs {
+            if let Some(via) = any_include(instr) {
+                names.push(via)?;
+            }
+        }
+        Ok(names)
+    }
+
+    /// The names that begin paths, in order, whatever binds them.
+    pub(crate) fn each_path_name(&self) -> Result<Vec<&str>, AllocError>
+        ensures { IfOk result (λ v. texts v.items ≡ path_names (program_of (template_tree self.now))) }
+    {
+        let instrs = self.instrs();
+        let mut names = Vec::new(self.alloc());
+        for instr in instrs {
+            if let Some(name) = path_name(instr) {
+                names.push(name)?;
+            }
+        }
+        Ok(names)
+    }
+
+    /// Returns the names that the template takes from its context, in ascending order: those that begin a path outside of
+    /// each `with` and `for` that binds them. Included templates are not looked into ([`Engine::needs`] does). An error
+    /// comes only when memory is out. It takes time in proportion to the names of paths times the instructions.
+    ///
+    /// [`Engine::needs`]: crate::engine::Engine::needs
+    pub fn names_needed(&self) -> Result<Vec<&str>, AllocError>
+        ensures needed { IfOk result (λ names. (name : List ℕ)
+            → Contains (texts names.items) name ↔ StatementsBegin (a_name name) (template_tree self.now)) }
+        ensures rise { IfOk result (λ names. Rise (texts names.items)) }
+    {
+        let alloc = self.alloc();
+        let mut candidates = BTreeSet::new(alloc);
+        insert_all(&mut candidates, self.each_path_name()?)?;
+        let mut needed = BTreeSet::new(alloc);
+        for name in candidates {
+            insert_if(&mut needed, name, self.begins(name))?;
+        }
+        ascending(alloc, needed)
+    }
+
+    /// Returns the names of the templates that the template includes, in ascending order, each once; what they include is
+    /// not looked into ([`Engine::needs`] does). An error comes only when memory is out.
+    ///
+    /// [`Engine::needs`]: crate::engine::Engine::needs
+    pub fn includes(&self) -> Result<Vec<&str>, AllocError>
+        ensures included { IfOk result (λ names. (name : List ℕ)
+            → Contains (texts names.items) name ↔ Includes name (template_tree self.now)) }
+        ensures rise { IfOk result (λ names. Rise (texts names.items)) }
+    {
+        let alloc = self.alloc();
+        let mut names = BTreeSet::new(alloc);
+        insert_all(&mut names, self.each_include()?)?;
+        ascending(alloc, names)
+    }
+}
