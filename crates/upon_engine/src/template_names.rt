@@ -5,7 +5,7 @@ ghost use Rattle.upon_types.specs.AstPath.{loop_vars_of};
 ghost use Rattle.upon_meaning_spec.specs.Includes.{Includes};
 ghost use Rattle.upon_meaning_spec.specs.Needs.{a_name, StatementsBegin};
 ghost use Rattle.upon_machine_spec.specs.Code.{program_of};
-ghost use Rattle.upon_machine_spec.specs.ProgramNames.{loop_binds, count_after, path_name, is_this, plain_include, any_include, path_names, begins, passes, includes};
+ghost use Rattle.upon_machine_spec.specs.ProgramNames.{loop_binds, count_after, path_name, is_this, any_include, path_names, begins, includes};
 ghost use Rattle.upon_machine_spec.specs.ProgramNames.{block_begins as count_at_begin};
 ghost use Rattle.upon_instructions.specs.Program.{instr_of};
 ghost use Rattle.upon_engine.specs.Names.{texts, has, Rise};
@@ -26,16 +26,6 @@ fn path_name(instr: &Instr) -> Option<&str>
             Access::Key(ident) => Some(ident.name.as_str()),
             Access::Index(_) => None,
         },
-        _ => None,
-    }
-}
-
-/// The name of the template that an instruction includes without a value.
-fn plain_include(instr: &Instr) -> Option<&str>
-    ensures { option_map (λ name. name.now) result ≡ plain_include (instr_of instr.now) }
-{
-    match instr {
-        Instr::Include(name) => Some(name.value.as_str()),
         _ => None,
     }
 }
@@ -166,24 +156,6 @@ impl<'s> Template<'s> {
         false
     }
 
-    /// The names of the templates that are included without a value outside of what binds the name.
-    pub(crate) fn passes<'t>(&'t self, name: &str) -> Result<Vec<&'t str>, AllocError>
-        ensures { IfOk result (λ v. texts v.items ≡ passes name.now (program_of (template_tree self.now))) }
-    {
-        let instrs = self.instrs();
-        let mut names = Vec::new(self.alloc());
-        let mut count = 0;
-        for (at, instr) in instrs.iter().enumerate() {
-            if let Some(via) = plain_include(instr) {
-                if count == 0 {
-                    names.push(via)?;
-                }
-            }
-            count = count_after(name, at, instr, count);
-        }
-        Ok(names)
-    }
-
     /// The names of the templates that are included, in order.
     pub(crate) fn each_include(&self) -> Result<Vec<&str>, AllocError>
         ensures { IfOk result (λ v. texts v.items ≡ includes (program_of (template_tree self.now))) }
@@ -212,11 +184,9 @@ impl<'s> Template<'s> {
         Ok(names)
     }
 
-    /// Returns the names that the template takes from its context, in ascending order: those that begin a path outside of
-    /// each `with` and `for` that binds them. Included templates are not looked into ([`Engine::needs`] does). An error
-    /// comes only when memory is out. It takes time in proportion to the names of paths times the instructions.
-    ///
-    /// [`Engine::needs`]: crate::engine::Engine::needs
+    /// Returns the names that the template takes from its context, in ascending order, each once: those that begin a path
+    /// outside of each `with` and `for` that binds them. Included templates are not looked into. An error comes only when
+    /// memory is out. It takes time in proportion to the names of paths times the instructions.
     pub fn names_needed(&self) -> Result<Vec<&str>, AllocError>
         ensures needed { IfOk result (λ names. (name : List ℕ)
             → Contains (texts names.items) name ↔ StatementsBegin (a_name name) (template_tree self.now)) }
@@ -233,9 +203,7 @@ impl<'s> Template<'s> {
     }
 
     /// Returns the names of the templates that the template includes, in ascending order, each once; what they include is
-    /// not looked into ([`Engine::needs`] does). An error comes only when memory is out.
-    ///
-    /// [`Engine::needs`]: crate::engine::Engine::needs
+    /// not looked into. An error comes only when memory is out.
     pub fn includes(&self) -> Result<Vec<&str>, AllocError>
         ensures included { IfOk result (λ names. (name : List ℕ)
             → Contains (texts names.items) name ↔ Includes name (template_tree self.now)) }

@@ -4,6 +4,8 @@
 #[cfg(test)]
 mod contexts;
 #[cfg(test)]
+mod needs;
+#[cfg(test)]
 mod profile;
 #[cfg(test)]
 mod sources;
