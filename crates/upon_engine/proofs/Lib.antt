@@ -5,3 +5,4 @@ pub mod Roots
 pub mod Renderings
 pub mod TemplateSpans
 pub mod Tables
+pub mod RenderingLaws

@@ -12,3 +12,4 @@ pub mod Kept
 pub mod Answers
 pub mod Texts
 pub mod Theorem
+pub mod RenderingLaws
