@@ -8,3 +8,4 @@ pub mod Tables
 pub mod Boxed
 pub mod SetsOfNames
 pub mod NeededNames
+pub mod RenderingLaws

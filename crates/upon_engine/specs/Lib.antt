@@ -13,3 +13,4 @@ pub mod Answers
 pub mod Texts
 pub mod Theorem
 pub mod Names
+pub mod RenderingLaws

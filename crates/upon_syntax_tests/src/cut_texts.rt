@@ -1,5 +1,8 @@
 // Texts that are cut at each character boundary: each part has a tree or a fault of its own, under any delimiters.
-use crate::delimiters::{equal, letters, one_byte, overlapping, with_a_blank};
+use crate::delimiters::{
+    blank_before, equal, equal_blocks, hyphens, letters, longer_end, one_byte, overlapping,
+    with_a_blank,
+};
 use crate::parsing::after_values::{AFTER_VALUE, AFTER_WITH};
 use crate::parsing::blocks::BLOCKS;
 use crate::parsing::cuts::CUTS;
@@ -10,6 +13,7 @@ use crate::parsing::meetings::MEETINGS;
 use crate::parsing::outcomes::{Refusal, Tree};
 use crate::parsing::statements::STATEMENTS;
 use crate::parsing::tags::TAGS;
+use crate::parsing::worked::WORKED;
 use std::alloc::Global;
 use std::process::Abort;
 use std::test::Fail;
@@ -52,6 +56,12 @@ fn all_parts_of_trees(rt: &impl Abort, alloc: Global, searcher: &Searcher, rows:
     }
 }
 
+fn all_parts_of_texts(rt: &impl Abort, alloc: Global, searcher: &Searcher, texts: &[&str]) {
+    for text in texts {
+        parts_answer(rt, alloc, searcher, text);
+    }
+}
+
 // Each part of each text of the tables does so under a syntax.
 fn all_parts_under(rt: &impl Abort, alloc: Global, syntax: Syntax) {
     let searcher = Searcher::with_syntax(syntax);
@@ -69,6 +79,7 @@ fn all_parts_under(rt: &impl Abort, alloc: Global, syntax: Syntax) {
     }
     all_parts_of_trees(rt, alloc, &searcher, EXPRESSIONS);
     all_parts_of_trees(rt, alloc, &searcher, STATEMENTS);
+    all_parts_of_texts(rt, alloc, &searcher, WORKED);
 }
 
 #[test]
@@ -122,6 +133,11 @@ fn parts_of_statements(rt: HostRuntime) {
 }
 
 #[test]
+fn parts_of_worked(rt: HostRuntime) {
+    all_parts_of_texts(&rt, rt.alloc(), &Searcher::new(), WORKED);
+}
+
+#[test]
 fn parts_under_overlapping(rt: HostRuntime) -> Result<(), Fail> {
     all_parts_under(&rt, rt.alloc(), overlapping(rt.alloc())?);
     Ok(())
@@ -148,5 +164,29 @@ fn parts_under_with_a_blank(rt: HostRuntime) -> Result<(), Fail> {
 #[test]
 fn parts_under_letters(rt: HostRuntime) -> Result<(), Fail> {
     all_parts_under(&rt, rt.alloc(), letters(rt.alloc())?);
+    Ok(())
+}
+
+#[test]
+fn parts_under_longer_end(rt: HostRuntime) -> Result<(), Fail> {
+    all_parts_under(&rt, rt.alloc(), longer_end(rt.alloc())?);
+    Ok(())
+}
+
+#[test]
+fn parts_under_hyphens(rt: HostRuntime) -> Result<(), Fail> {
+    all_parts_under(&rt, rt.alloc(), hyphens(rt.alloc())?);
+    Ok(())
+}
+
+#[test]
+fn parts_under_equal_blocks(rt: HostRuntime) -> Result<(), Fail> {
+    all_parts_under(&rt, rt.alloc(), equal_blocks(rt.alloc())?);
+    Ok(())
+}
+
+#[test]
+fn parts_under_blank_before(rt: HostRuntime) -> Result<(), Fail> {
+    all_parts_under(&rt, rt.alloc(), blank_before(rt.alloc())?);
     Ok(())
 }

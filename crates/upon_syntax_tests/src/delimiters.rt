@@ -1,4 +1,4 @@
-// Five syntaxes whose delimiters meet one another, blanks or names; texts under them that are refused, and trees.
+// Syntaxes whose delimiters meet one another, blanks or names; texts under five of them that are refused, and trees.
 use crate::parsing::outcomes::{Refusal, Tree, all_accepted, all_refused};
 use std::alloc::{AllocError, Global};
 use std::process::Abort;
@@ -49,6 +49,29 @@ pub fn letters(alloc: Global) -> Result<Syntax, AllocError> {
         .block("if", "end")
         .comment("x", "é")
         .build(alloc)
+}
+
+/// An end that is its begin twice.
+pub fn longer_end(alloc: Global) -> Result<Syntax, AllocError> {
+    Syntax::builder().expr("<", "<<").build(alloc)
+}
+
+/// Delimiters that are hyphens alone, as are those that trim.
+pub fn hyphens(alloc: Global) -> Result<Syntax, AllocError> {
+    Syntax::builder().expr("-", "--").build(alloc)
+}
+
+/// Expressions and blocks with the same delimiters.
+pub fn equal_blocks(alloc: Global) -> Result<Syntax, AllocError> {
+    Syntax::builder()
+        .expr("{{", "}}")
+        .block("{{", "}}")
+        .build(alloc)
+}
+
+/// A begin that begins with a blank.
+pub fn blank_before(alloc: Global) -> Result<Syntax, AllocError> {
+    Syntax::builder().expr(" <", ">").build(alloc)
 }
 
 // Under the syntax these texts have these trees, and these are refused.

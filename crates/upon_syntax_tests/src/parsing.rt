@@ -9,3 +9,4 @@ pub mod meetings;
 pub mod outcomes;
 pub mod statements;
 pub mod tags;
+pub mod worked;
