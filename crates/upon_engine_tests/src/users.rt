@@ -15,12 +15,14 @@ ghost use Rattle.upon_before_spec.specs.Tree.{Statements as StatementsBefore};
 ghost use Rattle.upon_vm.specs.Reports.{IsTaken, WriteMarks, WritesAndLeaves};
 ghost use Rattle.upon_engine.specs.Answers.{AnswersText};
 ghost use Rattle.upon_engine.specs.Base.{Base, IsContextOf, outcome_over};
+ghost use Rattle.upon_engine.specs.RenderingLaws.{IsPlain, IsText};
 ghost use Rattle.upon_engine.specs.Template.{template_of};
 
 use serde::Serialize;
 use std::borrow::CowStr;
 use upon_engine::callables::EngineView;
 use upon_engine::engine::Engine;
+use upon_engine::laws_of_rendering::plain_text;
 use upon_engine::template::Template;
 use upon_engine::theorem::one_table;
 use upon_fmt::output::Output;
@@ -115,4 +117,12 @@ pub fn rendered_twice(engine: &Engine<'_>, source: &str, value: &Value) -> Resul
     let first = engine.render_text(source, value)?;
     let second = engine.render_text(source, value)?;
     Ok(first == second)
+}
+
+/// Renders a text. If no delimiter is in it, that is the text itself.
+pub fn rendered_plain(engine: &Engine<'_>, source: &str, value: &Value) -> Result<String>
+    ensures { IsPlain (⟦<&'static Engine<'static> as EngineView>⟧.syntax_view engine.entry) source.now → IsText source.now result }
+{
+    plain_text(engine);
+    engine.render_text(source, value)
 }
