@@ -1,4 +1,4 @@
-// Callers of an engine whose formatters escape, by the public clauses alone.
+// Callers of an engine whose formatters escape, or whose formatters' texts are escaped, by the public clauses alone.
 ghost use Rattle.upon_types.specs.Tree.{Statements};
 ghost use Rattle.upon_language_spec.specs.Grammar.{HasTree};
 ghost use Rattle.upon_meaning_spec.specs.Engine.{Table};
@@ -8,6 +8,7 @@ ghost use Rattle.upon_html_tests.specs.Pages.{CallsEscape, OnlyEscapes};
 
 use upon_engine::engine::Engine;
 use upon_engine::texts::EngineTexts;
+use upon_html::pages;
 use upon_types::error::Result;
 use upon_types::value::Value;
 
@@ -27,4 +28,13 @@ pub fn escaped_page(engine: &Engine<'_>, source: &str, value: &Value) -> Result<
         → OnlyEscapes texts → MarkupIsRaw table source.now tree result }
 {
     page(engine, source, value)
+}
+
+/// The text of a page on a value by an engine with any formatters, all of whose texts are escaped.
+pub fn safe_page(engine: &Engine<'_>, source: &str, value: &Value) -> Result<String>
+    ensures { let texts = ⟦<&'static Engine<'static> as EngineTexts>⟧.texts engine.entry in
+        (tree : Statements) (table : Table) → HasTree texts.syntax source.now tree → IsTable texts.texts table
+        → MarkupIsRaw table source.now tree result }
+{
+    pages::render_text(engine, source, value)
 }
