@@ -1,0 +1,5 @@
+// Tests of contexts that are made from JSON.
+#![tactic(auto)]
+
+#[cfg(test)]
+mod contexts;
