@@ -42,8 +42,8 @@ pub fn meaning_kept<V, T>()
         ≡ alone_within_before calls before left t name root s }
 {}
 
-/// With the engine's templates: a template means what it meant, where under each name that it reaches the engine holds a
-/// template of before, the same that a table of before held, or neither holds any.
+/// With the engine's templates: a template means what it meant, where under each name that it reaches the engine holds
+/// a template of before, the same that a table of before held, or neither holds any.
 pub fn rendering_kept<V, T>()
     ensures { (calls : Calls V) (before : TableBefore) (now : Table) (limit : ℕ) (t : TemplateBefore)
         (name : Option (List ℕ)) (root : Root) (s : States V T)

@@ -13,13 +13,16 @@ ghost use Rattle.upon_instructions.specs.Program.{program_view};
 ghost use Rattle.upon_instructions.specs.declared.types.program.Instr.{Instr};
 ghost use Rattle.upon_compiled_spec.specs.Compiled.{HasProgram, the_tree};
 
-/// The tree of a compiled template is the only one of its text; the instructions are its program, and its spans lie in the
-/// text.
+/// The tree of a compiled template is the only one of its text; the instructions are its program, and its spans lie in
+/// the text.
 pub fn compiled_tree()
-    ensures only_tree { (delimiters : List DelimiterText) (s : List ℕ) (instrs : List Instr) (h : HasProgram delimiters s instrs)
-        (tree : Statements) → HasTree delimiters s tree → tree ≡ (the_tree delimiters s instrs h).0 }
-    ensures program { (delimiters : List DelimiterText) (s : List ℕ) (instrs : List Instr) (h : HasProgram delimiters s instrs)
+    ensures only_tree { (delimiters : List DelimiterText) (s : List ℕ) (instrs : List Instr)
+        (h : HasProgram delimiters s instrs) (tree : Statements) → HasTree delimiters s tree → tree
+        ≡ (the_tree delimiters s instrs h).0 }
+    ensures program { (delimiters : List DelimiterText) (s : List ℕ) (instrs : List Instr)
+        (h : HasProgram delimiters s instrs)
         → program_view instrs ≡ program_of (the_tree delimiters s instrs h).0 }
-    ensures spans { (delimiters : List DelimiterText) (s : List ℕ) (instrs : List Instr) (h : HasProgram delimiters s instrs)
+    ensures spans { (delimiters : List DelimiterText) (s : List ℕ) (instrs : List Instr)
+        (h : HasProgram delimiters s instrs)
         → TreeLiesIn s (the_tree delimiters s instrs h).0 }
 {}

@@ -204,7 +204,9 @@ fn write_number(f: &mut Formatter, number: i64) -> Result
 fn unformattable(f: &mut Formatter, value: &Value) -> Error
     ensures kept { text_of f.new ≡ text_of f.old }
     ensures message { is_marked f.new ≡ false
-        → (is_marked f.old ≡ false) × (message_of result ≡ Some (codes "expression evaluated to unformattable type " ++ kind_word (view value.now))) }
+        → (is_marked f.old ≡ false)
+        × (message_of result
+        ≡ Some (codes "expression evaluated to unformattable type " ++ kind_word (view value.now))) }
 {
     let kind = value.human();
     match format!(in f.alloc; "expression evaluated to unformattable type {kind}") {

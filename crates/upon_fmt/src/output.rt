@@ -14,7 +14,8 @@ pub enum Mark {
     Clear,
     /// A write has failed. The last that did answered this error, which waits to be taken.
     Waits(io::Error),
-    /// A write has failed. The last that did answered this error, which was taken, or put aside where memory was refused.
+    /// A write has failed. The last that did answered this error, which was taken, or put aside where memory was
+    /// refused.
     Taken(io::Error),
 }
 

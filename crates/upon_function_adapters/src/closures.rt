@@ -26,9 +26,11 @@ pub fn call_1<N: Meaning, A: OwnedArgument, R: FunctionReturn, F: FnOnce(A) -> R
     closure: F,
 ) -> Result<Value, CallError>
     requires callable { F.IsAlwaysCallable closure }
-    requires answers { (first : A) (returned : R) → F.post closure first returned → Gives (R.outcome returned) (N.means (A.stands_for first ∷ [])) }
+    requires answers { (first : A) (returned : R) → F.post closure first returned
+        → Gives (R.outcome returned) (N.means (A.stands_for first ∷ [])) }
     ensures says { Says result (adapter_answer (A.misfit ∷ []) N.means (arguments_view args.now)) }
-    ensures blames_given { BlamesGiven (arguments_view args.now) (adapter_answer (A.misfit ∷ []) N.means (arguments_view args.now)) }
+    ensures blames_given { BlamesGiven (arguments_view args.now)
+        (adapter_answer (A.misfit ∷ []) N.means (arguments_view args.now)) }
 {
     let [first] = args else {
         return Err(CallError::Arity(1));

@@ -18,7 +18,8 @@ pub trait Call3<A: OwnedArgument, B: OwnedArgument, C: OwnedArgument, R: Functio
 
     /// Calls it.
     fn call(&self, alloc: Global, first: A, second: B, third: C) -> R
-        ensures { Gives (R.outcome result) (meaning self.now (A.stands_for first ∷ B.stands_for second ∷ C.stands_for third ∷ [])) };
+        ensures { Gives (R.outcome result)
+            (meaning self.now (A.stands_for first ∷ B.stands_for second ∷ C.stands_for third ∷ [])) };
 }
 
 /// The function of a callable of three owned arguments.
@@ -76,7 +77,9 @@ pub trait Call4<
 
     /// Calls it.
     fn call(&self, alloc: Global, first: A, second: B, third: C, fourth: D) -> R
-        ensures { Gives (R.outcome result) (meaning self.now (A.stands_for first ∷ B.stands_for second ∷ C.stands_for third ∷ D.stands_for fourth ∷ [])) };
+        ensures { Gives (R.outcome result)
+            (meaning self.now
+            (A.stands_for first ∷ B.stands_for second ∷ C.stands_for third ∷ D.stands_for fourth ∷ [])) };
 }
 
 /// The function of a callable of four owned arguments.
@@ -137,7 +140,10 @@ pub trait Call5<
 
     /// Calls it.
     fn call(&self, alloc: Global, first: A, second: B, third: C, fourth: D, fifth: E) -> R
-        ensures { Gives (R.outcome result) (meaning self.now (A.stands_for first ∷ B.stands_for second ∷ C.stands_for third ∷ D.stands_for fourth ∷ E.stands_for fifth ∷ [])) };
+        ensures { Gives (R.outcome result)
+            (meaning self.now
+            (A.stands_for first ∷ B.stands_for second ∷ C.stands_for third ∷ D.stands_for fourth
+            ∷ E.stands_for fifth ∷ [])) };
 }
 
 /// The function of a callable of five owned arguments.
@@ -169,7 +175,8 @@ impl<
     E: OwnedArgument + Drop,
     R: FunctionReturn + Drop,
 > Function for Fn5<F, A, B, C, D, E, R> {
-    ghost answers = { λ s. adapter_answer (A.misfit ∷ B.misfit ∷ C.misfit ∷ D.misfit ∷ E.misfit ∷ []) (F.meaning s.callable) };
+    ghost answers = { λ s. adapter_answer (A.misfit ∷ B.misfit ∷ C.misfit ∷ D.misfit ∷ E.misfit ∷ [])
+        (F.meaning s.callable) };
 
     fn call(&self, alloc: Global, args: &[ValueCow]) -> Result<Value, CallError> {
         let [first, second, third, fourth, fifth] = args else {

@@ -41,10 +41,12 @@ impl<T: Drop> From<AllocFailed<T>> for DataFault {
     }
 }
 
-/// Returns the context of a text of JSON, or of none, with texts set over it by their keys; of equal keys the last counts.
+/// Returns the context of a text of JSON, or of none, with texts set over it by their keys; of equal keys the last
+/// counts.
 ///
 /// The error is `Refused` if the text is no JSON, or has a number that is no integer from -9223372036854775808 to
-/// 9223372036854775807 (`NotInteger` if its place is not known), `NotObject` if it is JSON but no object, and `OutOfMemory`.
+/// 9223372036854775807 (`NotInteger` if its place is not known), `NotObject` if it is JSON but no object, and
+/// `OutOfMemory`.
 pub fn context(alloc: Global, json: Option<&str>, set: &[(&str, &str)]) -> Result<Value, DataFault>
     ensures read { IfOk result
         (λ v. IsContext (option_map (λ text. text.now) json.entry) (set_pairs set.now) (view v)) }

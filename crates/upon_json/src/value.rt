@@ -37,7 +37,8 @@ pub fn value(alloc: Global, json: &Json) -> Result<Option<Value>, AllocError>
 
 #[cycle(value)]
 fn list(alloc: Global, items: &Vec<Json>) -> Result<Option<Vec<Value>>, AllocError>
-    ensures { IfOk result (λ v. option_map (λ values. vals_view values.items) v ≡ values_of (items_view items.now.items)) }
+    ensures { IfOk result
+        (λ v. option_map (λ values. vals_view values.items) v ≡ values_of (items_view items.now.items)) }
 {
     let mut values = Vec::with_capacity(alloc, items.len())?;
     for item in items {
@@ -49,8 +50,8 @@ fn list(alloc: Global, items: &Vec<Json>) -> Result<Option<Vec<Value>>, AllocErr
     Ok(Some(values))
 }
 
-/// Returns the entries of the members of an object; `None` if a number in them is no integer of 64 bits. It fails if there is
-/// no memory for them.
+/// Returns the entries of the members of an object; `None` if a number in them is no integer of 64 bits. It fails if
+/// there is no memory for them.
 #[cycle(value)]
 pub fn map(
     alloc: Global,

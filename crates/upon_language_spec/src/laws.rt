@@ -76,7 +76,8 @@ pub fn no_tree_with_fault()
         → HasTexts delimiters → IsFirstFault delimiters s span reason → HasTree delimiters s tree → ⊥ }
 {}
 
-/// The tokens that a lexer gives for a whole text, one by one, are its tokens with what trimming leaves of the raw parts.
+/// The tokens that a lexer gives for a whole text, one by one, are its tokens with what trimming leaves of the raw
+/// parts.
 pub fn given_is_shown()
     ensures { (delimiters : List DelimiterText) (s : List ℕ) (ls : List Lexeme) (given : List (Token × Span))
         → HasTexts delimiters → Cut delimiters s outside 0 ls outside (length s)
@@ -107,7 +108,8 @@ pub fn tree_or_first_fault()
 /// A UTF-8 text has exactly one tree and no first fault, or exactly one first fault and no tree.
 pub fn one_answer()
     ensures { (delimiters : List DelimiterText) (s : List ℕ) → HasTexts delimiters → HasUtf8 delimiters → IsUtf8 s
-        → ((tree : Statements) × HasTree delimiters s tree × ((other : Statements) → HasTree delimiters s other → tree ≡ other)
+        → ((tree : Statements) × HasTree delimiters s tree
+        × ((other : Statements) → HasTree delimiters s other → tree ≡ other)
         × ((span : Span) (reason : List ℕ) → IsFirstFault delimiters s span reason → ⊥))
         ⊎ ((span : Span) × (reason : List ℕ) × IsFirstFault delimiters s span reason
         × ((other : Span) (words : List ℕ) → IsFirstFault delimiters s other words → (span ≡ other) × (reason ≡ words))
@@ -134,14 +136,16 @@ pub fn parts_want()
 
 /// A text that has a tree has no fault of any kind, first or not.
 pub fn no_fault_with_tree()
-    ensures { (delimiters : List DelimiterText) (s : List ℕ) (tree : Statements) (row : SyntaxFault) (p : ℕ) (span : Span) (reason : List ℕ)
+    ensures { (delimiters : List DelimiterText) (s : List ℕ) (tree : Statements) (row : SyntaxFault) (p : ℕ)
+        (span : Span) (reason : List ℕ)
         → HasTexts delimiters → HasTree delimiters s tree → Holds delimiters s row p span reason → ⊥ }
 {}
 
 /// Up to each offset a text reads in one way at most: the same tokens, and then the same mode.
 pub fn one_reading()
     ensures { (delimiters : List DelimiterText) (s : List ℕ) (ls ks : List Lexeme) (mode other : Mode) (p : ℕ)
-        → HasTexts delimiters → ReadsTo delimiters s ls mode p → ReadsTo delimiters s ks other p → (ls ≡ ks) × (mode ≡ other) }
+        → HasTexts delimiters → ReadsTo delimiters s ls mode p → ReadsTo delimiters s ks other p → (ls ≡ ks)
+        × (mode ≡ other) }
 {}
 
 /// Each token that a UTF-8 text reads to lies in it, on character boundaries, and the reading ends on one.

@@ -18,12 +18,13 @@ pub fn default_one_answer()
         × ((other : Statements) → HasTree default_delimiters s other → tree ≡ other)
         × ((span : Span) (reason : List ℕ) → IsFirstFault default_delimiters s span reason → ⊥))
         ⊎ ((span : Span) × (reason : List ℕ) × IsFirstFault default_delimiters s span reason
-        × ((other : Span) (words : List ℕ) → IsFirstFault default_delimiters s other words → (span ≡ other) × (reason ≡ words))
+        × ((other : Span) (words : List ℕ) → IsFirstFault default_delimiters s other words → (span ≡ other)
+        × (reason ≡ words))
         × ((tree : Statements) → HasTree default_delimiters s tree → ⊥)) }
 {}
 
-/// The trie of any delimiters leads by the text of each to a node, by no two texts to one node, and the node of a text has
-/// the first delimiter with that text.
+/// The trie of any delimiters leads by the text of each to a node, by no two texts to one node, and the node of a text
+/// has the first delimiter with that text.
 pub fn trie_of_any_delimiters()
     ensures { (delimiters : List DelimiterText) → IsTrieOf (length delimiters) delimiters (nodes_of delimiters) }
 {}

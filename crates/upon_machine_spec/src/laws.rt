@@ -17,17 +17,19 @@ ghost use Rattle.upon_machine_spec.specs.Spans.{StateLies, NextLies};
 ghost use Rattle.upon_machine_spec.specs.State.{State, at_start};
 ghost use Rattle.upon_machine_spec.specs.Step.{goes, stops, stuck, step};
 
-/// The run of a template's program ends, and gives what the template means by itself: the same text, end and next states.
-/// So no step on its way misses an operand or a frame.
+/// The run of a template's program ends, and gives what the template means by itself: the same text, end and next
+/// states. So no step on its way misses an operand or a frame.
 pub fn program_runs<V, T>()
     ensures { (calls : Calls V) (resolve : Resolver T) (left : ℕ) (t : Template) (name : Option (List ℕ)) (root : Root)
         (s : States V T)
-        → (n : ℕ) × (run calls resolve root n (at_start t name left s) ≡ Some (alone_within calls resolve left t name root s)) }
+        → (n : ℕ) × (run calls resolve root n (at_start t name left s)
+        ≡ Some (alone_within calls resolve left t name root s)) }
 {}
 
 /// A run gives one outcome, however many steps it is given.
 pub fn runs_once<V, T>()
-    ensures { (calls : Calls V) (resolve : Resolver T) (root : Root) (m n : ℕ) (s : State V T) (a b : Outcome (States V T))
+    ensures { (calls : Calls V) (resolve : Resolver T) (root : Root) (m n : ℕ) (s : State V T)
+        (a b : Outcome (States V T))
         → run calls resolve root m s ≡ Some a → run calls resolve root n s ≡ Some b → a ≡ b }
 {}
 
@@ -38,24 +40,26 @@ pub fn spans_lie_at_start<V, T>()
 {}
 
 /// Where all spans that the machine holds lie in the texts of their templates, they lie so after a step, and the step's
-/// fault lies in the text of the template that runs. The same is asked of the templates that answer the names of includes.
+/// fault lies in the text of the template that runs. The same is asked of the templates that answer the names of
+/// includes.
 pub fn spans_lie_on<V, T>()
     ensures { (calls : Calls V) (resolve : Resolver T) (root : Root) (s : State V T)
         → TemplatesLie resolve → StateLies s → NextLies s.active.running.source (step calls resolve root s) }
 {}
 
-/// In the midst of a run, where a text has been given and the run from here gives the rest of an outcome: no step is stuck;
-/// one that goes on brings the end nearer, with its text after what was given; one that stops gives the outcome's end and
-/// states; and what was given, with the step's text, begins the outcome's text.
+/// In the midst of a run, where a text has been given and the run from here gives the rest of an outcome: no step is
+/// stuck; one that goes on brings the end nearer, with its text after what was given; one that stops gives the
+/// outcome's end and states; and what was given, with the step's text, begins the outcome's text.
 pub fn midway<V, T>()
     ensures unstuck { (calls : Calls V) (resolve : Resolver T) (root : Root) (n : ℕ) (text : List ℕ) (s : State V T)
         (o : Outcome (States V T))
         → step calls resolve root s ≡ stuck → Midway calls resolve root n text s o → ⊥ }
 
-    ensures goes_on { (calls : Calls V) (resolve : Resolver T) (root : Root) (n : ℕ) (text more : List ℕ) (s next : State V T)
-        (o : Outcome (States V T))
+    ensures goes_on { (calls : Calls V) (resolve : Resolver T) (root : Root) (n : ℕ) (text more : List ℕ)
+        (s next : State V T) (o : Outcome (States V T))
         → step calls resolve root s ≡ goes more next → Midway calls resolve root n text s o
-        → Midway calls resolve root n (text ++ more) next o × (steps calls resolve root n next < steps calls resolve root n s) }
+        → Midway calls resolve root n (text ++ more) next o
+        × (steps calls resolve root n next < steps calls resolve root n s) }
 
     ensures stops_so { (calls : Calls V) (resolve : Resolver T) (root : Root) (n : ℕ) (text more : List ℕ) (end : End)
         (q : States V T) (s : State V T) (o : Outcome (States V T))

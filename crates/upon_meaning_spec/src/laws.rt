@@ -34,9 +34,9 @@ pub fn greater_depth<V, T>()
         (alone (record rendering { limit = b }) t name root s) }
 {}
 
-/// With the engine's templates: where a template has the number k, and it and those that it reaches have numbers greater
-/// than those of the stored templates that they include, it never ends because includes are too deep, at any depth above
-/// k.
+/// With the engine's templates: where a template has the number k, and it and those that it reaches have numbers
+/// greater than those of the stored templates that they include, it never ends because includes are too deep, at any
+/// depth above k.
 pub fn numbered_depth<V, T>()
     ensures { (engine : Engine) (ask : Source V) (depth : Option ℕ) (number : List ℕ → ℕ) (k : ℕ) (t : Template)
         (name : Option (List ℕ)) (root : Root) (s : States V T)
@@ -44,8 +44,8 @@ pub fn numbered_depth<V, T>()
         → (alone (rendering_of engine ask depth) t name root s).end ≢ too_deep }
 {}
 
-/// An include of a template with a value gives what that template gives alone on the value, with the depth that is left:
-/// the same text, end and next states, whatever is bound around the include, over any root, from any states.
+/// An include of a template with a value gives what that template gives alone on the value, with the depth that is
+/// left: the same text, end and next states, whatever is bound around the include, over any root, from any states.
 pub fn included_alone<V, T>()
     ensures within { (calls : Calls V) (resolve : Resolver T) (running : RunningTemplate) (left : ℕ) (word : Ident)
         (e : Expression) (env : Environment) (s : States V T) (v : Val) (t : Template) (next : States V T)
@@ -64,8 +64,8 @@ pub fn included_alone<V, T>()
 
 /// A template over a context never asks the value source, nor does one that it includes: the source's state stays.
 pub fn value_source_stays<V, T>()
-    ensures within { (calls : Calls V) (resolve : Resolver T) (left : ℕ) (t : Template) (name : Option (List ℕ)) (v : Val)
-        (s : States V T) → (alone_within calls resolve left t name (context v) s).next.values ≡ s.values }
+    ensures within { (calls : Calls V) (resolve : Resolver T) (left : ℕ) (t : Template) (name : Option (List ℕ))
+        (v : Val) (s : States V T) → (alone_within calls resolve left t name (context v) s).next.values ≡ s.values }
 
     ensures of_depth { (rendering : Rendering V T) (t : Template) (name : Option (List ℕ)) (v : Val) (s : States V T)
         → (alone rendering t name (context v) s).next.values ≡ s.values }
@@ -95,19 +95,20 @@ pub fn value_source_replaced<V, W, T>()
 
 /// `if not c` with branches `a` and `b` means what `if c` with branches `b` and `a` means, wherever it is.
 pub fn negated_condition<V, T>()
-    ensures { (calls : Calls V) (include_means : Inclusion V T) (running : RunningTemplate) (c : Expression) (a b : Statements)
-        (env : Environment) (s : States V T)
+    ensures { (calls : Calls V) (include_means : Inclusion V T) (running : RunningTemplate) (c : Expression)
+        (a b : Statements) (env : Environment) (s : States V T)
         → statement_means calls include_means running (if_else true c a (otherwise b)) env s
         ≡ statement_means calls include_means running (if_else false c b (otherwise a)) env s }
 {}
 
 /// Two templates of one name give the same text and next states, and end alike but for the span of a fault, where their
-/// trees are alike but for spans: raw parts show the same, and of an `if` the condition may be negated in one of the two
-/// alone, with its branches the other way round. Each template is rendered under its own text.
+/// trees are alike but for spans: raw parts show the same, and of an `if` the condition may be negated in one of the
+/// two alone, with its branches the other way round. Each template is rendered under its own text.
 pub fn turned_conditions<V, T>()
-    ensures within { (calls : Calls V) (resolve : Resolver T) (left : ℕ) (t u : Template) (name : Option (List ℕ)) (root : Root)
-        (s : States V T) → StatementsAlike t.source u.source t.tree u.tree
-        → OutcomesAlike (alone_within calls resolve left t name root s) (alone_within calls resolve left u name root s) }
+    ensures within { (calls : Calls V) (resolve : Resolver T) (left : ℕ) (t u : Template) (name : Option (List ℕ))
+        (root : Root) (s : States V T) → StatementsAlike t.source u.source t.tree u.tree
+        → OutcomesAlike (alone_within calls resolve left t name root s)
+        (alone_within calls resolve left u name root s) }
 
     ensures of_depth { (rendering : Rendering V T) (t u : Template) (name : Option (List ℕ)) (root : Root)
         (s : States V T) → StatementsAlike t.source u.source t.tree u.tree

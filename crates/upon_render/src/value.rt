@@ -41,6 +41,7 @@ pub fn lookup<'a>(
 ///
 /// The fault of a member that is not there lies at that member. From a borrowed value what is found is borrowed too, and
 /// memory is taken for a fault alone.
+#[inline(always)]
 pub fn lookup_path<'a>(
     alloc: Global,
     source: &str,
@@ -132,6 +133,7 @@ pub(crate) fn lookup_in_context<'a>(
 }
 
 // The value that the members lead to; `None` after a miss by `?.`.
+#[inline(always)]
 fn descend<'a>(
     alloc: Global,
     source: &str,
@@ -167,6 +169,8 @@ fn reach<'a>(value: &'a Value, member: &Member) -> Option<Option<&'a Value>>
 }
 
 // The fault of a member that the value does not have.
+#[cold]
+#[inline(never)]
 fn not_reached(alloc: Global, source: &str, value: &Value, member: &Member) -> Error
     requires span { LiesIn source.now member.now.span }
     requires missed { found_only (member_in (view value.now) (member_of member.now)) ≡ None }

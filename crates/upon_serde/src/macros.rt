@@ -35,9 +35,9 @@ pub fn put(
 /// The map of what is written: `value! { in alloc; name: "John", tags: ["a", {b: true}], none: None }`.
 ///
 /// It answers a `Result<Value>`. The allocator comes first. A key is an identifier; a value is `None`, a list in `[ ]`,
-/// a map in `{ }` or an expression, of which [`to_value`](crate::to_value) makes a value. The last item of a list or map
-/// may have a comma after it. Of equal keys the last counts. An error is the first one that `to_value` answers, or out of
-/// memory.
+/// a map in `{ }` or an expression, of which [`to_value`](crate::to_value) makes a value. The last item of a list or
+/// map may have a comma after it. Of equal keys the last counts. An error is the first one that `to_value` answers, or
+/// out of memory.
 #[macro_export]
 macro_rules! value {
     (in $alloc:expr; $($entries:tt)*) => {{

@@ -93,8 +93,8 @@ impl<'s> Store<'s> {
         }
     }
 
-    /// Adds a template under a path: compiles it under the engine's syntax, and puts it in place of one that is there. Where
-    /// it is refused, the store stays as it was.
+    /// Adds a template under a path: compiles it under the engine's syntax, and puts it in place of one that is there.
+    /// Where it is refused, the store stays as it was.
     pub fn add(
         &mut self,
         engine: &Engine<'_>,
@@ -107,7 +107,8 @@ impl<'s> Store<'s> {
             (stored self.new path.now)) }
         ensures ends { EndsAdding
             (is_path path.now)
-            (IsSyntaxError (⟦<&'static Engine<'static> as EngineView>⟧.syntax_view engine.entry) (cow_str_bytes source.entry))
+            (IsSyntaxError (⟦<&'static Engine<'static> as EngineView>⟧.syntax_view engine.entry)
+            (cow_str_bytes source.entry))
             result }
         ensures others { OthersStay path.now (stored self.old) (stored self.new) }
         ensures refused { OnErr result (AllStay (stored self.old) (stored self.new)) }
@@ -176,7 +177,8 @@ impl<'s> Store<'s> {
             result
             (W.contents writer.old)
             (W.contents writer.new)
-            (λ t. alone (rendering_by (⟦<&'static Engine<'static> as EngineView>⟧.engine_view engine.entry) never (from_store self.now path.now) None) t None (context (view value.now)) (states (tt {0}) (tt {0}))) }
+            (λ t. alone (rendering_by (⟦<&'static Engine<'static> as EngineView>⟧.engine_view engine.entry) never
+            (from_store self.now path.now) None) t None (context (view value.now)) (states (tt {0}) (tt {0}))) }
     {
         if !is_path(path) {
             return Err(StoreError::BadPath);

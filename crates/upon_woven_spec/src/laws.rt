@@ -8,15 +8,16 @@ ghost use Rattle.upon_woven_spec.specs.Parts.{IsRawPart, IsWritten, WritesOnly};
 ghost use Rattle.upon_woven_spec.specs.Marks.{has, FromRawParts};
 ghost use Rattle.upon_woven_spec.specs.Woven.{WovenOf};
 
-/// The text of a rendering, up to its end, is pieces joined: each is a raw part of the template or of one that it reaches,
-/// or what the default formatter, or one that they name, wrote for a value.
+/// The text of a rendering, up to its end, is pieces joined: each is a raw part of the template or of one that it
+/// reaches, or what the default formatter, or one that they name, wrote for a value.
 pub fn woven<V, T>()
     ensures within { (calls : Calls V) (resolve : Resolver T) (left : ℕ) (t : Template) (name : Option (List ℕ))
         (root : Root) (s : States V T)
         → WovenOf (IsRawPart resolve t) (IsWritten calls resolve t)
         (alone_within calls resolve left t name root s).text }
 
-    ensures of_depth { (rendering : Rendering V T) (t : Template) (name : Option (List ℕ)) (root : Root) (s : States V T)
+    ensures of_depth { (rendering : Rendering V T) (t : Template) (name : Option (List ℕ)) (root : Root)
+        (s : States V T)
         → WovenOf (IsRawPart rendering.resolve t) (IsWritten rendering.calls rendering.resolve t)
         (alone rendering t name root s).text }
 {}

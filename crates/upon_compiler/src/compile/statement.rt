@@ -135,8 +135,8 @@ impl Compiler {
         Ok(())
     }
 
-    /// The turns of a loop: its body, and the way back to the next turn, whose number is answered. Where the loop ends is
-    /// written into that later.
+    /// The turns of a loop: its body, and the way back to the next turn, whose number is answered. Where the loop ends
+    /// is written into that later.
     #[cycle(statement)]
     fn compile_turns(&mut self, body: Scope) -> Result<usize, AllocError>
         ensures { IfOk result (λ next. (next ≡ length (code_of self.old))

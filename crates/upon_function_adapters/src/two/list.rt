@@ -20,7 +20,8 @@ pub trait Call2LO<A: OwnedArgument, R: FunctionReturn>: Drop {
 
     /// Calls it.
     fn call(&self, alloc: Global, first: &[Value], second: A) -> R
-        ensures { Gives (R.outcome result) (meaning self.now (list_val (vals_view first.now) ∷ A.stands_for second ∷ [])) };
+        ensures { Gives (R.outcome result)
+            (meaning self.now (list_val (vals_view first.now) ∷ A.stands_for second ∷ [])) };
 }
 
 /// The function of a callable of a lent list and an owned argument.
@@ -64,7 +65,8 @@ pub trait Call2LS<R: FunctionReturn>: Drop {
 
     /// Calls it.
     fn call(&self, alloc: Global, first: &[Value], second: &str) -> R
-        ensures { Gives (R.outcome result) (meaning self.now (list_val (vals_view first.now) ∷ text_val second.now ∷ [])) };
+        ensures { Gives (R.outcome result)
+            (meaning self.now (list_val (vals_view first.now) ∷ text_val second.now ∷ [])) };
 }
 
 /// The function of a callable of a lent list and a lent text.

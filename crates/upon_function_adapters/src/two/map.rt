@@ -21,7 +21,8 @@ pub trait Call2MO<A: OwnedArgument, R: FunctionReturn>: Drop {
 
     /// Calls it.
     fn call(&self, alloc: Global, first: &BTreeMap<String, Value>, second: A) -> R
-        ensures { Gives (R.outcome result) (meaning self.now (map_val (entries_view first.now.entries) ∷ A.stands_for second ∷ [])) };
+        ensures { Gives (R.outcome result)
+            (meaning self.now (map_val (entries_view first.now.entries) ∷ A.stands_for second ∷ [])) };
 }
 
 /// The function of a callable of a lent map and an owned argument.
@@ -65,7 +66,8 @@ pub trait Call2MS<R: FunctionReturn>: Drop {
 
     /// Calls it.
     fn call(&self, alloc: Global, first: &BTreeMap<String, Value>, second: &str) -> R
-        ensures { Gives (R.outcome result) (meaning self.now (map_val (entries_view first.now.entries) ∷ text_val second.now ∷ [])) };
+        ensures { Gives (R.outcome result)
+            (meaning self.now (map_val (entries_view first.now.entries) ∷ text_val second.now ∷ [])) };
 }
 
 /// The function of a callable of a lent map and a lent text.
@@ -108,7 +110,8 @@ pub trait Call2MV<R: FunctionReturn>: Drop {
 
     /// Calls it.
     fn call(&self, alloc: Global, first: &BTreeMap<String, Value>, second: &Value) -> R
-        ensures { Gives (R.outcome result) (meaning self.now (map_val (entries_view first.now.entries) ∷ view second.now ∷ [])) };
+        ensures { Gives (R.outcome result)
+            (meaning self.now (map_val (entries_view first.now.entries) ∷ view second.now ∷ [])) };
 }
 
 /// The function of a callable of a lent map and a lent value.

@@ -20,7 +20,8 @@ pub fn text(index: usize, from: &Value) -> Result<&str, CallError>
 
 /// The items of the list that a value is.
 pub fn list(index: usize, from: &Value) -> Result<&[Value], CallError>
-    ensures { Lends (λ items. list_val (vals_view items.now)) (list_misfit (view from.now)) index (view from.now) result }
+    ensures { Lends (λ items. list_val (vals_view items.now)) (list_misfit (view from.now)) index
+        (view from.now) result }
 {
     match from {
         Value::List(items) => Ok(items),
@@ -30,7 +31,8 @@ pub fn list(index: usize, from: &Value) -> Result<&[Value], CallError>
 
 /// The map that a value is.
 pub fn map(index: usize, from: &Value) -> Result<&BTreeMap<String, Value>, CallError>
-    ensures { Lends (λ entries. map_val (entries_view entries.now.entries)) (map_misfit (view from.now)) index (view from.now) result }
+    ensures { Lends (λ entries. map_val (entries_view entries.now.entries)) (map_misfit (view from.now)) index
+        (view from.now) result }
 {
     match from {
         Value::Map(entries) => Ok(entries),

@@ -72,8 +72,8 @@ pub fn closes_innermost(brackets: &[OpenBracket], shape: Shape) -> bool
     }
 }
 
-/// Opens or closes a bracket for a token at an offset, where the token does so. An error, where there is no memory for a
-/// bracket that opens, leaves the brackets as they were.
+/// Opens or closes a bracket for a token at an offset, where the token does so. An error, where there is no memory for
+/// a bracket that opens, leaves the brackets as they were.
 pub fn apply(brackets: &mut Vec<OpenBracket>, token: Token, span: Span) -> Result<(), AllocError>
     ensures turned { IfOk result (λ _. brackets_of brackets.new.items
         ≡ brackets_after (brackets_of brackets.old.items) token (plain_lexeme token span)) }

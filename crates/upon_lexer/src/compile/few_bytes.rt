@@ -16,8 +16,8 @@ pub(crate) struct FewBytes {
 }
 
 impl FewBytes {
-    /// Returns the bytes that the delimiters of a syntax have at their second place, else those at their first; `None` if
-    /// there are more than three of both. (The hyphens that trim are first bytes, and frequent in texts.)
+    /// Returns the bytes that the delimiters of a syntax have at their second place, else those at their first; `None`
+    /// if there are more than three of both. (The hyphens that trim are first bytes, and frequent in texts.)
     pub(crate) fn of(syntax: &Syntax) -> Option<FewBytes>
         ensures { IfSome result (λ few. HaveOneOf few (syntax_delimiters syntax.now)) }
     {
@@ -71,8 +71,8 @@ impl FewBytes {
         None
     }
 
-    /// Returns the first offset at or after another at whose place one of these bytes is, or the text's length if there is
-    /// none.
+    /// Returns the first offset at or after another at whose place one of these bytes is, or the text's length if there
+    /// is none.
     pub(crate) fn next(self, source: &str, at: usize) -> usize
         requires { at ≤ length source.now }
         ensures after { at ≤ result }

@@ -84,9 +84,9 @@ impl<'a> Lexer<'a> {
     }
 
     /// The next token and where it is, in bytes; of a raw part outside tags the span that trimming leaves.
-    /// At the end of the text there is none. Where the text can't be cut further, the error reports that fault, which is
-    /// the text's first of its kind; where there is no memory to say it, or to keep a bracket that opens, it says that.
-    /// After an error there are no more tokens.
+    /// At the end of the text there is none. Where the text can't be cut further, the error reports that fault, which
+    /// is the text's first of its kind; where there is no memory to say it, or to keep a bracket that opens, it says
+    /// that. After an error there are no more tokens.
     pub fn lex(&mut self) -> Result<Option<(Token, Span)>>
         ensures token { (ls : List Lexeme) → ReadSoFar self.old ls → Gives self.old ls result self.new }
         ensures span { IfOk result (λ found. IfSome found (λ given. LiesIn (lexer_text self.old) given.1)) }
@@ -385,7 +385,8 @@ impl<'a> Lexer<'a> {
     fn refuse(&mut self, wrong: Wrong) -> Error
         requires { LiesIn (lexer_text self.now) wrong.span }
         ensures words { OrMemory
-            (fault_with_picture (lexer_text self.old) (bare_fault syntax (Some (reason_of wrong.fault)) (Some wrong.span)))
+            (fault_with_picture (lexer_text self.old)
+            (bare_fault syntax (Some (reason_of wrong.fault)) (Some wrong.span)))
             (fault_of result) }
         ensures stopped { (lexer_state self.new).over ≡ true }
         ensures text { lexer_text self.new ≡ lexer_text self.old }

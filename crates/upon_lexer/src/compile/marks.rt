@@ -6,8 +6,8 @@ ghost use Rattle.upon_lexer.specs.Syntax.{syntax_delimiters};
 
 use crate::types::syntax::Syntax;
 
-/// For each byte, a bit for each delimiter that it is the first byte of, and for each that it may be the second byte of.
-/// A delimiter of one byte may have each byte as its second. Delimiters 16 apart in the list share a bit.
+/// For each byte, a bit for each delimiter that it is the first byte of, and for each that it may be the second byte
+/// of. A delimiter of one byte may have each byte as its second. Delimiters 16 apart in the list share a bit.
 #[derive(Drop)]
 pub(crate) struct Marks {
     first: [u16; 256],
@@ -65,7 +65,8 @@ impl Marks {
     /// Whether a delimiter may begin at an offset.
     pub(crate) fn may_begin(&self, bytes: &[u8], at: usize) -> bool
         requires { at < length bytes.now }
-        ensures { result ≡ false → (delimiters : List DelimiterText) → HasTexts delimiters → MarksEach self.now delimiters
+        ensures { result ≡ false → (delimiters : List DelimiterText) → HasTexts delimiters
+            → MarksEach self.now delimiters
             → NoneAt delimiters bytes.now at }
     {
         let begin = self.first[bytes[at] as usize];

@@ -24,8 +24,8 @@ pub struct Searcher {
     ghost fits: { ∥ WayFits way (syntax_delimiters syntax) ∥₁ },
 }
 
-// How it looks for the next delimiter: by the next brace; by the bytes at one place of all delimiters, if there are at most
-// three, and marks of their first two bytes; or by marks alone.
+// How it looks for the next delimiter: by the next brace; by the bytes at one place of all delimiters, if there are at
+// most three, and marks of their first two bytes; or by marks alone.
 #[derive(Drop)]
 enum Way {
     Brace,
@@ -67,8 +67,8 @@ impl Searcher {
     }
 
     /// The first delimiter at or after an offset, which is a character boundary of the text: its kind and its span, in
-    /// bytes. At the least offset where one occurs, it is the one with the longest text, and of equal texts the one listed
-    /// first.
+    /// bytes. At the least offset where one occurs, it is the one with the longest text, and of equal texts the one
+    /// listed first.
     pub fn find_at(&self, source: &str, at: usize) -> Option<(Delimiter, Span)>
         requires { IsCharBoundary source.now at }
         ensures found { MatchOption
@@ -106,8 +106,8 @@ impl Searcher {
         }
     }
 
-    /// The offset where the raw part that begins at an offset ends: at the next delimiter, or at the text's end. It begins
-    /// at a character boundary before the text's end where no delimiter occurs.
+    /// The offset where the raw part that begins at an offset ends: at the next delimiter, or at the text's end. It
+    /// begins at a character boundary before the text's end where no delimiter occurs.
     pub fn raw_end(&self, source: &str, at: usize) -> usize
         requires inside { at < length source.now }
         requires boundary { IsCharBoundary source.now at }
@@ -200,8 +200,9 @@ fn end_of(source: &str, at: usize, text: &str) -> usize
     at + text.len()
 }
 
-// How many bytes are looked at by marks before the next search for few bytes, if one of them is near to where the search
-// began (others are often near then, and a search for each would cost more); else only the one that is found is looked at.
+// How many bytes are looked at by marks before the next search for few bytes, if one of them is near to where the
+// search began (others are often near then, and a search for each would cost more); else only the one that is found is
+// looked at.
 const WINDOW: usize = 64;
 
 const NEAR: usize = 8;

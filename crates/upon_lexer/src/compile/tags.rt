@@ -10,7 +10,8 @@ ghost use Rattle.upon_language_spec.specs.LexStep.{begin_after};
 use crate::compile::roles::Sort;
 use upon_types::types::{Span, Token};
 
-/// A tag or a comment that was begun: its sort, where its begin is, in bytes, and whether a digit begins an index there.
+/// A tag or a comment that was begun: its sort, where its begin is, in bytes, and whether a digit begins an index
+/// there.
 #[derive(Clone, Copy)]
 pub struct OpenTag {
     pub sort: Sort,

@@ -332,8 +332,8 @@ impl Syntax {
     ghost use Rattle.upon_lexer.specs.Syntax.{syntax_delimiters};
     ghost use Rattle.upon_lexer.specs.Builder.{builder_texts};
 
-    /// The default syntax: `{{ }}`, `{% %}` and `{# #}`, each also with a hyphen inside. It is the same as the syntax that
-    /// is built of these pairs.
+    /// The default syntax: `{{ }}`, `{% %}` and `{# #}`, each also with a hyphen inside. It is the same as the syntax
+    /// that is built of these pairs.
     pub fn default() -> Syntax
         ensures list { syntax_delimiters result ≡ default_delimiters }
         ensures built { syntax_delimiters result ≡ built_delimiters usual_texts }

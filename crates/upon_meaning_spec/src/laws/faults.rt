@@ -14,15 +14,16 @@ ghost use Rattle.upon_meaning_spec.specs.Engine.{Template, Table, Calls, Resolve
 ghost use Rattle.upon_meaning_spec.specs.Outcome.{States, fails};
 ghost use Rattle.upon_meaning_spec.specs.RenderFaults.{EndStated, Anywhere, TemplatesLie};
 
-/// A rendering ends well, because includes are nested too deep, or with one of the stated faults of a template that runs: the
-/// template itself, or one that answers the name of an include. It bears that template's name, has a span, and shows the
-/// span in that template's text.
+/// A rendering ends well, because includes are nested too deep, or with one of the stated faults of a template that
+/// runs: the template itself, or one that answers the name of an include. It bears that template's name, has a span,
+/// and shows the span in that template's text.
 pub fn faults_are_stated<V, T>()
     ensures { (calls : Calls V) (resolve : Resolver T) (left : ℕ) (t : Template) (name : Option (List ℕ)) (root : Root)
         (s : States V T) → EndStated calls resolve t name Anywhere (alone_within calls resolve left t name root s).end }
 {}
 
-/// Where the spans in the trees of all templates lie in their texts, a fault lies in the text of the template that runs.
+/// Where the spans in the trees of all templates lie in their texts, a fault lies in the text of the template that
+/// runs.
 pub fn faults_lie<V, T>()
     ensures { (calls : Calls V) (resolve : Resolver T) (left : ℕ) (t : Template) (name : Option (List ℕ)) (root : Root)
         (s : States V T) → TemplatesLie resolve → TreeLiesIn t.source t.tree
@@ -31,9 +32,11 @@ pub fn faults_lie<V, T>()
 
 /// The fault that is reported for a rendering is one of the stated ones, or it names the depth that was set.
 pub fn reported_is_stated<V, T>()
-    ensures { (rendering : Rendering V T) (t : Template) (name : Option (List ℕ)) (root : Root) (s : States V T) (f : Fault)
+    ensures { (rendering : Rendering V T) (t : Template) (name : Option (List ℕ)) (root : Root) (s : States V T)
+        (f : Fault)
         → fault_of_end rendering.limit (alone rendering t name root s).end ≡ Some f
-        → (f ≡ depth_reached rendering.limit) ⊎ (EndStated rendering.calls rendering.resolve t name Anywhere (fails f)) }
+        → (f ≡ depth_reached rendering.limit)
+        ⊎ (EndStated rendering.calls rendering.resolve t name Anywhere (fails f)) }
 {}
 
 /// The default formatter, where none is set, refuses with the kind of the value that it has no text for; a table of

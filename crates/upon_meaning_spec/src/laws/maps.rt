@@ -50,7 +50,8 @@ pub fn literal_in_order<V>()
 
 /// Map literals that hold the same at each key are one value, in whatever order each was written.
 pub fn literals_alike<V>()
-    ensures { (calls : Calls V) (items others : Items) (span other : Span) (env around : Environment) (p q : V) (a b : Operand)
+    ensures { (calls : Calls V) (items others : Items) (span other : Span) (env around : Environment) (p q : V)
+        (a b : Operand)
         → (evaluate_base calls (mapping items span) env p).answer ≡ found a
         → (evaluate_base calls (mapping others other) around q).answer ≡ found b
         → ((key : List ℕ) → key_of key a.value ≡ key_of key b.value)
@@ -65,8 +66,8 @@ pub fn map_in_order()
         × GoesInOrder key value es turns }
 {}
 
-/// A loop over a map literal goes over each entry of its map once, in ascending order of the keys' bytes, whatever order it
-/// was written in.
+/// A loop over a map literal goes over each entry of its map once, in ascending order of the keys' bytes, whatever
+/// order it was written in.
 pub fn literal_goes_in_order<V>()
     ensures { (calls : Calls V) (items : Items) (span : Span) (env : Environment) (q : V) (o : Operand)
         (key value : Ident) (both : Span) (at : Span)

@@ -14,8 +14,10 @@ pub fn names_read<V, T>()
     ensures { (calls : Calls V) (table : Table) (limit : ℕ) (template : Template) (name : Option (List ℕ))
         (these those : Entries) (states : States V T)
         → AgreeOn (Reads table template.tree) (λ n. entry_at n these) (λ n. entry_at n those)
-        → alone (record { calls = calls; resolve = from_table table; limit = limit }) template name (context (map_val these)) states
-        ≡ alone (record { calls = calls; resolve = from_table table; limit = limit }) template name (context (map_val those)) states }
+        → alone (record { calls = calls; resolve = from_table table; limit = limit }) template name
+        (context (map_val these)) states
+        ≡ alone (record { calls = calls; resolve = from_table table; limit = limit }) template name
+        (context (map_val those)) states }
 {}
 
 /// Two tables that agree on the names of the templates that a template reaches render it alike, over any root.

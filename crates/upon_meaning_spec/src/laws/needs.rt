@@ -19,16 +19,20 @@ pub fn names_needed<V, T>()
     ensures { (calls : Calls V) (table : Table) (limit : ℕ) (template : Template) (name : Option (List ℕ))
         (these those : Entries) (states : States V T)
         → AgreeOn (NeedsName table template.tree) (λ n. entry_at n these) (λ n. entry_at n those)
-        → alone (record { calls = calls; resolve = from_table table; limit = limit }) template name (context (map_val these)) states
-        ≡ alone (record { calls = calls; resolve = from_table table; limit = limit }) template name (context (map_val those)) states }
+        → alone (record { calls = calls; resolve = from_table table; limit = limit }) template name
+        (context (map_val these)) states
+        ≡ alone (record { calls = calls; resolve = from_table table; limit = limit }) template name
+        (context (map_val those)) states }
 {}
 
 /// Any two contexts that agree on what a template needs render alike.
 pub fn contexts_needed<V, T>()
     ensures { (calls : Calls V) (table : Table) (limit : ℕ) (template : Template) (name : Option (List ℕ))
         (this that : Val) (states : States V T) → AgreeForNeeds table template.tree this that
-        → alone (record { calls = calls; resolve = from_table table; limit = limit }) template name (context this) states
-        ≡ alone (record { calls = calls; resolve = from_table table; limit = limit }) template name (context that) states }
+        → alone (record { calls = calls; resolve = from_table table; limit = limit }) template name
+        (context this) states
+        ≡ alone (record { calls = calls; resolve = from_table table; limit = limit }) template name
+        (context that) states }
 {}
 
 /// Two value sources that answer alike each path that begins with what a template needs render it alike.
@@ -54,9 +58,9 @@ pub fn nothing_missing<V, T>()
         ≡ alone (record { calls = calls; resolve = resolve; limit = limit }) template name root states }
 {}
 
-/// With the engine's templates, over a context: if no include is missing, no rendering ends as an include of a name that
-/// no template has. If the includes' numbers fall, none ends because includes are too deep either (`numbered_depth`). A
-/// value source may refuse in the same words, so this is said of contexts.
+/// With the engine's templates, over a context: if no include is missing, no rendering ends as an include of a name
+/// that no template has. If the includes' numbers fall, none ends because includes are too deep either
+/// (`numbered_depth`). A value source may refuse in the same words, so this is said of contexts.
 pub fn includes_found<V, T>()
     ensures { (engine : Engine) (ask : Source V) (depth : Option ℕ) (t : Template) (name : Option (List ℕ)) (v : Val)
         (s : States V T) → NothingMissing engine.templates t.tree

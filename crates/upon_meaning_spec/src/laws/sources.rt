@@ -1,4 +1,5 @@
-// What a template depends on with any source that hands on the templates of a table, in whatever words it refuses others.
+// What a template depends on with any source that hands on the templates of a table, in whatever words it refuses
+// others.
 ghost use Rattle.std.specs.Prelude.{◌≡◌, ◌≢◌, ◌<◌, ℕ, List, Option};
 ghost use Rattle.upon_types.specs.Val.{Entries, map_val, entry_at};
 ghost use Rattle.upon_render.specs.Environment.{Root, context};
@@ -15,8 +16,10 @@ pub fn names_read<V, T>()
     ensures { (calls : Calls V) (table : Table) (resolve : Resolver T) (limit : ℕ) (template : Template)
         (name : Option (List ℕ)) (these those : Entries) (states : States V T) → HandsOnFrom table resolve
         → AgreeOn (Reads table template.tree) (λ n. entry_at n these) (λ n. entry_at n those)
-        → alone (record { calls = calls; resolve = resolve; limit = limit }) template name (context (map_val these)) states
-        ≡ alone (record { calls = calls; resolve = resolve; limit = limit }) template name (context (map_val those)) states }
+        → alone (record { calls = calls; resolve = resolve; limit = limit }) template name
+        (context (map_val these)) states
+        ≡ alone (record { calls = calls; resolve = resolve; limit = limit }) template name
+        (context (map_val those)) states }
 {}
 
 /// Two sources that give the same answers and next states to the names that a template reaches in the table of one of
@@ -29,8 +32,8 @@ pub fn templates_reached<V, T>()
         ≡ alone (record { calls = calls; resolve = those; limit = limit }) template name root states }
 {}
 
-/// Where a template has the number k, and it and those that it reaches in the table have numbers greater than those of the
-/// templates of the table that they include, it never ends because includes are too deep, at any depth above k. A
+/// Where a template has the number k, and it and those that it reaches in the table have numbers greater than those of
+/// the templates of the table that they include, it never ends because includes are too deep, at any depth above k. A
 /// refusal of the source is a fault of its own, whatever its words.
 pub fn numbered_depth<V, T>()
     ensures { (calls : Calls V) (table : Table) (resolve : Resolver T) (limit : ℕ) (number : List ℕ → ℕ) (k : ℕ)

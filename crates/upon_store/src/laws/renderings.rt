@@ -15,11 +15,13 @@ use upon_meaning_spec::laws::sources;
 /// Two maps that agree on the names that begin a path in a template, or in one that it reaches in the folder of a path,
 /// render alike with the store's templates: text, end and next states.
 pub fn names_read<V, T>()
-    ensures { (calls : Calls V) (store : Store) (path : List ℕ) (limit : ℕ) (template : Template) (name : Option (List ℕ))
-        (these those : Entries) (states : States V T)
+    ensures { (calls : Calls V) (store : Store) (path : List ℕ) (limit : ℕ) (template : Template)
+        (name : Option (List ℕ)) (these those : Entries) (states : States V T)
         → AgreeOn (Reads (folder_table store path) template.tree) (λ n. entry_at n these) (λ n. entry_at n those)
-        → alone (record { calls = calls; resolve = from_store store path; limit = limit }) template name (context (map_val these)) states
-        ≡ alone (record { calls = calls; resolve = from_store store path; limit = limit }) template name (context (map_val those)) states }
+        → alone (record { calls = calls; resolve = from_store store path; limit = limit }) template name
+        (context (map_val these)) states
+        ≡ alone (record { calls = calls; resolve = from_store store path; limit = limit }) template name
+        (context (map_val those)) states }
 {
     sources::names_read::<V, T>();
 }
@@ -36,13 +38,15 @@ pub fn templates_reached<V, T>()
     sources::templates_reached::<V, T>();
 }
 
-/// Where a template has the number k, and it and those that it reaches in the folder of a path have numbers greater than
-/// those of the stored templates that they include, it never ends because includes are too deep, at any depth above k.
+/// Where a template has the number k, and it and those that it reaches in the folder of a path have numbers greater
+/// than those of the stored templates that they include, it never ends because includes are too deep, at any depth
+/// above k.
 pub fn numbered_depth<V, T>()
     ensures { (calls : Calls V) (store : Store) (path : List ℕ) (limit : ℕ) (number : List ℕ → ℕ) (k : ℕ) (t : Template)
         (name : Option (List ℕ)) (root : Root) (states : States V T)
         → IsNumbered (folder_table store path) number t.tree k → k < limit
-        → (alone (record { calls = calls; resolve = from_store store path; limit = limit }) t name root states).end ≢ too_deep }
+        → (alone (record { calls = calls; resolve = from_store store path; limit = limit }) t name root states).end
+        ≢ too_deep }
 {
     sources::numbered_depth::<V, T>();
 }

@@ -23,7 +23,9 @@ struct Pretty<'a> {
 }
 
 impl fmt::Display for Pretty<'_> {
-    ghost output = { λ p. Some (picture_lines (kind_text (kind_of p.kind.now)) p.name.now p.reason.now p.number p.column p.line.now p.margin.now p.marks.now) };
+    ghost output = { λ p. Some
+        (picture_lines
+        (kind_text (kind_of p.kind.now)) p.name.now p.reason.now p.number p.column p.line.now p.margin.now p.marks.now) };
 
     fn fmt<W: fmt::Write>(&self, f: &mut fmt::Formatter<W>) -> fmt::Result {
         write!(f, "{}\n\n", self.kind)?;
@@ -52,7 +54,9 @@ pub(crate) fn with_excerpt(
     excerpt: &Excerpt,
 ) -> Result<String, AllocError>
     ensures { IfOk result
-        (λ text. string_bytes text ≡ pretty_with_picture (kind_of kind.now) (option_map (λ n. n.now) name.entry) reason.now (picture_of excerpt.now)) }
+        (λ text. string_bytes text
+        ≡ pretty_with_picture (kind_of kind.now) (option_map (λ n. n.now) name.entry) reason.now
+        (picture_of excerpt.now)) }
 {
     let margin = margin(alloc, excerpt.number)?;
     let marks = marks(alloc, excerpt)?;

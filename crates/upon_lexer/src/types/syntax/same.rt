@@ -12,7 +12,8 @@ use super::Syntax;
 impl PartialEq for Syntax {
     ghost eq = { on syntax_delimiters delimiters_eq };
 
-    ghost laws = { partial_equiv_from_equiv (on_equiv syntax_delimiters (decided delimiters_eq delimiters_eq-Decides)) };
+    ghost laws = { partial_equiv_from_equiv
+        (on_equiv syntax_delimiters (decided delimiters_eq delimiters_eq-Decides)) };
 
     fn eq(&self, other: &Syntax) -> bool {
         is_same(self, other)

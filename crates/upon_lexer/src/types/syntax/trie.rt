@@ -7,8 +7,8 @@ ghost use Rattle.upon_lexer.specs.Grown.{with_child, made_child, with_text};
 
 use std::alloc::AllocError;
 
-/// A node: the last byte of the text that leads to it, its first child, the next child of its parent (0: there is none),
-/// and the index of the first delimiter whose text leads to it.
+/// A node: the last byte of the text that leads to it, its first child, the next child of its parent (0: there is
+/// none), and the index of the first delimiter whose text leads to it.
 #[derive(Clone, Copy)]
 pub(crate) struct Node {
     pub(crate) byte: u8,
