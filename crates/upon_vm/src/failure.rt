@@ -4,6 +4,7 @@ ghost use Rattle.upon_types.specs.Error.{fault_of as error_of, kind_of as error_
 ghost use Rattle.upon_types.specs.Fault.{fault_with_picture, OrMemory};
 ghost use Rattle.upon_types.specs.Span.{LiesIn};
 ghost use Rattle.upon_vm_calls.specs.Halt.{fault_of, kind_of};
+ghost use Rattle.upon_vm.specs.Acts.{stop_or_memory};
 ghost use Rattle.upon_vm.specs.Failures.{FailsBy, FailsSo, HaltLies, Names, StopLies, is_memory};
 ghost use Rattle.upon_vm.specs.Machine.{active_of};
 
@@ -22,14 +23,16 @@ pub enum Failure {
     Output,
 }
 
-/// The failure of a template that ran, where it stops so. Faults have its name, and pictures of its text.
-pub(crate) fn stopped(alloc: Global, running: Running, stop: Stop) -> Failure
-    requires { StopLies running.program.source.now stop }
-    ensures { FailsBy (active_of running.entry).running stop result }
+/// The failure of a template that ran, where it stops so; with no reason, memory is out. Faults have its name, and
+/// pictures of its text.
+pub(crate) fn stopped(alloc: Global, running: Running, stop: Option<Stop>) -> Failure
+    requires { StopLies running.program.source.now (stop_or_memory stop) }
+    ensures { FailsBy (active_of running.entry).running (stop_or_memory stop) result }
 {
     match stop {
-        Stop::Error(error) => Failure::Error(with_name(alloc, running.name, error)),
-        Stop::Halt(halt) => halted(alloc, running, halt),
+        Some(Stop::Error(error)) => Failure::Error(with_name(alloc, running.name, error)),
+        Some(Stop::Halt(halt)) => halted(alloc, running, halt),
+        None => Failure::Error(AllocError.into()),
     }
 }
 

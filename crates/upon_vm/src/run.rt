@@ -55,12 +55,13 @@ pub(crate) fn run<'r, V: ValueSource, T: ProgramSource<'r>, C: Callables, W: Out
         known.outcome
         (state_of V.value_state T.template_state known.values machine.new).asked }
 {
+    let mut stop = None;
     let mut left = Steps::some::<_, _, Brand>(callables, &*machine);
     'steps: loop {
         let running = machine.running;
-        match step(alloc, callables, machine, out) {
-            Err(stop) => return Err(stopped(alloc, running, stop)),
-            Ok(flow) => {
+        match step(alloc, callables, machine, out, &mut stop) {
+            None => return Err(stopped(alloc, running, stop)),
+            Some(flow) => {
                 if let Some(end) = end_of(flow) {
                     return Ok(end);
                 }

@@ -39,6 +39,7 @@ impl<'a> Operands<'a> {
     }
 
     /// One more on top.
+    #[inline(always)]
     pub fn push(&mut self, value: ValueCow<'a>, span: Span) -> Result<(), AllocError>
         ensures { OnOk result (operands_of self.new ≡ operand (cow_view value.entry) span ∷ operands_of self.old) }
     {
@@ -53,6 +54,7 @@ impl<'a> Operands<'a> {
     }
 
     /// The operand on top, which is taken.
+    #[inline(always)]
     pub fn pop(&mut self) -> Option<(ValueCow<'a>, Span)>
         ensures { MatchOption
             result

@@ -2,7 +2,7 @@ use Rattle.std.proofs.Common.{◌<◌, ◌∙◌, refl, sym, subst, arith}
 use Rattle.upon_render.specs.Roots.{pure_root}
 use Rattle.upon_render.specs.Stack.{root_of}
 use Rattle.upon_machine_spec.specs.Run.{steps}
-use Rattle.upon_vm.specs.Acts.{calls_of}
+use Rattle.upon_vm.specs.Acts.{calls_of, stop_or_memory}
 use Rattle.upon_vm.specs.Machine.{state_of}
 use Rattle.upon_vm.proofs.Keeps.{kept_on}
 use Rattle.upon_vm.proofs.OnTheWay.{way_asks, way_ended, way_failed, way_first, way_frames, way_nearer, way_on, way_stop}
@@ -47,43 +47,43 @@ pub stopped-requires : goal.stopped-requires
 stopped-requires g c =
     let known = c.requires.starts.0 in
     let h = c.steps.invariant.going known c.requires.starts.1 in
-    let did = c.in-Err.ensures.did known.values known.ask (way_asks h) in
+    let did = c.in-None.ensures.did known.values known.ask (way_asks h) in
     let next = state_of g.V.ValueSource.value_state g.T.ProgramSource.template_state known.values c.step.new.machine in
-    way_stop h c.in-Err.stop (g.W.Output.given c.step.new.out) next did
+    way_stop h (stop_or_memory c.step.new.stop) (g.W.Output.given c.step.new.out) next did
 
-pub returns-in-Err-clause-ran : goal.returns-in-Err-clause-ran
-returns-in-Err-clause-ran g c known starts =
+pub returns-in-None-clause-ran : goal.returns-in-None-clause-ran
+returns-in-None-clause-ran g c known starts =
     let h = c.steps.invariant.going known starts in
-    let did = c.in-Err.ensures.did known.values known.ask (way_asks h) in
-    way_failed h c.in-Err.stop c.stopped.result (g.W.Output.given c.step.new.out) c.step.new.machine did c.stopped.ensures
+    let did = c.in-None.ensures.did known.values known.ask (way_asks h) in
+    way_failed h (stop_or_memory c.step.new.stop) c.stopped.result (g.W.Output.given c.step.new.out) c.step.new.machine did c.stopped.ensures
 
-pub returns-in-Some-clause-ran : goal.returns-in-Some-clause-ran
-returns-in-Some-clause-ran g c known starts =
+pub returns-in-Some-end_of-clause-ran : goal.returns-in-Some-end_of-clause-ran
+returns-in-Some-end_of-clause-ran g c known starts =
     let h = c.steps.invariant.going known starts in
-    let did = c.in-Ok.ensures.did known.values known.ask (way_asks h) in
-    way_ended h c.in-Ok.flow c.in-Some.end (g.W.Output.given c.step.new.out) c.step.new.machine (sym c.end_of.ensures ∙ c.in-Some.is) did
+    let did = c.in-Some.ensures.did known.values known.ask (way_asks h) in
+    way_ended h c.in-Some.flow c.in-Some-end_of.end (g.W.Output.given c.step.new.out) c.step.new.machine (sym c.end_of.ensures ∙ c.in-Some-end_of.is) did
 
 pub steps-preserved : goal.steps-preserved
 steps-preserved g c = record {
-  same = c.in-Ok.ensures.same ∙ c.steps.invariant.same;
-  mark = c.in-Ok.ensures.mark ∙ c.steps.invariant.mark;
-  kept = kept_on c.steps.invariant.kept c.in-Ok.ensures.kept;
+  same = c.in-Some.ensures.same ∙ c.steps.invariant.same;
+  mark = c.in-Some.ensures.mark ∙ c.steps.invariant.mark;
+  kept = kept_on c.steps.invariant.kept c.in-Some.ensures.kept;
   going = λ known starts.
       let h = c.steps.invariant.going known starts in
-      let did = c.in-Ok.ensures.did known.values known.ask (way_asks h) in
-      way_on h c.in-Ok.flow (g.W.Output.given c.step.new.out) c.step.new.machine (sym c.end_of.ensures ∙ c.in_default.is) did c.in-Ok.ensures.kept;
+      let did = c.in-Some.ensures.did known.values known.ask (way_asks h) in
+      way_on h c.in-Some.flow (g.W.Output.given c.step.new.out) c.step.new.machine (sym c.end_of.ensures ∙ c.in_default.is) did c.in-Some.ensures.kept;
   enough =
       let before = c.steps.invariant.enough in
       let h = c.steps.invariant.going before.0 before.1 in
-      let did = c.in-Ok.ensures.did before.0.values before.0.ask (way_asks h) in
-      let nearer = way_nearer h c.in-Ok.flow (g.W.Output.given c.step.new.out) c.step.new.machine (sym c.end_of.ensures ∙ c.in_default.is) did in
+      let did = c.in-Some.ensures.did before.0.values before.0.ask (way_asks h) in
+      let nearer = way_nearer h c.in-Some.flow (g.W.Output.given c.step.new.out) c.step.new.machine (sym c.end_of.ensures ∙ c.in_default.is) did in
       let still = before.2 in
       let less = c.less-left.ensures in
       (before.0, before.1, omega (arith, nearer, still, less));
 }
 
-pub returns-in-Err-clause-kept : goal.returns-in-Err-clause-kept
-returns-in-Err-clause-kept g c = kept_on c.steps.invariant.kept c.in-Err.ensures.kept
+pub returns-in-None-clause-kept : goal.returns-in-None-clause-kept
+returns-in-None-clause-kept g c = kept_on c.steps.invariant.kept c.in-None.ensures.kept
 
-pub returns-in-Some-clause-kept : goal.returns-in-Some-clause-kept
-returns-in-Some-clause-kept g c = kept_on c.steps.invariant.kept c.in-Ok.ensures.kept
+pub returns-in-Some-end_of-clause-kept : goal.returns-in-Some-end_of-clause-kept
+returns-in-Some-end_of-clause-kept g c = kept_on c.steps.invariant.kept c.in-Some.ensures.kept
