@@ -13,6 +13,7 @@ pub use render::Renderer;
 pub use types::syntax::{Syntax, SyntaxBuilder};
 pub use upon_engine::callables::EngineView;
 pub use upon_engine::engine::Engine;
+pub use upon_engine::needs::Needs;
 pub use upon_engine::template::Template;
 pub use upon_engine::template_ref::TemplateRef;
 pub use upon_engine::texts::EngineTexts;

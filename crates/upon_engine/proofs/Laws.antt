@@ -19,7 +19,7 @@ use Rattle.upon_woven_spec.proofs.Weaving.{nothing}
 use Rattle.upon_woven_spec.proofs.WovenTemplates.{alone_woven}
 use Rattle.upon_engine.specs.Base.{Base, on_root, no_value}
 use Rattle.upon_engine.specs.Calls.{Call, outcome, at_depth, answered_by, on_base}
-use Rattle.upon_engine.specs.Kept.{DepthsAgree, NumbersSuffice, IncludesAlone, NamesSuffice, TemplatesSuffice, SourceStays, IsWoven, Kept}
+use Rattle.upon_engine.specs.KeepsLaws.{DepthsAgree, NumbersSuffice, IncludesAlone, NamesSuffice, TemplatesSuffice, SourceStays, IsWoven, KeepsLaws}
 
 module _ {V T : Type 0} (c : Call V T) where
   -- the laws that speak of each base
@@ -68,5 +68,5 @@ module _ {V T : Type 0} (c : Call V T) where
   woven_over (on_root root) = alone_woven c.rendering.calls c.rendering.resolve c.template (includes_left c.rendering.limit) c.name root c.from
   woven_over (no_value f) = nothing (IsRawPart c.rendering.resolve c.template) (IsWritten c.rendering.calls c.rendering.resolve c.template)
 
-  pub kept : Kept c
+  pub kept : KeepsLaws c
   kept = record { depths = depths_agree; numbered = numbers_suffice; isolated = includes_alone; names_read = names_suffice; reached = templates_suffice; source_stays = source_stays; woven = woven_over c.base }

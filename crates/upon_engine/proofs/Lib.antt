@@ -9,3 +9,7 @@ pub mod Boxed
 pub mod SetsOfNames
 pub mod NeededNames
 pub mod RenderingLaws
+pub mod IndexStarts
+pub mod Links
+pub mod SearchSteps
+pub mod Begun

@@ -24,7 +24,7 @@ use Rattle.upon_vm.specs.Reports.{IsAnyIo, Writes}
 use Rattle.upon_syntax.specs.TagReading.{IsSyntaxError}
 use Rattle.upon_compiled_spec.proofs.CompiledTree.{only, had_tree}
 use Rattle.upon_engine.specs.Answers.{AnswersText}
-use Rattle.upon_engine.specs.Engine.{engine_of}
+use Rattle.upon_engine.specs.Engine.{HoldsTemplate, engine_of}
 use Rattle.upon_engine.specs.Template.{template_of, template_source, template_syntax, template_tree}
 use Rattle.upon_engine.specs.Texts.{Stored, stored, texts_of}
 use Rattle.upon_engine.specs.Theorem.{IsTemplateOf, IsTable, rendering, meaning, Answers, Sends}
@@ -58,6 +58,12 @@ held_named (Some h) r s tree ir iss has =
     let b : stored h ≡ s = cc in
     let F : Stored → Type 0 = λ s. HasTree s.syntax s.text tree → template_of h ≡ made s.text tree in
     sym a ∙ subst F b (λ k. ap (made (template_source h)) (sym (only_held h tree k))) has
+
+-- a template that is held is there as a text
+pub holds_text : (delimiters : List DelimiterText) (s : List ℕ) (o : Option HeldTemplate)
+    → HoldsTemplate delimiters s (option_map template_of o) → option_map stored o ≡ None → ⊥
+holds_text delimiters s None holds is = holds
+holds_text delimiters s (Some h) holds is = absurd cc
 
 module _ (held : List ℕ → Option HeldTemplate) where
   abbrev pub table_held : Table

@@ -8,9 +8,12 @@ pub mod Sources
 pub mod HandsOn
 pub mod TemplateRef
 pub mod Calls
-pub mod Kept
+pub mod KeepsLaws
 pub mod Answers
 pub mod Texts
 pub mod Theorem
 pub mod Names
+pub mod IndexStarts
+pub mod Unseen
+pub mod EngineNeeds
 pub mod RenderingLaws

@@ -20,7 +20,7 @@ impl<'r, 'e> Callables for &'r Engine<'e> {
 
     fn get(&self, name: &str) -> Option<EngineCallable> {
         match self.callable(name) {
-            Some(callable) => Some(callable.sort()),
+            Some(callable) => Some(callable.kind()),
             None => None,
         }
     }

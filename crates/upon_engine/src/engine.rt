@@ -1,5 +1,5 @@
 // An engine: templates and callables by their names.
-ghost use Rattle.std.specs.Prelude.{◌≡◌, ℕ, List, Some, None, IsSome, IfOk, IfErr, OnOk, OnErr, is_some, option_map};
+ghost use Rattle.std.specs.Prelude.{◌≡◌, ℕ, List, Some, None, IsSome, IfSome, IfOk, IfErr, OnOk, OnErr, is_some, option_map};
 ghost use Rattle.std.specs.BTreeMap.{get_by_text};
 ghost use Rattle.std.specs.Cow.{cow_str_bytes};
 ghost use Rattle.upon_types.specs.Answers.{formatter, function};
@@ -48,11 +48,13 @@ pub struct Engine<'e> {
 }
 
 impl<'e> Engine<'e> {
-    /// An engine without templates and callables, with the default syntax, the default formatter, and 64 as the depth of
-    /// includes. It keeps the allocator.
+    /// Creates an engine without templates and callables, with the default syntax, the default formatter, and 64 as the
+    /// depth of includes. It keeps the allocator.
     pub fn new(alloc: Global) -> Engine<'e>
-        ensures templates { (name : List ℕ) → (engine_of (λ f. formats f) (λ f. answers f) result).templates name ≡ None }
-        ensures callables { (name : List ℕ) → (engine_of (λ f. formats f) (λ f. answers f) result).callables name ≡ None }
+        ensures templates { (name : List ℕ) → (engine_of (λ f. formats f) (λ f. answers f) result).templates name
+            ≡ None }
+        ensures callables { (name : List ℕ) → (engine_of (λ f. formats f) (λ f. answers f) result).callables name
+            ≡ None }
         ensures default_formatter { (engine_of (λ f. formats f) (λ f. answers f) result).default_formatter ≡ None }
         ensures depth { (engine_of (λ f. formats f) (λ f. answers f) result).depth ≡ 64 }
         ensures syntax { engine_syntax result ≡ default_delimiters }
@@ -69,8 +71,10 @@ impl<'e> Engine<'e> {
 
     /// The same as [`Engine::new`].
     pub fn default(alloc: Global) -> Engine<'e>
-        ensures templates { (name : List ℕ) → (engine_of (λ f. formats f) (λ f. answers f) result).templates name ≡ None }
-        ensures callables { (name : List ℕ) → (engine_of (λ f. formats f) (λ f. answers f) result).callables name ≡ None }
+        ensures templates { (name : List ℕ) → (engine_of (λ f. formats f) (λ f. answers f) result).templates name
+            ≡ None }
+        ensures callables { (name : List ℕ) → (engine_of (λ f. formats f) (λ f. answers f) result).callables name
+            ≡ None }
         ensures default_formatter { (engine_of (λ f. formats f) (λ f. answers f) result).default_formatter ≡ None }
         ensures depth { (engine_of (λ f. formats f) (λ f. answers f) result).depth ≡ 64 }
         ensures syntax { engine_syntax result ≡ default_delimiters }
@@ -78,8 +82,8 @@ impl<'e> Engine<'e> {
         Engine::new(alloc)
     }
 
-    /// Sets how deep includes may go in renderings that do not set it themselves. The template that is rendered counts as
-    /// one; 0 acts as 1.
+    /// Sets how deep includes may go in renderings that do not set it themselves. The template that is rendered counts
+    /// as one; 0 acts as 1.
     pub fn set_max_include_depth(&mut self, depth: usize)
         ensures engine { engine_of (λ f. formats f) (λ f. answers f) self.new
             ≡ record (engine_of (λ f. formats f) (λ f. answers f) self.old) { depth = depth } }
@@ -99,8 +103,9 @@ impl<'e> Engine<'e> {
 
     /// Sets what writes the values that are shown without a formatter's name.
     pub fn set_default_formatter(&mut self, formatter: Box<dyn Format>)
-        ensures engine { engine_of (λ f. formats f) (λ f. answers f) self.new
-            ≡ record (engine_of (λ f. formats f) (λ f. answers f) self.old) { default_formatter = Some (formats formatter) } }
+        ensures engine { let old = engine_of (λ f. formats f) (λ f. answers f) self.old in
+            engine_of (λ f. formats f) (λ f. answers f) self.new
+            ≡ record old { default_formatter = Some (formats formatter) } }
         ensures syntax { engine_syntax self.new ≡ engine_syntax self.old }
     {
         self.default_formatter = Some(formatter);
@@ -120,7 +125,7 @@ impl<'e> Engine<'e> {
 }
 
 impl<'e> Engine<'e> {
-    /// The template of a text under the engine's syntax. A text that has no tree is refused, with its first fault; out of
+    /// Compiles a text under the engine's syntax. A text that has no tree is refused, with its first fault; out of
     /// memory has the kind `OutOfMemory`. A text that had a tree before `for .. else` has that tree.
     pub fn compile<'s>(&self, source: CowStr<'s>) -> Result<Template<'s>>
         ensures source { IfOk result (λ t. template_source t ≡ cow_str_bytes source.entry) }
@@ -142,30 +147,29 @@ impl<'e> Engine<'e> {
         compile::with_searcher(self.alloc, &self.searcher, source)
     }
 
-    /// Compiles a template and puts it under a name, in place of one that is there. Where the text has no tree or memory is
-    /// out, the engine stays as it was; the fault is as for [`Engine::compile`], with the template's name. A text that had a
-    /// tree before `for .. else` has that tree.
+    /// Compiles a template and puts it under a name, in place of one that is there. If the text has no tree or memory
+    /// is out, the engine stays as it was; the fault is as for [`Engine::compile`], with the template's name. A text
+    /// that had a tree before `for .. else` has that tree.
     pub fn add_template(&mut self, name: CowStr<'_>, source: CowStr<'e>) -> Result<()>
         ensures added { OnOk result
-            (HoldsTemplate (engine_syntax self.old) (cow_str_bytes source.entry) ((engine_of (λ f. formats f) (λ f. answers f) self.new).templates (cow_str_bytes name.entry))) }
-        ensures others { OthersStay
-            (cow_str_bytes name.entry)
+            (HoldsTemplate (engine_syntax self.old) (cow_str_bytes source.entry)
+            ((engine_of (λ f. formats f) (λ f. answers f) self.new).templates (cow_str_bytes name.entry))) }
+        ensures others { OthersStay (cow_str_bytes name.entry)
             (engine_of (λ f. formats f) (λ f. answers f) self.old).templates
             (engine_of (λ f. formats f) (λ f. answers f) self.new).templates }
-        ensures refused { OnErr result
-            (AllStay (engine_of (λ f. formats f) (λ f. answers f) self.old).templates (engine_of (λ f. formats f) (λ f. answers f) self.new).templates) }
+        ensures refused { OnErr result (AllStay (engine_of (λ f. formats f) (λ f. answers f) self.old).templates
+            (engine_of (λ f. formats f) (λ f. answers f) self.new).templates) }
         ensures fault { IfErr result
             (IsSyntaxErrorOf (cow_str_bytes name.entry) (engine_syntax self.old) (cow_str_bytes source.entry)) }
-        ensures no_tree { IfErr result
-            (λ e. (fault_of e).kind ≡ syntax
+        ensures no_tree { IfErr result (λ e. (fault_of e).kind ≡ syntax
             → (tree : Statements) → HasTree (engine_syntax self.old) (cow_str_bytes source.entry) tree → ⊥) }
         ensures kept { OnOk result
             (KeepsOldTemplate (engine_syntax self.old) (cow_str_bytes source.entry)
             ((engine_of (λ f. formats f) (λ f. answers f) self.new).templates (cow_str_bytes name.entry))) }
         ensures accepted { IfErr result
             (λ e. (fault_of e).kind ≡ syntax → HadNoTree (engine_syntax self.old) (cow_str_bytes source.entry)) }
-        ensures beside { record (engine_of (λ f. formats f) (λ f. answers f) self.new) { templates = (engine_of (λ f. formats f) (λ f. answers f) self.old).templates }
-            ≡ engine_of (λ f. formats f) (λ f. answers f) self.old }
+        ensures beside { let old = engine_of (λ f. formats f) (λ f. answers f) self.old in
+            record (engine_of (λ f. formats f) (λ f. answers f) self.new) { templates = old.templates } ≡ old }
         ensures syntax { engine_syntax self.new ≡ engine_syntax self.old }
     {
         let template = compile::with_name(self.alloc, &self.searcher, name.as_str(), source)?;
@@ -179,16 +183,16 @@ impl<'e> Engine<'e> {
         }
     }
 
-    /// Takes a template away. The answer is whether there was one of this name.
+    /// Removes a template. Returns whether there was one of this name.
     pub fn remove_template(&mut self, name: &str) -> bool
         ensures removed { (engine_of (λ f. formats f) (λ f. answers f) self.new).templates name.now ≡ None }
-        ensures was_there { result ≡ is_some ((engine_of (λ f. formats f) (λ f. answers f) self.old).templates name.now) }
-        ensures others { OthersStay
-            name.now
+        ensures was_there { result
+            ≡ is_some ((engine_of (λ f. formats f) (λ f. answers f) self.old).templates name.now) }
+        ensures others { OthersStay name.now
             (engine_of (λ f. formats f) (λ f. answers f) self.old).templates
             (engine_of (λ f. formats f) (λ f. answers f) self.new).templates }
-        ensures beside { record (engine_of (λ f. formats f) (λ f. answers f) self.new) { templates = (engine_of (λ f. formats f) (λ f. answers f) self.old).templates }
-            ≡ engine_of (λ f. formats f) (λ f. answers f) self.old }
+        ensures beside { let old = engine_of (λ f. formats f) (λ f. answers f) self.old in
+            record (engine_of (λ f. formats f) (λ f. answers f) self.new) { templates = old.templates } ≡ old }
         ensures syntax { engine_syntax self.new ≡ engine_syntax self.old }
     {
         self.templates.remove(name).is_some()
@@ -196,15 +200,35 @@ impl<'e> Engine<'e> {
 
     /// The template of a name.
     pub(crate) fn held(&self, name: &str) -> Option<&Template<'e>>
-        ensures { option_map (λ t. template_of t.now) result ≡ (engine_of (λ f. formats f) (λ f. answers f) self.now).templates name.now }
+        ensures { option_map (λ t. template_of t.now) result
+            ≡ (engine_of (λ f. formats f) (λ f. answers f) self.now).templates name.now }
     {
         self.templates.get(name)
+    }
+
+    /// Returns the template of a name, with the name as the engine keeps it.
+    pub(crate) fn held_with_name(&self, name: &str) -> Option<(&str, &Template<'e>)>
+        ensures template { option_map (λ p. template_of p.1.now) result
+            ≡ (engine_of (λ f. formats f) (λ f. answers f) self.now).templates name.now }
+        ensures name { IfSome result (λ p. p.0.now ≡ name.now) }
+    {
+        match self.templates.get_key_value(name) {
+            Some((kept, template)) => Some((kept.as_str(), template)),
+            None => None,
+        }
+    }
+
+    /// The templates by their names.
+    pub(crate) fn templates(&self) -> &BTreeMap<String, Template<'e>>
+        ensures { result.now ≡ self.now.templates }
+    {
+        &self.templates
     }
 }
 
 impl Callable {
     /// Whether it is a formatter or a function.
-    pub(crate) fn sort(&self) -> EngineCallable
+    pub(crate) fn kind(&self) -> EngineCallable
         ensures { result ≡ sort_of (callable_of (λ f. formats f) (λ f. answers f) self.now) }
     {
         match self {
@@ -215,64 +239,68 @@ impl Callable {
 }
 
 impl<'e> Engine<'e> {
-    /// Puts a formatter under a name, in place of a callable that is there. The answer is what that was. Where memory is out,
-    /// the engine stays as it was.
+    /// Puts a formatter under a name, in place of a callable that is there. Returns which kind that was. If memory is
+    /// out, the engine stays as it was.
     pub fn add_formatter(
         &mut self,
         name: CowStr<'_>,
         added: Box<dyn Format>,
     ) -> std::result::Result<Option<EngineCallable>, AllocError>
-        ensures added { OnOk result ((engine_of (λ f. formats f) (λ f. answers f) self.new).callables (cow_str_bytes name.entry) ≡ Some (formatter (formats added))) }
-        ensures replaced { IfOk result (λ old. old ≡ option_map sort_of ((engine_of (λ f. formats f) (λ f. answers f) self.old).callables (cow_str_bytes name.entry))) }
-        ensures others { OthersStay
-            (cow_str_bytes name.entry)
+        ensures added { OnOk result
+            ((engine_of (λ f. formats f) (λ f. answers f) self.new).callables (cow_str_bytes name.entry)
+            ≡ Some (formatter (formats added))) }
+        ensures replaced { IfOk result (λ old. old ≡ option_map sort_of
+            ((engine_of (λ f. formats f) (λ f. answers f) self.old).callables (cow_str_bytes name.entry))) }
+        ensures others { OthersStay (cow_str_bytes name.entry)
             (engine_of (λ f. formats f) (λ f. answers f) self.old).callables
             (engine_of (λ f. formats f) (λ f. answers f) self.new).callables }
-        ensures refused { OnErr result
-            (AllStay (engine_of (λ f. formats f) (λ f. answers f) self.old).callables (engine_of (λ f. formats f) (λ f. answers f) self.new).callables) }
-        ensures beside { record (engine_of (λ f. formats f) (λ f. answers f) self.new) { callables = (engine_of (λ f. formats f) (λ f. answers f) self.old).callables }
-            ≡ engine_of (λ f. formats f) (λ f. answers f) self.old }
+        ensures refused { OnErr result (AllStay (engine_of (λ f. formats f) (λ f. answers f) self.old).callables
+            (engine_of (λ f. formats f) (λ f. answers f) self.new).callables) }
+        ensures beside { let old = engine_of (λ f. formats f) (λ f. answers f) self.old in
+            record (engine_of (λ f. formats f) (λ f. answers f) self.new) { callables = old.callables } ≡ old }
         ensures syntax { engine_syntax self.new ≡ engine_syntax self.old }
     {
         self.put(name, Callable::Formatter(added))
     }
 
-    /// Puts a function under a name, in place of a callable that is there. The answer is what that was. Where memory is out,
-    /// the engine stays as it was.
+    /// Puts a function under a name, in place of a callable that is there. Returns which kind that was. If memory is
+    /// out, the engine stays as it was.
     pub fn add_function(
         &mut self,
         name: CowStr<'_>,
         added: Box<dyn Function>,
     ) -> std::result::Result<Option<EngineCallable>, AllocError>
-        ensures added { OnOk result ((engine_of (λ f. formats f) (λ f. answers f) self.new).callables (cow_str_bytes name.entry) ≡ Some (function (answers added))) }
-        ensures replaced { IfOk result (λ old. old ≡ option_map sort_of ((engine_of (λ f. formats f) (λ f. answers f) self.old).callables (cow_str_bytes name.entry))) }
-        ensures others { OthersStay
-            (cow_str_bytes name.entry)
+        ensures added { OnOk result
+            ((engine_of (λ f. formats f) (λ f. answers f) self.new).callables (cow_str_bytes name.entry)
+            ≡ Some (function (answers added))) }
+        ensures replaced { IfOk result (λ old. old ≡ option_map sort_of
+            ((engine_of (λ f. formats f) (λ f. answers f) self.old).callables (cow_str_bytes name.entry))) }
+        ensures others { OthersStay (cow_str_bytes name.entry)
             (engine_of (λ f. formats f) (λ f. answers f) self.old).callables
             (engine_of (λ f. formats f) (λ f. answers f) self.new).callables }
-        ensures refused { OnErr result
-            (AllStay (engine_of (λ f. formats f) (λ f. answers f) self.old).callables (engine_of (λ f. formats f) (λ f. answers f) self.new).callables) }
-        ensures beside { record (engine_of (λ f. formats f) (λ f. answers f) self.new) { callables = (engine_of (λ f. formats f) (λ f. answers f) self.old).callables }
-            ≡ engine_of (λ f. formats f) (λ f. answers f) self.old }
+        ensures refused { OnErr result (AllStay (engine_of (λ f. formats f) (λ f. answers f) self.old).callables
+            (engine_of (λ f. formats f) (λ f. answers f) self.new).callables) }
+        ensures beside { let old = engine_of (λ f. formats f) (λ f. answers f) self.old in
+            record (engine_of (λ f. formats f) (λ f. answers f) self.new) { callables = old.callables } ≡ old }
         ensures syntax { engine_syntax self.new ≡ engine_syntax self.old }
     {
         self.put(name, Callable::Function(added))
     }
 
-    /// Takes a formatter or a function away. The answer is which of both was there, or `None`.
+    /// Removes a formatter or a function. Returns which of both was there, or `None`.
     pub fn remove_callable(&mut self, name: &str) -> Option<EngineCallable>
         ensures removed { (engine_of (λ f. formats f) (λ f. answers f) self.new).callables name.now ≡ None }
-        ensures was_there { result ≡ option_map sort_of ((engine_of (λ f. formats f) (λ f. answers f) self.old).callables name.now) }
-        ensures others { OthersStay
-            name.now
+        ensures was_there { result
+            ≡ option_map sort_of ((engine_of (λ f. formats f) (λ f. answers f) self.old).callables name.now) }
+        ensures others { OthersStay name.now
             (engine_of (λ f. formats f) (λ f. answers f) self.old).callables
             (engine_of (λ f. formats f) (λ f. answers f) self.new).callables }
-        ensures beside { record (engine_of (λ f. formats f) (λ f. answers f) self.new) { callables = (engine_of (λ f. formats f) (λ f. answers f) self.old).callables }
-            ≡ engine_of (λ f. formats f) (λ f. answers f) self.old }
+        ensures beside { let old = engine_of (λ f. formats f) (λ f. answers f) self.old in
+            record (engine_of (λ f. formats f) (λ f. answers f) self.new) { callables = old.callables } ≡ old }
         ensures syntax { engine_syntax self.new ≡ engine_syntax self.old }
     {
         let old = self.callables.remove(name);
-        sort_of_old(old)
+        kind_of_old(old)
     }
 
     // Puts a callable under a name.
@@ -281,21 +309,23 @@ impl<'e> Engine<'e> {
         name: CowStr<'_>,
         callable: Callable,
     ) -> std::result::Result<Option<EngineCallable>, AllocError>
-        ensures added { OnOk result ((engine_of (λ f. formats f) (λ f. answers f) self.new).callables (cow_str_bytes name.entry) ≡ Some (callable_of (λ f. formats f) (λ f. answers f) callable)) }
-        ensures replaced { IfOk result (λ old. old ≡ option_map sort_of ((engine_of (λ f. formats f) (λ f. answers f) self.old).callables (cow_str_bytes name.entry))) }
-        ensures others { OthersStay
-            (cow_str_bytes name.entry)
+        ensures added { OnOk result
+            ((engine_of (λ f. formats f) (λ f. answers f) self.new).callables (cow_str_bytes name.entry)
+            ≡ Some (callable_of (λ f. formats f) (λ f. answers f) callable)) }
+        ensures replaced { IfOk result (λ old. old ≡ option_map sort_of
+            ((engine_of (λ f. formats f) (λ f. answers f) self.old).callables (cow_str_bytes name.entry))) }
+        ensures others { OthersStay (cow_str_bytes name.entry)
             (engine_of (λ f. formats f) (λ f. answers f) self.old).callables
             (engine_of (λ f. formats f) (λ f. answers f) self.new).callables }
-        ensures refused { OnErr result
-            (AllStay (engine_of (λ f. formats f) (λ f. answers f) self.old).callables (engine_of (λ f. formats f) (λ f. answers f) self.new).callables) }
-        ensures beside { record (engine_of (λ f. formats f) (λ f. answers f) self.new) { callables = (engine_of (λ f. formats f) (λ f. answers f) self.old).callables }
-            ≡ engine_of (λ f. formats f) (λ f. answers f) self.old }
+        ensures refused { OnErr result (AllStay (engine_of (λ f. formats f) (λ f. answers f) self.old).callables
+            (engine_of (λ f. formats f) (λ f. answers f) self.new).callables) }
+        ensures beside { let old = engine_of (λ f. formats f) (λ f. answers f) self.old in
+            record (engine_of (λ f. formats f) (λ f. answers f) self.new) { callables = old.callables } ≡ old }
         ensures syntax { engine_syntax self.new ≡ engine_syntax self.old }
     {
         let name = name.into_owned(self.alloc)?;
         match self.callables.insert(name, callable) {
-            Ok(old) => Ok(sort_of_old(old)),
+            Ok(old) => Ok(kind_of_old(old)),
             Err(error) => Err(error.into()),
         }
     }
@@ -316,11 +346,11 @@ impl<'e> Engine<'e> {
 }
 
 // What a callable was that another one replaced.
-fn sort_of_old(old: Option<Callable>) -> Option<EngineCallable>
+fn kind_of_old(old: Option<Callable>) -> Option<EngineCallable>
     ensures { result ≡ option_map (λ c. sort_of (callable_of (λ f. formats f) (λ f. answers f) c)) old }
 {
     match old {
-        Some(callable) => Some(callable.sort()),
+        Some(callable) => Some(callable.kind()),
         None => None,
     }
 }

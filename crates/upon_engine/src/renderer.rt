@@ -10,7 +10,7 @@ ghost use Rattle.upon_render.specs.Environment.{Root};
 ghost use Rattle.upon_engine.specs.Base.{IsContextOf, on_root};
 ghost use Rattle.upon_engine.specs.Calls.{call_of, outcome, engine_in, values_in, templates_in, template_in, name_in, limit_in};
 ghost use Rattle.upon_engine.specs.Engine.{engine_depth};
-ghost use Rattle.upon_engine.specs.Kept.{Kept};
+ghost use Rattle.upon_engine.specs.KeepsLaws.{KeepsLaws};
 ghost use Rattle.upon_engine.specs.Sources.{base_in, engine_of_templates, source_in, value_in};
 
 use crate::engine::Engine;
@@ -31,8 +31,8 @@ use upon_vm::report::reported;
 use upon_vm::run::Ending;
 use upon_vm_calls::callables::Callables;
 
-/// A rendering before it is made: a template, what its names call, what it is rendered on, where the templates come from
-/// that it includes, and how deep includes may go.
+/// A rendering before it is made: a template, what its names call, what it is rendered on, where the templates that it
+/// includes come from, and how deep includes may go.
 #[derive(Drop)]
 pub struct Renderer<'r, E, V, T> {
     pub(crate) alloc: Global,
@@ -45,8 +45,8 @@ pub struct Renderer<'r, E, V, T> {
 }
 
 impl<'s> Template<'s> {
-    /// A rendering on what serde writes of the context, with the engine's callables, templates and depth. It is not made
-    /// yet; a context that is no value is reported in place of a text, before anything is written.
+    /// Returns a rendering on what serde writes of the context, with the engine's callables, templates and depth. It is
+    /// not made yet; a context that is no value is reported in place of a text, before anything is written.
     pub fn render<'r, 'e, S: Serialize + Drop>(
         &'r self,
         engine: &'r Engine<'e>,
@@ -63,7 +63,7 @@ impl<'s> Template<'s> {
         self.rendering(engine, SerdeContext { value })
     }
 
-    /// A rendering on a value, with the engine's callables, templates and depth. It is not made yet.
+    /// Returns a rendering on a value, with the engine's callables, templates and depth. It is not made yet.
     pub fn render_from<'r, 'e>(
         &'r self,
         engine: &'r Engine<'e>,
@@ -79,7 +79,7 @@ impl<'s> Template<'s> {
         self.rendering(engine, Context { value })
     }
 
-    /// A rendering on a source of values, with the engine's callables, templates and depth. It is not made yet.
+    /// Returns a rendering on a source of values, with the engine's callables, templates and depth. It is not made yet.
     pub fn render_from_fn<'r, 'e, S: ValueSource>(
         &'r self,
         engine: &'r Engine<'e>,
@@ -196,14 +196,16 @@ impl<'r, E: Drop, V: Drop, T: Drop> Renderer<'r, E, V, T> {
 }
 
 impl<'r, E: Callables + Drop, V: Values<'r, T>, T: TemplateSource<'r>> Renderer<'r, E, V, T> {
-    /// The text that the template means. There is no text with a fault: it is the one with which the meaning ends, or says
-    /// that memory is out.
+    /// Renders the text that the template means. There is no text with a fault: it is the one with which the meaning
+    /// ends, or says that memory is out.
     pub fn to_string(self) -> error::Result<String>
         ensures means { AnswersText
             (limit_in self.entry)
-            (outcome (call_of E.callables E.default_formatter V.asks V.root V.values_state T.resolve T.template_state self.entry))
+            (outcome (call_of E.callables E.default_formatter V.asks V.root V.values_state
+            T.resolve T.template_state self.entry))
             result }
-        ensures laws { Kept (call_of E.callables E.default_formatter V.asks V.root V.values_state T.resolve T.template_state self.entry) }
+        ensures laws { KeepsLaws (call_of E.callables E.default_formatter V.asks V.root V.values_state
+            T.resolve T.template_state self.entry) }
     {
         let alloc = self.alloc;
         let limit = self.limit;
@@ -215,9 +217,9 @@ impl<'r, E: Callables + Drop, V: Values<'r, T>, T: TemplateSource<'r>> Renderer<
         }
     }
 
-    /// Writes the text that the template means, up to its fault. Where the output does not receive a text whole, the fault is
-    /// its error, of the kind `Io`, or says that memory is out. Where the kind is `Io`, the fault holds the error that the
-    /// output's last failed write answered; where it is not, no write failed.
+    /// Writes the text that the template means, up to its fault. If the output does not receive a text whole, the fault
+    /// is its error, of the kind `Io`, or says that memory is out. If the kind is `Io`, the fault holds the error that
+    /// the output's last failed write answered; if it is not, no write failed.
     pub fn to_output<O: Output>(self, out: &mut O) -> error::Result<()>
         ensures means { Writes
             (limit_in self.entry)
@@ -225,16 +227,19 @@ impl<'r, E: Callables + Drop, V: Values<'r, T>, T: TemplateSource<'r>> Renderer<
             result
             (O.given out.old)
             (O.given out.new)
-            (outcome (call_of E.callables E.default_formatter V.asks V.root V.values_state T.resolve T.template_state self.entry)) }
+            (outcome (call_of E.callables E.default_formatter V.asks V.root V.values_state
+            T.resolve T.template_state self.entry)) }
         ensures same { O.holds out.new ≡ O.holds out.old }
         ensures mark { WriteMarks result (O.mark out.old) (O.mark out.new) }
-        ensures laws { Kept (call_of E.callables E.default_formatter V.asks V.root V.values_state T.resolve T.template_state self.entry) }
+        ensures laws { KeepsLaws (call_of E.callables E.default_formatter V.asks V.root V.values_state
+            T.resolve T.template_state self.entry) }
     {
         let (result, _, _) = self.to_output_and_sources(out);
         result
     }
 
-    /// The same to a writer, by a [`LentWriter`]. Where a write fails or takes nothing, the fault is of the kind `Io`.
+    /// Writes the same to a writer, by a [`LentWriter`]. If a write fails or takes nothing, the fault is of the kind
+    /// `Io`.
     pub fn to_writer<W: io::Write>(self, writer: &mut W) -> error::Result<()>
         ensures means { Writes
             (limit_in self.entry)
@@ -242,15 +247,18 @@ impl<'r, E: Callables + Drop, V: Values<'r, T>, T: TemplateSource<'r>> Renderer<
             result
             (W.contents writer.old)
             (W.contents writer.new)
-            (outcome (call_of E.callables E.default_formatter V.asks V.root V.values_state T.resolve T.template_state self.entry)) }
-        ensures laws { Kept (call_of E.callables E.default_formatter V.asks V.root V.values_state T.resolve T.template_state self.entry) }
+            (outcome (call_of E.callables E.default_formatter V.asks V.root V.values_state
+            T.resolve T.template_state self.entry)) }
+        ensures laws { KeepsLaws (call_of E.callables E.default_formatter V.asks V.root V.values_state
+            T.resolve T.template_state self.entry) }
     {
         let mut out = LentWriter::new(writer);
         self.to_output(&mut out)
     }
 
-    /// Writes like `to_output`, and gives back what it was rendered on and the source of templates, as the rendering leaves
-    /// them. Where it ended by itself, well or with a fault of the template, they are in the next states of the meaning.
+    /// Writes like `to_output`, and returns what it was rendered on and the source of templates, as the rendering
+    /// leaves them. If it ended by itself, well or with a fault of the template, they are in the next states of the
+    /// meaning.
     pub fn to_output_and_sources<O: Output>(self, out: &mut O) -> (error::Result<()>, V, T)
         ensures means { WritesAndLeaves
             (limit_in self.entry)
@@ -258,16 +266,19 @@ impl<'r, E: Callables + Drop, V: Values<'r, T>, T: TemplateSource<'r>> Renderer<
             result.0
             (O.given out.old)
             (O.given out.new)
-            (outcome (call_of E.callables E.default_formatter V.asks V.root V.values_state T.resolve T.template_state self.entry))
+            (outcome (call_of E.callables E.default_formatter V.asks V.root V.values_state
+            T.resolve T.template_state self.entry))
             (states (V.values_state result.1) (T.template_state result.2)) }
         ensures same { O.holds out.new ≡ O.holds out.old }
         ensures mark { WriteMarks result.0 (O.mark out.old) (O.mark out.new) }
         ensures asks { V.asks result.1 ≡ V.asks (values_in self.entry) }
-        ensures root { (r : Root) → V.root (values_in self.entry) ≡ on_root r → V.root result.1 ≡ V.root (values_in self.entry) }
+        ensures root { (r : Root) → V.root (values_in self.entry) ≡ on_root r
+            → V.root result.1 ≡ V.root (values_in self.entry) }
         ensures held { V.holds result.1 ≡ V.holds (values_in self.entry) }
         ensures resolve { T.resolve result.2 ≡ T.resolve (templates_in self.entry) }
         ensures templates_held { T.holds result.2 ≡ T.holds (templates_in self.entry) }
-        ensures laws { Kept (call_of E.callables E.default_formatter V.asks V.root V.values_state T.resolve T.template_state self.entry) }
+        ensures laws { KeepsLaws (call_of E.callables E.default_formatter V.asks V.root V.values_state
+            T.resolve T.template_state self.entry) }
     {
         let alloc = self.alloc;
         let limit = self.limit;
@@ -283,10 +294,12 @@ impl<'r, E: Callables + Drop, V: Values<'r, T>, T: TemplateSource<'r>> Renderer<
             result.0
             (O.given out.old)
             (O.given out.new)
-            (outcome (call_of E.callables E.default_formatter V.asks V.root V.values_state T.resolve T.template_state self.entry))
+            (outcome (call_of E.callables E.default_formatter V.asks V.root V.values_state
+            T.resolve T.template_state self.entry))
             (states (V.values_state result.1) (T.template_state result.2)) }
         ensures asks { V.asks result.1 ≡ V.asks (values_in self.entry) }
-        ensures root { (r : Root) → V.root (values_in self.entry) ≡ on_root r → V.root result.1 ≡ V.root (values_in self.entry) }
+        ensures root { (r : Root) → V.root (values_in self.entry) ≡ on_root r
+            → V.root result.1 ≡ V.root (values_in self.entry) }
         ensures held { V.holds result.1 ≡ V.holds (values_in self.entry) }
         ensures resolve { T.resolve result.2 ≡ T.resolve (templates_in self.entry) }
         ensures templates_held { T.holds result.2 ≡ T.holds (templates_in self.entry) }

@@ -78,7 +78,7 @@ fn block_begins(binds: bool, count: usize) -> usize
 }
 
 /// That number after an instruction at an offset.
-fn count_after(name: &str, at: usize, instr: &Instr, count: usize) -> usize
+pub(crate) fn count_after(name: &str, at: usize, instr: &Instr, count: usize) -> usize
     requires { count < 2 ^ 64 - 1 }
     ensures { result ≡ count_after name.now at (instr_of instr.now) count }
 {
@@ -112,7 +112,11 @@ pub(crate) fn insert_all<'n>(
 }
 
 /// Puts a name into a set where it is so.
-fn insert_if<'n>(names: &mut BTreeSet<&'n str>, name: &'n str, so: bool) -> Result<(), AllocError>
+pub(crate) fn insert_if<'n>(
+    names: &mut BTreeSet<&'n str>,
+    name: &'n str,
+    so: bool,
+) -> Result<(), AllocError>
     ensures { OnOk result ((other : List ℕ)
         → has names.new other ≡ (has names.old other || (so && bytes_eq other name.now))) }
 {

@@ -26,14 +26,15 @@ pub struct TemplateRef<'r, 'e> {
 }
 
 impl<'e> Engine<'e> {
-    /// The template of a name, or `None` where there is none.
-    pub fn get_template<'r>(&'r self, name: &'r str) -> Option<TemplateRef<'r, 'e>>
-        ensures template { option_map ref_template result ≡ (engine_of (λ f. formats f) (λ f. answers f) self.now).templates name.now }
+    /// Returns the template of a name, or `None` if there is none. The name need not live as long as the template does.
+    pub fn get_template<'r>(&'r self, name: &str) -> Option<TemplateRef<'r, 'e>>
+        ensures template { option_map ref_template result
+            ≡ (engine_of (λ f. formats f) (λ f. answers f) self.now).templates name.now }
         ensures engine { IfSome result (λ t. ref_engine t ≡ self.now) }
         ensures name { IfSome result (λ t. ref_name t ≡ name.now) }
     {
-        match self.held(name) {
-            Some(template) => Some(TemplateRef {
+        match self.held_with_name(name) {
+            Some((name, template)) => Some(TemplateRef {
                 engine: self,
                 name,
                 template,
@@ -42,14 +43,15 @@ impl<'e> Engine<'e> {
         }
     }
 
-    /// The template of a name that is there.
-    pub fn template<'r>(&'r self, name: &'r str) -> TemplateRef<'r, 'e>
+    /// Returns the template of a name that is there. The name need not live as long as the template does.
+    pub fn template<'r>(&'r self, name: &str) -> TemplateRef<'r, 'e>
         requires { IsSome ((engine_of (λ f. formats f) (λ f. answers f) self.now).templates name.now) }
-        ensures template { Some (ref_template result) ≡ (engine_of (λ f. formats f) (λ f. answers f) self.now).templates name.now }
+        ensures template { Some (ref_template result)
+            ≡ (engine_of (λ f. formats f) (λ f. answers f) self.now).templates name.now }
         ensures engine { ref_engine result ≡ self.now }
         ensures name { ref_name result ≡ name.now }
     {
-        let Some(template) = self.held(name) else {
+        let Some((name, template)) = self.held_with_name(name) else {
             unreachable!()
         };
         TemplateRef {
@@ -68,8 +70,8 @@ impl<'r, 'e> TemplateRef<'r, 'e> {
         self.template.source()
     }
 
-    /// A rendering on what serde writes of the context, with the engine's callables, templates and depth. It is not made
-    /// yet; a context that is no value is reported in place of a text, before anything is written.
+    /// Returns a rendering on what serde writes of the context, with the engine's callables, templates and depth. It is
+    /// not made yet; a context that is no value is reported in place of a text, before anything is written.
     pub fn render<S: Serialize + Drop>(
         self,
         context: S,
@@ -87,7 +89,7 @@ impl<'r, 'e> TemplateRef<'r, 'e> {
         }
     }
 
-    /// A rendering on a value, with the engine's callables, templates and depth. It is not made yet.
+    /// Returns a rendering on a value, with the engine's callables, templates and depth. It is not made yet.
     pub fn render_from(
         self,
         value: &'r Value,
@@ -105,7 +107,7 @@ impl<'r, 'e> TemplateRef<'r, 'e> {
         }
     }
 
-    /// A rendering on a source of values, with the engine's callables, templates and depth. It is not made yet.
+    /// Returns a rendering on a source of values, with the engine's callables, templates and depth. It is not made yet.
     pub fn render_from_fn<S: ValueSource>(
         self,
         source: S,

@@ -1,5 +1,5 @@
 // The theorem: what rendering a text answers, by texts and trees alone.
-ghost use Rattle.std.specs.Prelude.{◌≡◌, None, Some, IsErr, IsNone, IsSomeAnd, IfErr};
+ghost use Rattle.std.specs.Prelude.{◌≡◌, ◌↔◌, None, Some, IsErr, IsNone, IsSomeAnd, IfErr};
 ghost use Rattle.upon_types.specs.Tree.{Statements};
 ghost use Rattle.upon_types.specs.View.{view};
 ghost use Rattle.upon_language_spec.specs.Grammar.{HasTree};
@@ -35,8 +35,8 @@ impl<'e> Engine<'e> {
         ensures means { let engine = texts_of (λ f. formats f) (λ f. answers f) self.now in
             (held : Stored) (tree : Statements) → engine.texts name.now ≡ Some held → HasTree held.syntax held.text tree
             → IsSomeAnd result (Answers engine (Some name.now) held.text tree (view value.now)) }
-        // If none is, there is no answer.
-        ensures absent { (texts_of (λ f. formats f) (λ f. answers f) self.now).texts name.now ≡ None → IsNone result }
+        // If none is, and only then, there is no answer.
+        ensures absent { IsNone result ↔ ((texts_of (λ f. formats f) (λ f. answers f) self.now).texts name.now ≡ None) }
     {
         let template = self.get_template(name)?;
         Some(template.render_from(value).to_string())
@@ -78,8 +78,8 @@ impl<'e> Engine<'e> {
             (held : Stored) (tree : Statements) → engine.texts name.now ≡ Some held → HasTree held.syntax held.text tree
             → IsSomeAnd result (λ r.
             Sends engine (Some name.now) held.text tree (view value.now) r (W.contents out.old) (W.contents out.new)) }
-        // If none is, there is no answer.
-        ensures absent { (texts_of (λ f. formats f) (λ f. answers f) self.now).texts name.now ≡ None → IsNone result }
+        // If none is, and only then, there is no answer.
+        ensures absent { IsNone result ↔ ((texts_of (λ f. formats f) (λ f. answers f) self.now).texts name.now ≡ None) }
         // And then nothing is written.
         ensures unwritten { (texts_of (λ f. formats f) (λ f. answers f) self.now).texts name.now ≡ None
             → W.contents out.new ≡ W.contents out.old }

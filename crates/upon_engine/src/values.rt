@@ -56,7 +56,9 @@ pub trait Values<'r, T: TemplateSource<'r>>: Drop {
             result.0
             (W.given out.old)
             (W.given out.new)
-            (outcome_within (calls_of (C.callables callables.now) (C.default_formatter callables.now) (asks self)) (T.resolve templates) running.entry.left t (option_map (λ name. name.now) running.entry.name) (root self) (states (values_state self) (T.template_state templates)))
+            (outcome_within (calls_of (C.callables callables.now) (C.default_formatter callables.now) (asks self))
+            (T.resolve templates) running.entry.left t (option_map (λ name. name.now) running.entry.name) (root self)
+            (states (values_state self) (T.template_state templates)))
             (states (values_state result.1) (T.template_state result.2)) }
         ensures asks { asks result.1 ≡ asks self }
         ensures root { (r : Root) → root self ≡ on_root r → root result.1 ≡ root self }

@@ -67,7 +67,7 @@ IsWoven c =
     (outcome c).text
 
 -- all of these
-pub record Kept {V T : Type 0} (c : Call V T) : Type 0 where
+pub record KeepsLaws {V T : Type 0} (c : Call V T) : Type 0 where
   pub depths : DepthsAgree c
   pub numbered : NumbersSuffice c
   pub isolated : IncludesAlone c

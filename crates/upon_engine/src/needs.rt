@@ -1,0 +1,375 @@
+// What a template of an engine needs: names of its context and other templates, by a search from template to template.
+ghost use Rattle.std.specs.Prelude.{◌≡◌, ◌⊎◌, ◌↔◌, ◌≤◌, ◌+◌, ◌||◌, ◌&&◌, ◌∷◌, ◌++◌, [], if◌then◌else◌, ℕ, List, Bool, Contains, IfOk, OnOk, IsSomeAnd, IsNone, None, Some, is_some, length, option_map, true, bytes_eq};
+ghost use Rattle.std.specs.List.{list_any};
+ghost use Rattle.upon_types.specs.Tree.{Statements};
+ghost use Rattle.upon_meaning_spec.specs.Engine.{Template as TemplateMeant};
+ghost use Rattle.upon_meaning_spec.specs.Includes.{Reaches};
+ghost use Rattle.upon_meaning_spec.specs.Missing.{Missing};
+ghost use Rattle.upon_meaning_spec.specs.Needs.{a_name, Needs as NeedsStart, NeedsAll, NeedsName, StatementsBegin};
+ghost use Rattle.upon_machine_spec.specs.ProgramNames.{Lists};
+ghost use Rattle.upon_engine.specs.Engine.{engine_of};
+ghost use Rattle.upon_engine.specs.EngineNeeds.{needed_names, reached_templates, missing_names, needs_whole, table_in, start_of, link, Linked, HeldBegins, OneBegins, Searched, Marked};
+ghost use Rattle.upon_engine.specs.Names.{texts, has, Rise};
+ghost use Rattle.upon_engine.specs.Template.{template_of, template_tree};
+ghost use Rattle.upon_engine.specs.Unseen.{unseen};
+
+use crate::engine::Engine;
+use crate::starts::PathStart;
+use crate::template::Template;
+use crate::template_names::{ascending, insert_all, insert_if};
+use std::alloc::AllocError;
+use std::collections::{BTreeMap, BTreeSet};
+
+/// What a template of an engine needs: names of its context, and templates.
+#[derive(Drop)]
+pub struct Needs<'n> {
+    names: Vec<&'n str>,
+    templates: Vec<&'n str>,
+    missing: Vec<&'n str>,
+    whole: bool,
+}
+
+/// Which links from template to template a search follows.
+#[derive(Clone, Copy)]
+pub(crate) enum Links<'n> {
+    /// Each include.
+    All,
+    /// Those without a value outside of what binds such a path.
+    Passing(PathStart<'n>),
+}
+
+impl<'n> Needs<'n> {
+    /// Returns the names that the context must have, in ascending order, each once.
+    pub fn names(&self) -> &[&'n str]
+        ensures { texts result.now ≡ needed_names self.now }
+    {
+        self.names.as_slice()
+    }
+
+    /// Returns the names of the engine's templates that the template includes, and of those that these include, in
+    /// ascending order, each once. The template itself is among them only if it is included again.
+    pub fn templates(&self) -> &[&'n str]
+        ensures { texts result.now ≡ reached_templates self.now }
+    {
+        self.templates.as_slice()
+    }
+
+    /// Returns the names of includes that no template of the engine has, in the template and in those that it reaches, in
+    /// ascending order, each once.
+    pub fn missing(&self) -> &[&'n str]
+        ensures { texts result.now ≡ missing_names self.now }
+    {
+        self.missing.as_slice()
+    }
+
+    /// Returns whether the whole context counts, as an index begins a path.
+    pub fn is_whole(&self) -> bool
+        ensures { result ≡ needs_whole self.now }
+    {
+        self.whole
+    }
+}
+
+impl<'s> Template<'s> {
+    /// The names to which links lead.
+    fn linked<'t>(&'t self, by: Links<'_>) -> Result<Vec<&'t str>, AllocError>
+        ensures { IfOk result (λ v. (name : List ℕ)
+            → Lists (texts v.items) name ↔ link by.entry (template_tree self.now) name) }
+    {
+        match by {
+            Links::All => self.each_include(),
+            Links::Passing(start) => self.passes_by(start),
+        }
+    }
+}
+
+/// The template of a name.
+fn template_named<'t, 'e>(
+    templates: &'t BTreeMap<String, Template<'e>>,
+    name: &str,
+) -> Option<&'t Template<'e>>
+    ensures { option_map (λ t. template_of t.now) result ≡ table_in templates.now name.now }
+{
+    templates.get(name)
+}
+
+/// Puts a name at the end if both are so.
+fn push_if<'t>(
+    names: &mut Vec<&'t str>,
+    name: &'t str,
+    is_new: bool,
+    is_held: bool,
+) -> Result<(), AllocError>
+    ensures { OnOk result (names.new.items
+        ≡ (if is_new && is_held then names.old.items ++ name.entry ∷ [] else names.old.items)) }
+{
+    if !is_new {
+        return Ok(());
+    }
+    if !is_held {
+        return Ok(());
+    }
+    names.push(name)?;
+    Ok(())
+}
+
+/// Marks names as seen. Those that are new and have a template wait from then on.
+fn mark<'t>(
+    templates: &BTreeMap<String, Template<'_>>,
+    names: &[&'t str],
+    seen: &mut BTreeSet<&'t str>,
+    waiting: &mut Vec<&'t str>,
+) -> Result<(), AllocError>
+    ensures marked { OnOk result
+        (Marked (table_in templates.now) (has seen.old) (has seen.new) (texts names.now)
+        (Lists (texts waiting.old.items)) (Lists (texts waiting.new.items))) }
+    // What waits is no longer unseen.
+    ensures less { OnOk result (unseen templates.now seen.new + length waiting.new.items
+        ≤ unseen templates.now seen.old + length waiting.old.items) }
+{
+    for name in names {
+        let is_held = templates.contains_key(*name);
+        let is_new = seen.insert(*name)?;
+        push_if(waiting, *name, is_new, is_held)?;
+    }
+    Ok(())
+}
+
+/// Follows the links of the template of a name that waited.
+fn follow<'t, 'e>(
+    templates: &'t BTreeMap<String, Template<'e>>,
+    name: &str,
+    by: Links<'_>,
+    seen: &mut BTreeSet<&'t str>,
+    waiting: &mut Vec<&'t str>,
+) -> Result<(), AllocError>
+    ensures searched { OnOk result ((tree : Statements) (before : List ℕ → Bool)
+        → ((other : List ℕ) → before other
+        ≡ (list_any (bytes_eq other) (texts waiting.old.items) || bytes_eq other name.now))
+        → Searched (table_in templates.now) by.entry tree (has seen.old) (λ other. before other ≡ true)
+        → Searched (table_in templates.now) by.entry tree (has seen.new) (Lists (texts waiting.new.items))) }
+    ensures less { OnOk result (unseen templates.now seen.new + length waiting.new.items
+        ≤ unseen templates.now seen.old + length waiting.old.items) }
+{
+    let Some(template) = template_named(templates, name) else {
+        return Ok(());
+    };
+    let names = template.linked(by)?;
+    mark(templates, names.as_slice(), seen, waiting)?;
+    Ok(())
+}
+
+/// The names to which links lead from a template.
+fn search<'t, 'e>(
+    templates: &'t BTreeMap<String, Template<'e>>,
+    from: &'t Template<'e>,
+    by: Links<'_>,
+) -> Result<BTreeSet<&'t str>, AllocError>
+    ensures { IfOk result (λ seen. (name : List ℕ)
+        → (has seen name ≡ true) ↔ Linked (table_in templates.now) by.entry (template_tree from.now) name) }
+{
+    let alloc = from.alloc();
+    let mut seen = BTreeSet::new(alloc);
+    let mut waiting = Vec::new(alloc);
+    let names = from.linked(by)?;
+    mark(templates, names.as_slice(), &mut seen, &mut waiting)?;
+    while let Some(name) = waiting.pop() {
+        follow(templates, name, by, &mut seen, &mut waiting)?;
+    }
+    Ok(seen)
+}
+
+/// Whether a name has a template that begins such a path.
+fn begins_in(templates: &BTreeMap<String, Template<'_>>, name: &str, start: PathStart<'_>) -> bool
+    ensures { (result ≡ true) ↔ HeldBegins (table_in templates.now name.now) (start_of start.entry) }
+{
+    match template_named(templates, name) {
+        Some(template) => template.begins_by(start),
+        None => false,
+    }
+}
+
+/// Whether a template of one of the names begins such a path.
+fn one_begins(
+    templates: &BTreeMap<String, Template<'_>>,
+    names: BTreeSet<&str>,
+    start: PathStart<'_>,
+) -> bool
+    ensures { (result ≡ true)
+        ↔ OneBegins (table_in templates.now) (λ name. has names.entry name ≡ true) (start_of start.entry) }
+{
+    for name in names {
+        if begins_in(templates, name, start) {
+            return true;
+        }
+    }
+    false
+}
+
+/// Whether such a path is asked of the context.
+fn is_needed<'t, 'e>(
+    templates: &'t BTreeMap<String, Template<'e>>,
+    from: &'t Template<'e>,
+    start: PathStart<'_>,
+) -> Result<bool, AllocError>
+    ensures { IfOk result (λ needed. (needed ≡ true)
+        ↔ NeedsStart (table_in templates.now) (template_tree from.now) (start_of start.entry)) }
+{
+    if from.begins_by(start) {
+        return Ok(true);
+    }
+    let names = search(templates, from, Links::Passing(start))?;
+    Ok(one_begins(templates, names, start))
+}
+
+/// Puts the names into a set that begin paths in a template outside of what binds them, if there is a template.
+fn insert_begun<'t, 'e>(
+    begun: &mut BTreeSet<&'t str>,
+    template: Option<&'t Template<'e>>,
+) -> Result<(), AllocError>
+    ensures { OnOk result ((name : List ℕ) → (has begun.new name ≡ true) ↔ ((has begun.old name ≡ true)
+        ⊎ HeldBegins (option_map (λ t. template_of t.now) template.entry) (a_name name))) }
+{
+    let Some(template) = template else {
+        return Ok(());
+    };
+    insert_all(begun, template.names_needed()?)?;
+    Ok(())
+}
+
+/// The names that begin paths in a template, outside of what binds them, or in those of some names.
+fn begun<'t, 'e>(
+    templates: &'t BTreeMap<String, Template<'e>>,
+    from: &'t Template<'e>,
+    names: &[&str],
+) -> Result<BTreeSet<&'t str>, AllocError>
+    ensures { IfOk result (λ begun. (name : List ℕ) → (has begun name ≡ true)
+        ↔ (StatementsBegin (a_name name) (template_tree from.now)
+        ⊎ OneBegins (table_in templates.now) (Lists (texts names.now)) (a_name name))) }
+{
+    let mut begun = BTreeSet::new(from.alloc());
+    insert_begun(&mut begun, Some(from))?;
+    for name in names {
+        insert_begun(&mut begun, template_named(templates, name))?;
+    }
+    Ok(begun)
+}
+
+/// Those of some names that are needed, in ascending order.
+fn needed<'t, 'e>(
+    templates: &'t BTreeMap<String, Template<'e>>,
+    from: &'t Template<'e>,
+    names: BTreeSet<&'t str>,
+) -> Result<Vec<&'t str>, AllocError>
+    ensures same { IfOk result (λ v. (name : List ℕ) → Contains (texts v.items) name
+        ↔ ((has names.entry name ≡ true) × NeedsName (table_in templates.now) (template_tree from.now) name)) }
+    ensures rise { IfOk result (λ v. Rise (texts v.items)) }
+{
+    let alloc = from.alloc();
+    let mut needed = BTreeSet::new(alloc);
+    for name in names {
+        let so = is_needed(templates, from, PathStart::Name(name))?;
+        insert_if(&mut needed, name, so)?;
+    }
+    ascending(alloc, needed)
+}
+
+/// Whether a name has a template, or whether it has none.
+fn has_template(templates: &BTreeMap<String, Template<'_>>, name: &str, have: bool) -> bool
+    ensures { (result ≡ true) ↔ (is_some (table_in templates.now name.now) ≡ have) }
+{
+    match template_named(templates, name) {
+        Some(_) => have,
+        None => !have,
+    }
+}
+
+/// Those of some names that have a template, or those that have none, in ascending order.
+fn with_template<'t>(
+    templates: &BTreeMap<String, Template<'_>>,
+    from: &Template<'_>,
+    names: &[&'t str],
+    have: bool,
+) -> Result<Vec<&'t str>, AllocError>
+    ensures same { IfOk result (λ v. (name : List ℕ) → Contains (texts v.items) name
+        ↔ (Lists (texts names.now) name × (is_some (table_in templates.now name) ≡ have))) }
+    ensures rise { IfOk result (λ v. Rise (texts v.items)) }
+{
+    let alloc = from.alloc();
+    let mut chosen = BTreeSet::new(alloc);
+    for name in names {
+        let so = has_template(templates, name, have);
+        insert_if(&mut chosen, name, so)?;
+    }
+    ascending(alloc, chosen)
+}
+
+/// What a template needs.
+fn needs_of<'t, 'e>(
+    templates: &'t BTreeMap<String, Template<'e>>,
+    from: &'t Template<'e>,
+) -> Result<Needs<'t>, AllocError>
+    ensures names { IfOk result (λ needs. (name : List ℕ)
+        → Contains (needed_names needs) name ↔ NeedsName (table_in templates.now) (template_tree from.now) name) }
+    ensures templates { IfOk result (λ needs. (name : List ℕ) → Contains (reached_templates needs) name
+        ↔ (Reaches (table_in templates.now) (template_tree from.now) name
+        × (is_some (table_in templates.now name) ≡ true))) }
+    ensures missing { IfOk result (λ needs. (name : List ℕ)
+        → Contains (missing_names needs) name ↔ Missing (table_in templates.now) (template_tree from.now) name) }
+    ensures whole { IfOk result (λ needs.
+        (needs_whole needs ≡ true) ↔ NeedsAll (table_in templates.now) (template_tree from.now)) }
+    ensures rise { IfOk result (λ needs.
+        Rise (needed_names needs) × Rise (reached_templates needs) × Rise (missing_names needs)) }
+{
+    let seen = search(templates, from, Links::All)?;
+    let sorted = ascending(from.alloc(), seen)?;
+    let reached = sorted.as_slice();
+    let begun = begun(templates, from, reached)?;
+    let names = needed(templates, from, begun)?;
+    let held = with_template(templates, from, reached, true)?;
+    let missing = with_template(templates, from, reached, false)?;
+    let whole = is_needed(templates, from, PathStart::Index)?;
+    Ok(Needs {
+        names,
+        templates: held,
+        missing,
+        whole,
+    })
+}
+
+impl<'e> Engine<'e> {
+    /// Returns what the template of a name needs, or `None` if there is none of this name: the names that it takes from its
+    /// context, itself or through the templates that it includes; these templates; and the names of includes that no template
+    /// of the engine has. Includes may come back to a template. An error comes only when memory is out. It takes time in
+    /// proportion to the names times the instructions of the template and those that it reaches.
+    pub fn needs(&self, name: &str) -> Option<Result<Needs<'_>, AllocError>>
+        // A name is among those needed exactly if the template needs it of its context.
+        ensures names { let table = (engine_of (λ f. formats f) (λ f. answers f) self.now).templates in
+            (t : TemplateMeant) → table name.now ≡ Some t → IsSomeAnd result (λ r. IfOk r (λ needs. (word : List ℕ)
+            → Contains (needed_names needs) word ↔ NeedsName table t.tree word)) }
+        // A name is among the templates exactly if the template reaches it, and the engine has a template of it.
+        ensures templates { let table = (engine_of (λ f. formats f) (λ f. answers f) self.now).templates in
+            (t : TemplateMeant) → table name.now ≡ Some t → IsSomeAnd result (λ r. IfOk r (λ needs. (word : List ℕ)
+            → Contains (reached_templates needs) word ↔ (Reaches table t.tree word × (is_some (table word) ≡ true)))) }
+        // A name is among the missing exactly if the template reaches it, and the engine has no template of it.
+        ensures missing { let table = (engine_of (λ f. formats f) (λ f. answers f) self.now).templates in
+            (t : TemplateMeant) → table name.now ≡ Some t → IsSomeAnd result (λ r. IfOk r (λ needs. (word : List ℕ)
+            → Contains (missing_names needs) word ↔ Missing table t.tree word)) }
+        // The whole context counts exactly if an index begins a path.
+        ensures whole { let table = (engine_of (λ f. formats f) (λ f. answers f) self.now).templates in
+            (t : TemplateMeant) → table name.now ≡ Some t → IsSomeAnd result (λ r. IfOk r (λ needs.
+            (needs_whole needs ≡ true) ↔ NeedsAll table t.tree)) }
+        // Each list is in ascending order.
+        ensures rise { let table = (engine_of (λ f. formats f) (λ f. answers f) self.now).templates in
+            (t : TemplateMeant) → table name.now ≡ Some t → IsSomeAnd result (λ r. IfOk r (λ needs.
+            Rise (needed_names needs) × Rise (reached_templates needs) × Rise (missing_names needs))) }
+        // There is no answer exactly if the engine has no template of the name.
+        ensures absent { IsNone result
+            ↔ ((engine_of (λ f. formats f) (λ f. answers f) self.now).templates name.now ≡ None) }
+    {
+        match self.held(name) {
+            Some(template) => Some(needs_of(self.templates(), template)),
+            None => None,
+        }
+    }
+}

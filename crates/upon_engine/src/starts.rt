@@ -1,0 +1,114 @@
+// What begins a path, and where it begins one in a template.
+ghost use Rattle.std.specs.Prelude.{◌≡◌, ◌↔◌, ◌<◌, ◌^◌, ◌-◌, ℕ, List, IfOk, true, option_map};
+ghost use Rattle.upon_meaning_spec.specs.Needs.{StatementsBegin, StatementsPass};
+ghost use Rattle.upon_machine_spec.specs.Code.{program_of};
+ghost use Rattle.upon_machine_spec.specs.ProgramNames.{Lists, passes, plain_include};
+ghost use Rattle.upon_instructions.specs.Program.{instr_of};
+ghost use Rattle.upon_engine.specs.EngineNeeds.{start_of};
+ghost use Rattle.upon_engine.specs.IndexStarts.{begins_by_index, has_index, plain_includes};
+ghost use Rattle.upon_engine.specs.Names.{texts};
+ghost use Rattle.upon_engine.specs.Template.{template_tree};
+
+use crate::template::Template;
+use crate::template_names::count_after;
+use std::alloc::AllocError;
+use upon_instructions::types::program::Instr;
+use upon_types::types::ast::Access;
+
+/// What begins a path: a name, or an index.
+#[derive(Clone, Copy)]
+pub(crate) enum PathStart<'n> {
+    Name(&'n str),
+    Index,
+}
+
+/// Whether an instruction's path begins with an index.
+fn has_index(instr: &Instr) -> bool
+    ensures { result ≡ has_index (instr_of instr.now) }
+{
+    match instr {
+        Instr::ExprStartVar(var) => match &var.first().access {
+            Access::Key(_) => false,
+            Access::Index(_) => true,
+        },
+        _ => false,
+    }
+}
+
+/// The name of the template that an instruction includes without a value.
+fn plain_include(instr: &Instr) -> Option<&str>
+    ensures { option_map (λ name. name.now) result ≡ plain_include (instr_of instr.now) }
+{
+    match instr {
+        Instr::Include(name) => Some(name.value.as_str()),
+        _ => None,
+    }
+}
+
+impl<'s> Template<'s> {
+    /// Whether a path begins with an index.
+    fn begins_by_index(&self) -> bool
+        ensures { result ≡ begins_by_index (program_of (template_tree self.now)) }
+    {
+        let instrs = self.instrs();
+        for instr in instrs {
+            if has_index(instr) {
+                return true;
+            }
+        }
+        false
+    }
+
+    /// The names of the templates that are included without a value, in order.
+    fn plain_includes(&self) -> Result<Vec<&str>, AllocError>
+        ensures { IfOk result (λ v. texts v.items ≡ plain_includes (program_of (template_tree self.now))) }
+    {
+        let instrs = self.instrs();
+        let mut names = Vec::new(self.alloc());
+        for instr in instrs {
+            if let Some(via) = plain_include(instr) {
+                names.push(via)?;
+            }
+        }
+        Ok(names)
+    }
+
+    /// The names of the templates that are included without a value outside of what binds the name, in order.
+    fn passes<'t>(&'t self, name: &str) -> Result<Vec<&'t str>, AllocError>
+        ensures { IfOk result (λ v. texts v.items ≡ passes name.now (program_of (template_tree self.now))) }
+    {
+        let instrs = self.instrs();
+        let mut names = Vec::new(self.alloc());
+        let mut count = 0;
+        for (at, instr) in instrs.iter().enumerate() {
+            if let Some(via) = plain_include(instr) {
+                if count == 0 {
+                    names.push(via)?;
+                }
+            }
+            count = count_after(name, at, instr, count);
+        }
+        Ok(names)
+    }
+
+    /// Whether such a path begins outside of what binds it.
+    pub(crate) fn begins_by(&self, start: PathStart<'_>) -> bool
+        ensures { (result ≡ true) ↔ StatementsBegin (start_of start.entry) (template_tree self.now) }
+    {
+        match start {
+            PathStart::Name(name) => self.begins(name),
+            PathStart::Index => self.begins_by_index(),
+        }
+    }
+
+    /// The names of the templates that are included without a value outside of what binds such a path.
+    pub(crate) fn passes_by<'t>(&'t self, start: PathStart<'_>) -> Result<Vec<&'t str>, AllocError>
+        ensures { IfOk result (λ v. (name : List ℕ)
+            → Lists (texts v.items) name ↔ StatementsPass (start_of start.entry) name (template_tree self.now)) }
+    {
+        match start {
+            PathStart::Name(name) => self.passes(name),
+            PathStart::Index => self.plain_includes(),
+        }
+    }
+}
