@@ -1,14 +1,17 @@
 // upon_bench WORK FILE TIMES: does a piece of work on a file a number of times, for checks/measure.
 #![tactic(auto)]
 
+mod callables;
+mod context;
+
 use std::alloc::{AllocError, Global};
 use std::borrow::CowStr;
 use std::fs::File;
 use std::io::{Read, Write};
 use std::process::ExitCode;
 use std::{env, io};
-use upon::Syntax;
 use upon::compile::template;
+use upon::{Engine, Result as UponResult, Syntax};
 
 /// The words of a call.
 #[derive(Drop)]
@@ -73,6 +76,36 @@ fn compiles(alloc: Global, syntax: &Syntax, text: &str, times: usize) -> bool {
     good
 }
 
+// An engine with callables, and with a template to be included.
+fn engine_of<'e>(alloc: Global) -> UponResult<Engine<'e>> {
+    let mut engine = Engine::new(alloc);
+    callables::add(alloc, &mut engine)?;
+    engine.add_template(CowStr::Borrowed("row"), CowStr::Borrowed("{{ r.name }}"))?;
+    Ok(engine)
+}
+
+// Compiles a text so often by an engine.
+fn compiles_by_engine(alloc: Global, text: &str, times: usize) -> UponResult<()> {
+    let engine = engine_of(alloc)?;
+    for _ in 0..times {
+        let _template = engine.compile(CowStr::Borrowed(text))?;
+    }
+    Ok(())
+}
+
+// Renders a text so often, on the context with so many more names.
+fn renders(alloc: Global, text: &str, more: u32, times: usize) -> UponResult<()> {
+    let mut engine = engine_of(alloc)?;
+    engine.add_template(CowStr::Borrowed("main"), CowStr::Borrowed(text))?;
+    let context = context::context(alloc, more)?;
+    for _ in 0..times {
+        if let Some(main) = engine.get_template("main") {
+            let _text = main.render_from(&context).to_string()?;
+        }
+    }
+    Ok(())
+}
+
 // Looks so often for a byte that is in no text.
 fn looks(text: &str, times: usize) -> bool {
     let mut found = false;
@@ -87,12 +120,16 @@ fn is_done(rt: &HostRuntime, alloc: Global, call: &Call) -> bool {
     let Some(text) = text_of(rt, alloc, call.file.as_str()) else {
         return false;
     };
-    if call.work.as_str() == "memchr" {
-        return looks(text.as_str(), call.times);
-    }
-    match syntax_of(alloc, call.work.as_str()) {
-        Ok(syntax) => compiles(alloc, &syntax, text.as_str(), call.times),
-        Err(_) => false,
+    let text = text.as_str();
+    match call.work.as_str() {
+        "memchr" => looks(text, call.times),
+        "compile" => compiles_by_engine(alloc, text, call.times).is_ok(),
+        "render" => renders(alloc, text, 0, call.times).is_ok(),
+        "large" => renders(alloc, text, 10_000, call.times).is_ok(),
+        other => match syntax_of(alloc, other) {
+            Ok(syntax) => compiles(alloc, &syntax, text, call.times),
+            Err(_) => false,
+        },
     }
 }
 

@@ -1,0 +1,61 @@
+// speed-of-upon WORK FILE TIMES: the same work as crates/upon_bench (`compile`, `render`, `large`) over the crate upon,
+// for `checks/measure speed`.
+use std::collections::BTreeMap;
+use upon::{Engine, Value};
+
+// The row of a number.
+fn row(n: usize) -> Value {
+    let mut user = BTreeMap::new();
+    user.insert("email".to_string(), Value::from(format!("user{n}@example.org")));
+    user.insert("age".to_string(), Value::from((n % 100) as i64));
+    let mut row = BTreeMap::new();
+    row.insert("id".to_string(), Value::from(n as i64));
+    row.insert("name".to_string(), Value::from(format!("name of row {n}")));
+    row.insert("active".to_string(), Value::from(n % 2 == 0));
+    row.insert("user".to_string(), Value::from(user));
+    Value::from(row)
+}
+
+// The value that templates are rendered on, with so many more names.
+fn context(more: usize) -> Value {
+    let mut map = BTreeMap::new();
+    map.insert("rows".to_string(), Value::List((0..1000).map(row).collect()));
+    let mut deep = Value::from(42i64);
+    for name in ["h", "g", "f", "e", "d", "c", "b"] {
+        let mut outer = BTreeMap::new();
+        outer.insert(name.to_string(), deep);
+        deep = Value::from(outer);
+    }
+    map.insert("a".to_string(), deep);
+    map.insert("title".to_string(), Value::from("The title"));
+    for n in 0..more {
+        map.insert(format!("k{n}"), Value::from(n as i64));
+    }
+    Value::from(map)
+}
+
+fn main() {
+    let args: Vec<String> = std::env::args().skip(1).collect();
+    let text = std::fs::read_to_string(&args[1]).unwrap();
+    let times: usize = args[2].parse().unwrap();
+    let mut engine = Engine::new();
+    let prefix = "get_".to_string();
+    engine.add_function("getter", move |s: &str| format!("{prefix}{s}"));
+    engine.add_function("double", |n: i64| n.wrapping_add(n));
+    engine.add_formatter("plain", upon::fmt::default);
+    if args[0] == "compile" {
+        for _ in 0..times {
+            engine.compile(text.as_str()).unwrap();
+        }
+    } else {
+        let context = context(if args[0] == "large" { 10000 } else { 0 });
+        engine.add_template("row", "{{ r.name }}").unwrap();
+        engine.add_template("main", text.as_str()).unwrap();
+        let mut size = 0;
+        for _ in 0..times {
+            size = engine.template("main").render_from(&context).to_string().unwrap().len();
+        }
+        eprintln!("{size}");
+    }
+    println!("done");
+}
