@@ -292,3 +292,32 @@ fn copies_of_values(rt: HostRuntime) -> std::result::Result<(), Fail> {
     }
     Ok(())
 }
+
+#[test]
+fn needs(rt: HostRuntime) -> std::result::Result<(), Fail> {
+    let alloc = rt.alloc();
+    let mut engine = Engine::new(alloc);
+    for (name, source) in [
+        (
+            "page",
+            "{{ a }}{% include \"part\" %}{% include \"gone\" %}",
+        ),
+        ("part", "{{ b }}{% include \"page\" %}"),
+    ] {
+        if engine
+            .add_template(CowStr::Borrowed(name), CowStr::Borrowed(source))
+            .is_err()
+        {
+            return Ok(());
+        }
+    }
+    let Some(needs) = engine.needs("page") else {
+        panic!(&rt; "there is such a template");
+    };
+    if let Ok(needs) = needs {
+        assert!(&rt; needs.names() == ["a", "b"].as_slice());
+        assert!(&rt; needs.templates() == ["page", "part"].as_slice());
+        assert!(&rt; needs.missing() == ["gone"].as_slice());
+    }
+    Ok(())
+}

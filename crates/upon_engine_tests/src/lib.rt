@@ -2,6 +2,8 @@
 #![tactic(auto)]
 
 #[cfg(test)]
+mod cached_pages;
+#[cfg(test)]
 mod contexts;
 #[cfg(test)]
 mod needs;

@@ -5,13 +5,13 @@ use std::test::Fail;
 use upon::Engine;
 
 // The names in a row, with blanks between.
-fn joined(alloc: Global, names: Vec<&str>) -> Result<String, AllocError> {
+fn joined(alloc: Global, names: &[&str]) -> Result<String, AllocError> {
     let mut line = String::new(alloc);
     for name in names {
         if !line.is_empty() {
             line.push(' ')?;
         }
-        line.push_str(name)?;
+        line.push_str(*name)?;
     }
     Ok(line)
 }
@@ -35,12 +35,12 @@ fn says(
 ) -> Result<(), Fail> {
     let template = engine.compile(CowStr::Borrowed(source))?;
     are(
-        joined(alloc, template.names_needed()?)?.as_str(),
+        joined(alloc, template.names_needed()?.as_slice())?.as_str(),
         needed,
         source,
     )?;
     are(
-        joined(alloc, template.includes()?)?.as_str(),
+        joined(alloc, template.includes()?.as_slice())?.as_str(),
         included,
         source,
     )
@@ -79,6 +79,122 @@ fn names(rt: HostRuntime) -> Result<(), Fail> {
         ("{% if false %}{% include \"zz\" %}{% endif %}", "", "zz"),
     ] {
         says(alloc, &engine, source, needed, included)?;
+    }
+    Ok(())
+}
+
+// What a template of an engine needs, in a line: names, templates, names that no template has, and whether an index begins a
+// path.
+fn engine_says(alloc: Global, engine: &Engine<'_>, name: &str, wanted: &str) -> Result<(), Fail> {
+    let Some(needs) = engine.needs(name) else {
+        return are("none", wanted, name);
+    };
+    let needs = needs?;
+    let mut line = joined(alloc, needs.names())?;
+    line.push_str(" | ")?;
+    line.push_str(joined(alloc, needs.templates())?.as_str())?;
+    line.push_str(" | ")?;
+    line.push_str(joined(alloc, needs.missing())?.as_str())?;
+    if needs.is_whole() {
+        line.push_str(" | whole")?;
+    }
+    are(line.as_str(), wanted, name)
+}
+
+// An engine with the templates.
+fn engine_of<'e>(alloc: Global, templates: &[(&str, &'e str)]) -> Result<Engine<'e>, Fail> {
+    let mut engine = Engine::new(alloc);
+    for (name, source) in templates {
+        engine.add_template(CowStr::Borrowed(*name), CowStr::Borrowed(*source))?;
+    }
+    Ok(engine)
+}
+
+#[test]
+fn shadowed(rt: HostRuntime) -> Result<(), Fail> {
+    let alloc = rt.alloc();
+    let engine = engine_of(
+        alloc,
+        &[
+            ("a", "{{ a.b }}{{ loop }}"),
+            ("x", "{{ x }}"),
+            ("plain", "{% include \"a\" %}"),
+            ("bound", "{% with b as a %}{% include \"a\" %}{% endwith %}"),
+            (
+                "looped",
+                "{% for a in all %}{% include \"a\" %}{% endfor %}",
+            ),
+            (
+                "otherwise",
+                "{% for a in b %}{% else %}{% include \"a\" %}{% endfor %}",
+            ),
+            ("given", "{% include \"a\" with c.d %}{{ e }}"),
+            (
+                "twice",
+                "{% with b as a %}{% include \"a\" %}{% endwith %}{% include \"plain\" %}",
+            ),
+            ("other", "{% with b as a %}{% include \"x\" %}{% endwith %}"),
+        ],
+    )?;
+    for (name, wanted) in [
+        ("a", "a loop |  | "),
+        ("plain", "a loop | a | "),
+        ("bound", "b loop | a | "),
+        ("looped", "all | a | "),
+        ("otherwise", "a b loop | a | "),
+        ("given", "c e | a | "),
+        ("twice", "a b loop | a plain | "),
+        ("other", "b x | x | "),
+        ("nowhere", "none"),
+    ] {
+        engine_says(alloc, &engine, name, wanted)?;
+    }
+    Ok(())
+}
+
+#[test]
+fn reached(rt: HostRuntime) -> Result<(), Fail> {
+    let alloc = rt.alloc();
+    let engine = engine_of(
+        alloc,
+        &[
+            ("leaf", "{{ x }}"),
+            ("one", "{{ a }}{% include \"two\" %}"),
+            ("two", "{{ b }}{% include \"three\" %}"),
+            ("three", "{{ c }}{% include \"one\" %}"),
+            (
+                "self",
+                "{% for x in xs %}{{ x }}{% include \"self\" %}{% endfor %}",
+            ),
+            (
+                "never",
+                "{% if false %}{% include \"gone\" %}{% endif %}{% include \"lost\" with v %}",
+            ),
+            ("far", "{% include \"never\" %}{% include \"leaf\" %}"),
+            (
+                "bound",
+                "{% with 1 as v %}{% include \"never\" %}{% endwith %}",
+            ),
+            ("index", "{{ .0.name }}"),
+            (
+                "by_index",
+                "{% with 1 as v %}{% include \"index\" %}{% endwith %}",
+            ),
+            ("on_value", "{% include \"index\" with v %}"),
+        ],
+    )?;
+    for (name, wanted) in [
+        ("leaf", "x |  | "),
+        ("one", "a b c | one three two | "),
+        ("self", "xs | self | "),
+        ("never", "v |  | gone lost"),
+        ("far", "v x | leaf never | gone lost"),
+        ("bound", " | never | gone lost"),
+        ("index", " |  |  | whole"),
+        ("by_index", " | index |  | whole"),
+        ("on_value", "v | index | "),
+    ] {
+        engine_says(alloc, &engine, name, wanted)?;
     }
     Ok(())
 }

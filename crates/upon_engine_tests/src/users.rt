@@ -1,11 +1,13 @@
 // Callers of the engine, by its public clauses alone.
-ghost use Rattle.std.specs.Prelude.{◌≡◌, None, IfOk, true};
+ghost use Rattle.std.specs.Prelude.{◌≡◌, ℕ, List, Contains, Some, None, IfOk, IsSomeAnd, true};
 ghost use Rattle.std.specs.Cow.{cow_str_bytes};
+ghost use Rattle.upon_types.specs.Val.{Entries, entry_at, map_val};
 ghost use Rattle.upon_types.specs.View.{view};
 ghost use Rattle.upon_render.specs.Asked.{never};
 ghost use Rattle.upon_render.specs.Environment.{context, value_source};
 ghost use Rattle.upon_meaning_spec.specs.Alone.{alone};
-ghost use Rattle.upon_meaning_spec.specs.Engine.{rendering_of};
+ghost use Rattle.upon_meaning_spec.specs.Engine.{Template as TemplateMeant, rendering_of};
+ghost use Rattle.upon_meaning_spec.specs.Names.{AgreeOn};
 ghost use Rattle.upon_meaning_spec.specs.Outcome.{states};
 ghost use Rattle.upon_before_spec.specs.Alone.{Template as TemplateBefore, Table as TableBefore, alone as alone_before};
 ghost use Rattle.upon_before_spec.specs.Grammar.{HasTree as HadTree};
@@ -15,17 +17,21 @@ ghost use Rattle.upon_before_spec.specs.Tree.{Statements as StatementsBefore};
 ghost use Rattle.upon_vm.specs.Reports.{IsTaken, WriteMarks, WritesAndLeaves};
 ghost use Rattle.upon_engine.specs.Answers.{AnswersText};
 ghost use Rattle.upon_engine.specs.Base.{Base, IsContextOf, outcome_over};
+ghost use Rattle.upon_engine.specs.EngineNeeds.{needed_names};
 ghost use Rattle.upon_engine.specs.RenderingLaws.{IsPlain, IsText};
 ghost use Rattle.upon_engine.specs.Template.{template_of};
 
 use serde::Serialize;
+use std::alloc::AllocError;
 use std::borrow::CowStr;
 use upon_engine::callables::EngineView;
 use upon_engine::engine::Engine;
 use upon_engine::laws_of_rendering::plain_text;
+use upon_engine::needs::Needs;
 use upon_engine::template::Template;
 use upon_engine::theorem::one_table;
 use upon_fmt::output::Output;
+use upon_meaning_spec::laws::needs::names_needed;
 use upon_render::source::ValueSource;
 use upon_types::error::Result;
 use upon_types::value::Value;
@@ -125,4 +131,20 @@ pub fn rendered_plain(engine: &Engine<'_>, source: &str, value: &Value) -> Resul
 {
     plain_text(engine);
     engine.render_text(source, value)
+}
+
+/// What the template of a name needs. Contexts that agree on its names render alike, so the values of these names are a
+/// key of what is rendered.
+pub fn needs_of<'n>(
+    engine: &'n Engine<'_>,
+    name: &str,
+) -> Option<std::result::Result<Needs<'n>, AllocError>>
+    ensures { let e = ⟦<&'static Engine<'static> as EngineView>⟧.engine_view engine.entry in
+        (t : TemplateMeant) → e.templates name.now ≡ Some t → IsSomeAnd result (λ r. IfOk r (λ needs.
+        (these those : Entries) → AgreeOn (Contains (needed_names needs)) (λ n. entry_at n these) (λ n. entry_at n those)
+        → alone (rendering_of e never None) t None (context (map_val these)) (states (tt {0}) (tt {0}))
+        ≡ alone (rendering_of e never None) t None (context (map_val those)) (states (tt {0}) (tt {0})))) }
+{
+    names_needed::<(), ()>();
+    engine.needs(name)
 }

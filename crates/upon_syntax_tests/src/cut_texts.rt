@@ -1,5 +1,8 @@
 // Texts that are cut at each character boundary: each part has a tree or a fault of its own, under any delimiters.
-use crate::delimiters::{equal, hyphens, letters, longer_end, one_byte, overlapping, with_a_blank};
+use crate::delimiters::{
+    blank_before, equal, equal_blocks, hyphens, letters, longer_end, one_byte, overlapping,
+    with_a_blank,
+};
 use crate::parsing::after_values::{AFTER_VALUE, AFTER_WITH};
 use crate::parsing::blocks::BLOCKS;
 use crate::parsing::cuts::CUTS;
@@ -173,5 +176,17 @@ fn parts_under_longer_end(rt: HostRuntime) -> Result<(), Fail> {
 #[test]
 fn parts_under_hyphens(rt: HostRuntime) -> Result<(), Fail> {
     all_parts_under(&rt, rt.alloc(), hyphens(rt.alloc())?);
+    Ok(())
+}
+
+#[test]
+fn parts_under_equal_blocks(rt: HostRuntime) -> Result<(), Fail> {
+    all_parts_under(&rt, rt.alloc(), equal_blocks(rt.alloc())?);
+    Ok(())
+}
+
+#[test]
+fn parts_under_blank_before(rt: HostRuntime) -> Result<(), Fail> {
+    all_parts_under(&rt, rt.alloc(), blank_before(rt.alloc())?);
     Ok(())
 }

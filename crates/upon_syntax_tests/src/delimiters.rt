@@ -61,6 +61,19 @@ pub fn hyphens(alloc: Global) -> Result<Syntax, AllocError> {
     Syntax::builder().expr("-", "--").build(alloc)
 }
 
+/// Expressions and blocks with the same delimiters.
+pub fn equal_blocks(alloc: Global) -> Result<Syntax, AllocError> {
+    Syntax::builder()
+        .expr("{{", "}}")
+        .block("{{", "}}")
+        .build(alloc)
+}
+
+/// A begin that begins with a blank.
+pub fn blank_before(alloc: Global) -> Result<Syntax, AllocError> {
+    Syntax::builder().expr(" <", ">").build(alloc)
+}
+
 // Under the syntax these texts have these trees, and these are refused.
 fn all_under(
     rt: &impl Abort,

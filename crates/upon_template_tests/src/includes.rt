@@ -234,3 +234,24 @@ fn templates_come_and_go(rt: HostRuntime) -> std::result::Result<(), Fail> {
     assert_eq!(&rt; named(alloc, &engine, "u")?.as_str(), "b");
     Ok(())
 }
+
+// What a template answers on no value, if its name is made for the search and gone before the rendering.
+fn numbered(alloc: Global, engine: &Engine<'_>, number: u32) -> std::result::Result<String, Fail> {
+    let name = format!(in alloc; "page{number}")?;
+    let found = engine.get_template(&name);
+    drop(name);
+    let Some(template) = found else {
+        return Err(Fail::new("no template"));
+    };
+    Ok(line_of(alloc, template.render_from(&Value::None).to_string())?)
+}
+
+#[test]
+fn a_name_may_be_made_for_the_search(rt: HostRuntime) -> std::result::Result<(), Fail> {
+    let alloc = rt.alloc();
+    let engine = engine(alloc, &[("page1", "a"), ("page2", "{{ x }}")])?;
+    assert_eq!(&rt; numbered(alloc, &engine, 1)?.as_str(), "a");
+    let wanted = "render error: not found in this scope at 3..4 in page2";
+    assert_eq!(&rt; numbered(alloc, &engine, 2)?.as_str(), wanted);
+    Ok(())
+}
