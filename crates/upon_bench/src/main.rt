@@ -123,13 +123,13 @@ fn is_done(rt: &HostRuntime, alloc: Global, call: &Call) -> bool {
     };
     let text = text.as_str();
     match call.work.as_str() {
+        "copy" => deep::copy(alloc, call.times, &mut io::writer(rt)).is_ok(),
+        "compare" => deep::compare(alloc, call.times, &mut io::writer(rt)).is_ok(),
+        "drop" => deep::release(alloc, call.times, &mut io::writer(rt)).is_ok(),
         "memchr" => looks(text, call.times),
         "compile" => compiles_by_engine(alloc, text, call.times).is_ok(),
         "render" => renders(alloc, text, 0, call.times).is_ok(),
         "large" => renders(alloc, text, 10_000, call.times).is_ok(),
-        "copy" => deep::copy(alloc, call.times, &mut io::writer(rt)).is_ok(),
-        "compare" => deep::compare(alloc, call.times, &mut io::writer(rt)).is_ok(),
-        "drop" => deep::release(alloc, call.times, &mut io::writer(rt)).is_ok(),
         other => match syntax_of(alloc, other) {
             Ok(syntax) => compiles(alloc, &syntax, text, call.times),
             Err(_) => false,
