@@ -3,6 +3,7 @@
 
 mod callables;
 mod context;
+mod deep;
 
 use std::alloc::{AllocError, Global};
 use std::borrow::CowStr;
@@ -139,6 +140,9 @@ fn is_done(rt: &HostRuntime, alloc: Global, call: &Call) -> bool {
     };
     let text = text.as_str();
     match call.work.as_str() {
+        "copy" => deep::copy(alloc, call.times, &mut io::writer(rt)).is_ok(),
+        "compare" => deep::compare(alloc, call.times, &mut io::writer(rt)).is_ok(),
+        "drop" => deep::release(alloc, call.times, &mut io::writer(rt)).is_ok(),
         "memchr" => looks(text, call.times),
         "compile" => works(alloc, EngineWork::Compile, text, call.times).is_ok(),
         "render" => works(alloc, EngineWork::Render(0), text, call.times).is_ok(),
