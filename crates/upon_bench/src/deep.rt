@@ -23,16 +23,28 @@ pub(crate) fn copy<W: Write>(alloc: Global, depth: usize, out: &mut W) -> Result
 }
 
 /// Compares two nested lists, and says when that is over.
-pub(crate) fn compare<W: Write>(alloc: Global, depth: usize, out: &mut W) -> Result<(), AllocError> {
+pub(crate) fn compare<W: Write>(
+    alloc: Global,
+    depth: usize,
+    out: &mut W,
+) -> Result<(), AllocError> {
     let first = nested(alloc, depth)?;
     let second = nested(alloc, depth)?;
-    let word = if first == second { "over" } else { "not the same" };
+    let word = if first == second {
+        "over"
+    } else {
+        "not the same"
+    };
     let _ = writeln!(out, "{word}");
     Ok(())
 }
 
 /// Drops a nested list, and says when that is over.
-pub(crate) fn release<W: Write>(alloc: Global, depth: usize, out: &mut W) -> Result<(), AllocError> {
+pub(crate) fn release<W: Write>(
+    alloc: Global,
+    depth: usize,
+    out: &mut W,
+) -> Result<(), AllocError> {
     drop(nested(alloc, depth)?);
     let _ = writeln!(out, "over");
     Ok(())
