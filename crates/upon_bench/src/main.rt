@@ -11,7 +11,9 @@ use std::io::{Read, Write};
 use std::process::ExitCode;
 use std::{env, io};
 use upon::compile::template;
+use upon::fmt::Formatter;
 use upon::{Engine, Result as UponResult, Syntax};
+use upon_html::formatters::write_escaped;
 
 /// The words of a call.
 #[derive(Drop)]
@@ -115,6 +117,16 @@ fn looks(text: &str, times: usize) -> bool {
     !found
 }
 
+// Escapes a text so often; whether there was memory each time.
+fn escapes(alloc: Global, text: &str, times: usize) -> bool {
+    let mut good = true;
+    for _ in 0..times {
+        let mut f = Formatter::new(alloc);
+        good = write_escaped(&mut f, text).is_ok() && good;
+    }
+    good
+}
+
 // Does the work of a call; whether it was all right.
 fn is_done(rt: &HostRuntime, alloc: Global, call: &Call) -> bool {
     let Some(text) = text_of(rt, alloc, call.file.as_str()) else {
@@ -123,6 +135,7 @@ fn is_done(rt: &HostRuntime, alloc: Global, call: &Call) -> bool {
     let text = text.as_str();
     match call.work.as_str() {
         "memchr" => looks(text, call.times),
+        "html" => escapes(alloc, text, call.times),
         "compile" => compiles_by_engine(alloc, text, call.times).is_ok(),
         "render" => renders(alloc, text, 0, call.times).is_ok(),
         "large" => renders(alloc, text, 10_000, call.times).is_ok(),

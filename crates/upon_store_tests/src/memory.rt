@@ -1,6 +1,5 @@
 // What a store does where a growth of memory may be refused: the same as ever, or it says that memory is out, and a
-// refused addition leaves it as it was. `checks/refuse-in-test upon_store_tests memory::additions_and_renderings` refuses
-// each in turn.
+// refused addition leaves it as it was. `checks/growths` refuses each in turn.
 use std::alloc::Global;
 use std::borrow::CowStr;
 use std::process::Abort;
