@@ -1,23 +1,23 @@
-// What the templates that are measured call: two functions. Their formatter is the default one.
+// What the templates that are measured call: two functions.
 ghost use Rattle.std.specs.Prelude.{string_bytes};
 ghost use Rattle.upon_bench.specs.Callables.{doubled, prefixed};
 
 use std::alloc::{AllocError, Global};
-use std::borrow::CowStr;
-use upon::fmt::DefaultFormat;
 use upon::functions::{Call1, Call1S, Fn1, Fn1S};
-use upon::{Engine, Result};
+
+/// A text, or memory is out.
+type Text = Result<String, AllocError>;
 
 /// A text after another, which is kept.
 #[derive(Drop)]
-struct Prefix {
+pub(crate) struct Prefix {
     text: String,
 }
 
-impl Call1S<std::result::Result<String, AllocError>> for Prefix {
+impl Call1S<Text> for Prefix {
     ghost meaning = { λ prefix. prefixed (string_bytes prefix.text) };
 
-    fn call(&self, alloc: Global, first: &str) -> std::result::Result<String, AllocError> {
+    fn call(&self, alloc: Global, first: &str) -> Text {
         let mut whole = String::from_str(alloc, &self.text)?;
         whole.push_str(first)?;
         Ok(whole)
@@ -26,7 +26,7 @@ impl Call1S<std::result::Result<String, AllocError>> for Prefix {
 
 /// Twice an integer.
 #[derive(Drop)]
-struct Double;
+pub(crate) struct Double;
 
 impl Call1<i64, i64> for Double {
     ghost meaning = { λ _. doubled };
@@ -36,13 +36,13 @@ impl Call1<i64, i64> for Double {
     }
 }
 
-/// Puts the functions `getter` and `double` and the formatter `plain` into an engine.
-pub(crate) fn add(alloc: Global, engine: &mut Engine) -> Result<()> {
+/// Creates a function that puts `get_` before a text.
+pub(crate) fn getter(alloc: Global) -> Result<Fn1S<Prefix, Text>, AllocError> {
     let text = String::from_str(alloc, "get_")?;
-    let getter = Fn1S::<Prefix, std::result::Result<String, AllocError>>::new(Prefix { text });
-    engine.add_function(CowStr::Borrowed("getter"), Box::new(alloc, getter)?)?;
-    let double = Fn1::<Double, i64, i64>::new(Double);
-    engine.add_function(CowStr::Borrowed("double"), Box::new(alloc, double)?)?;
-    engine.add_formatter(CowStr::Borrowed("plain"), Box::new(alloc, DefaultFormat)?)?;
-    Ok(())
+    Ok(Fn1S::new(Prefix { text }))
+}
+
+/// Creates a function that doubles an integer.
+pub(crate) fn doubling() -> Fn1<Double, i64, i64> {
+    Fn1::new(Double)
 }

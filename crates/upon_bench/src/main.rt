@@ -3,6 +3,7 @@
 
 mod callables;
 mod context;
+mod deep;
 
 use std::alloc::{AllocError, Global};
 use std::borrow::CowStr;
@@ -11,8 +12,8 @@ use std::io::{Read, Write};
 use std::process::ExitCode;
 use std::{env, io};
 use upon::compile::template;
-use upon::fmt::Formatter;
-use upon::{Engine, Result as UponResult, Syntax};
+use upon::fmt::{DefaultFormat, Formatter};
+use upon::{Engine, Result as UponResult, Syntax, Value};
 use upon_html::formatters::write_escaped;
 
 /// The words of a call.
@@ -78,31 +79,47 @@ fn compiles(alloc: Global, syntax: &Syntax, text: &str, times: usize) -> bool {
     good
 }
 
-// An engine with callables, and with a template to be included.
-fn engine_of<'e>(alloc: Global) -> UponResult<Engine<'e>> {
+// What is done with the text of a template by an engine.
+#[derive(Clone, Copy)]
+enum EngineWork {
+    Compile,
+    // Render, on the context with so many more names.
+    Render(u32),
+}
+
+// Does a piece of work so often with an engine that has callables, and a template to be included.
+fn works(alloc: Global, work: EngineWork, text: &str, times: usize) -> UponResult<()> {
+    // The functions and the formatter are put in here, where the engine stays: a function that hands on what it has put
+    // behind `dyn` would have a contract that says nothing.
     let mut engine = Engine::new(alloc);
-    callables::add(alloc, &mut engine)?;
+    let getter = Box::new(alloc, callables::getter(alloc)?)?;
+    engine.add_function(CowStr::Borrowed("getter"), getter)?;
+    let double = Box::new(alloc, callables::doubling())?;
+    engine.add_function(CowStr::Borrowed("double"), double)?;
+    engine.add_formatter(CowStr::Borrowed("plain"), Box::new(alloc, DefaultFormat)?)?;
     engine.add_template(CowStr::Borrowed("row"), CowStr::Borrowed("{{ r.name }}"))?;
-    Ok(engine)
+    match work {
+        EngineWork::Compile => compiles_by_engine(&engine, text, times),
+        EngineWork::Render(more) => {
+            engine.add_template(CowStr::Borrowed("main"), CowStr::Borrowed(text))?;
+            renders(&engine, &context::context(alloc, more)?, times)
+        }
+    }
 }
 
 // Compiles a text so often by an engine.
-fn compiles_by_engine(alloc: Global, text: &str, times: usize) -> UponResult<()> {
-    let engine = engine_of(alloc)?;
+fn compiles_by_engine(engine: &Engine<'_>, text: &str, times: usize) -> UponResult<()> {
     for _ in 0..times {
         let _template = engine.compile(CowStr::Borrowed(text))?;
     }
     Ok(())
 }
 
-// Renders a text so often, on the context with so many more names.
-fn renders(alloc: Global, text: &str, more: u32, times: usize) -> UponResult<()> {
-    let mut engine = engine_of(alloc)?;
-    engine.add_template(CowStr::Borrowed("main"), CowStr::Borrowed(text))?;
-    let context = context::context(alloc, more)?;
+// Renders the template `main` so often.
+fn renders(engine: &Engine<'_>, context: &Value, times: usize) -> UponResult<()> {
     for _ in 0..times {
         if let Some(main) = engine.get_template("main") {
-            let _text = main.render_from(&context).to_string()?;
+            let _text = main.render_from(context).to_string()?;
         }
     }
     Ok(())
@@ -134,11 +151,14 @@ fn is_done(rt: &HostRuntime, alloc: Global, call: &Call) -> bool {
     };
     let text = text.as_str();
     match call.work.as_str() {
+        "copy" => deep::copy(alloc, call.times, &mut io::writer(rt)).is_ok(),
+        "compare" => deep::compare(alloc, call.times, &mut io::writer(rt)).is_ok(),
+        "drop" => deep::release(alloc, call.times, &mut io::writer(rt)).is_ok(),
         "memchr" => looks(text, call.times),
         "html" => escapes(alloc, text, call.times),
-        "compile" => compiles_by_engine(alloc, text, call.times).is_ok(),
-        "render" => renders(alloc, text, 0, call.times).is_ok(),
-        "large" => renders(alloc, text, 10_000, call.times).is_ok(),
+        "compile" => works(alloc, EngineWork::Compile, text, call.times).is_ok(),
+        "render" => works(alloc, EngineWork::Render(0), text, call.times).is_ok(),
+        "large" => works(alloc, EngineWork::Render(10_000), text, call.times).is_ok(),
         other => match syntax_of(alloc, other) {
             Ok(syntax) => compiles(alloc, &syntax, text, call.times),
             Err(_) => false,
