@@ -12,8 +12,9 @@ use std::io::{Read, Write};
 use std::process::ExitCode;
 use std::{env, io};
 use upon::compile::template;
-use upon::fmt::DefaultFormat;
+use upon::fmt::{DefaultFormat, Formatter};
 use upon::{Engine, Result as UponResult, Syntax, Value};
+use upon_html::formatters::write_escaped;
 
 /// The words of a call.
 #[derive(Drop)]
@@ -133,6 +134,16 @@ fn looks(text: &str, times: usize) -> bool {
     !found
 }
 
+// Escapes a text so often; whether there was memory each time.
+fn escapes(alloc: Global, text: &str, times: usize) -> bool {
+    let mut good = true;
+    for _ in 0..times {
+        let mut f = Formatter::new(alloc);
+        good = write_escaped(&mut f, text).is_ok() && good;
+    }
+    good
+}
+
 // Does the work of a call; whether it was all right.
 fn is_done(rt: &HostRuntime, alloc: Global, call: &Call) -> bool {
     let Some(text) = text_of(rt, alloc, call.file.as_str()) else {
@@ -144,6 +155,7 @@ fn is_done(rt: &HostRuntime, alloc: Global, call: &Call) -> bool {
         "compare" => deep::compare(alloc, call.times, &mut io::writer(rt)).is_ok(),
         "drop" => deep::release(alloc, call.times, &mut io::writer(rt)).is_ok(),
         "memchr" => looks(text, call.times),
+        "html" => escapes(alloc, text, call.times),
         "compile" => works(alloc, EngineWork::Compile, text, call.times).is_ok(),
         "render" => works(alloc, EngineWork::Render(0), text, call.times).is_ok(),
         "large" => works(alloc, EngineWork::Render(10_000), text, call.times).is_ok(),

@@ -1,5 +1,5 @@
 -- What the callables of the tests answer.
-use Rattle.std.specs.Prelude.{ℤ, List, [], ◌∷◌, Some, codes}
+use Rattle.std.specs.Prelude.{ℤ, List, [], ◌∷◌, None, Some, codes}
 use Rattle.std.specs.Int.{w64, int_wrapping_add}
 use Rattle.upon_functions.specs.Outcome.{Outcome, value, refusal}
 use Rattle.upon_types.specs.Answers.{Formatted, refused, well}
@@ -36,6 +36,10 @@ declined vs = refusal (codes "no")
 -- two letters, and then a refusal
 abbrev pub half_written : Val → Formatted
 half_written v = record { text = codes "ab"; end = refused (Some (codes "bad")) }
+
+-- a refusal without a message
+abbrev pub without_words : Val → Formatted
+without_words v = record { text = []; end = refused None }
 
 -- four letters
 abbrev pub four_letters : Val → Formatted

@@ -99,6 +99,20 @@ impl Format for Half {
     }
 }
 
+/// It refuses each value, without a message.
+#[derive(Drop)]
+struct Mute;
+
+impl Format for Mute {
+    ghost use Rattle.upon_callable_tests.specs.Callables.{without_words};
+
+    ghost formats = { λ _. without_words };
+
+    fn format(&self, _f: &mut Formatter, _value: &Value) -> fmt::Result {
+        Err(fmt::Error::from(std::fmt::Error))
+    }
+}
+
 /// It refuses no value, and else writes as the default does.
 #[derive(Drop)]
 pub struct NoNone;
@@ -131,6 +145,8 @@ pub fn engine<'e>(alloc: Global) -> Result<Engine<'e>, AllocError> {
     engine.add_function(CowStr::Borrowed("pair"), pair)?;
     let half = Box::new(alloc, Half)?;
     engine.add_formatter(CowStr::Borrowed("half"), half)?;
+    let mute = Box::new(alloc, Mute)?;
+    engine.add_formatter(CowStr::Borrowed("mute"), mute)?;
     let plain = Box::new(alloc, fmt::DefaultFormat)?;
     engine.add_formatter(CowStr::Borrowed("fmt"), plain)?;
     Ok(engine)

@@ -66,6 +66,11 @@ fn formatters(rt: HostRuntime) -> Result<(), Fail> {
             "render error: expected function, found formatter at 9..12",
         ),
         ("x{{ 1 | half }}y", "format error: bad at 8..12"),
+        ("{{ 1 | mute }}", "format error at 7..11"),
+        (
+            "{% if mute(1) %}{% endif %}",
+            "render error: expected function, found formatter at 6..10",
+        ),
     ];
     all_answer(alloc, &engine(alloc)?, &Value::None, &rows)
 }

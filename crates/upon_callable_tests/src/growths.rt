@@ -41,7 +41,7 @@ fn is_out(error: &Error) -> bool {
 // A source, what a writer has received at its end, and the reason of its fault.
 type Row = (&'static str, &'static str, Option<&'static str>);
 
-const ROWS: [Row; 9] = [
+const ROWS: [Row; 13] = [
     ("Hello {{ user.name }}!", "Hello John Smith!", None),
     (
         "{% for i in [1, 2] %}{{ i }}{% if not loop.last %},{% endif %}{% endfor %}",
@@ -79,6 +79,22 @@ const ROWS: [Row; 9] = [
         "ab",
         Some("function expects 1 arguments, 0 provided"),
     ),
+    (
+        "ab{% if double() %}{% endif %}",
+        "ab",
+        Some("function expects 1 arguments, 0 provided"),
+    ),
+    (
+        "ab{{ 300 | low }}",
+        "ab",
+        Some("function `low` expects u8 argument, but `300` is out of range"),
+    ),
+    ("{{ (1 | fmt) }}", "1", None),
+    (
+        "ab{{ [(1 | fmt)] }}",
+        "ab",
+        Some("expected function, found formatter"),
+    ),
 ];
 
 // The callables of the tests, and three templates.
@@ -92,6 +108,18 @@ fn engine_of_rows<'e>(alloc: Global) -> Result<Engine<'e>> {
         engine.add_template(CowStr::Borrowed(name), CowStr::Borrowed(source))?;
     }
     Ok(engine)
+}
+
+// The text is the row's, or its fault, or memory is out.
+fn text_ends_so(rt: &impl Abort, end: Result<String>, wanted: &str, reason: Option<&str>) {
+    match end {
+        Ok(text) => assert!(rt; reason.is_none() && text.as_str() == wanted, "{text}"),
+        Err(error) => {
+            if !is_out(&error) {
+                assert!(rt; reason.is_some() && error.reason() == reason, "{error}");
+            }
+        }
+    }
 }
 
 // The end is the row's, with all of its text received, or memory is out after a beginning of the text.
@@ -121,6 +149,8 @@ fn written(rt: &impl Abort, alloc: Global, row: &Row) -> Result<()> {
     };
     let end = template.render_from(&engine, &context).to_writer(&mut out);
     ends_so(rt, end, &out, reason);
+    let text = template.render_from(&engine, &context).to_string();
+    text_ends_so(rt, text, wanted, reason);
     Ok(())
 }
 
@@ -135,7 +165,11 @@ fn writers(rt: HostRuntime) -> std::result::Result<(), Fail> {
     Ok(())
 }
 
-const SHOWN: &str = "render error
+// Sources, and the picture of the fault of each.
+const SHOWN: [(&str, &str); 2] = [
+    (
+        "\u{e9}\n{{ x }}",
+        "render error
 
   --> <anonymous>:2:4
    |
@@ -143,28 +177,39 @@ const SHOWN: &str = "render error
    |    ^--
    |
    = reason: not found in this scope
-";
+",
+    ),
+    (
+        "{{\n",
+        "invalid syntax
 
-fn picture(rt: &impl Abort, alloc: Global) -> Result<()> {
-    let engine = Engine::new(alloc);
-    let template = engine.compile(CowStr::Borrowed("\u{e9}\n{{ x }}"))?;
-    match template.render_from(&engine, &Value::None).to_string() {
+  --> <anonymous>:2:1
+   |
+ 2 | 
+   | ^--
+   |
+   = reason: expected token, found EOF
+",
+    ),
+];
+
+// The fault of a source has this picture, or memory is out.
+fn shows_so(rt: &impl Abort, alloc: Global, source: &str, wanted: &str) {
+    match Engine::new(alloc).render_text(source, &Value::None) {
         Ok(text) => panic!(rt; "{text}"),
         Err(error) => {
             if let Ok(text) = error.pretty(alloc) {
-                assert!(rt; is_out(&error) || text.as_str() == SHOWN, "{text}");
+                assert!(rt; is_out(&error) || text.as_str() == wanted, "{text}");
             }
         }
     }
-    Ok(())
 }
 
 #[test]
-fn pictures(rt: HostRuntime) -> std::result::Result<(), Fail> {
-    if let Err(error) = picture(&rt, rt.alloc()) {
-        assert!(&rt; is_out(&error), "{error}");
+fn pictures(rt: HostRuntime) {
+    for (source, wanted) in SHOWN {
+        shows_so(&rt, rt.alloc(), source, wanted);
     }
-    Ok(())
 }
 
 // What the engine's template `u` answers, or that memory is out.

@@ -1,5 +1,5 @@
 // What calls answer where a growth of memory may be refused: the same as ever, or that memory is out, and a refused
-// call leaves the engine as it was. `checks/refuse-in-test upon_callable_tests memory::NAME` refuses each in turn.
+// call leaves the engine as it was. `checks/growths` refuses each in turn.
 use crate::callables::{Double, Half, engine};
 use serde::Serialize;
 use std::alloc::{AllocError, Global};

@@ -136,18 +136,24 @@ fn a_function_in_turn(rt: HostRuntime) -> Result<(), Fail> {
     let alloc = rt.alloc();
     let mut engine = Engine::new(alloc);
     engine.add_template(CowStr::Borrowed("t"), CowStr::Borrowed("{{ a }}"))?;
-    for (source, wanted) in [
-        ("{{ a }}{% for a in [9] %}{{ a }}{% endfor %}{{ a }}", "192"),
-        ("{% include \"t\" %}{{ b.c }}", "12"),
+    for (source, wanted, times) in [
+        (
+            "{{ a }}{% for a in [9] %}{{ a }}{% endfor %}{{ a }}",
+            "192",
+            2,
+        ),
+        ("{% include \"t\" %}{{ b.c }}", "12", 2),
         (
             "{% include \"t\" with 5 %}",
             "render error: not found in this scope at 3..4 in t",
+            0,
         ),
     ] {
         let template = engine.compile(CowStr::Borrowed(source))?;
-        let counter = ValueFn::new(Counter { asked: 0 });
-        let text = template.render_from_fn(&engine, counter).to_string();
+        let mut counter = ValueFn::new(Counter { asked: 0 });
+        let text = template.render_from_fn(&engine, &mut counter).to_string();
         assert_eq!(&rt; line_of(alloc, text)?.as_str(), wanted);
+        assert_eq!(&rt; counter.callable.asked, times);
     }
     Ok(())
 }

@@ -1,4 +1,10 @@
-// Callers of an engine whose formatters escape.
+// Callers of an engine whose formatters escape, and what is written for texts that would be markup.
 #![tactic(auto)]
 
+#[cfg(test)]
+mod guest_book;
+#[cfg(test)]
+mod hostile;
+#[cfg(test)]
+mod memory;
 pub mod pages;

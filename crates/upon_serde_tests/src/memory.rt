@@ -1,5 +1,4 @@
-// The answer is the value, or that memory is out. `checks/refuse-in-test upon_serde_tests memory::NAME` runs these tests
-// with each growth refused in turn.
+// The answer is the value, or that memory is out. `checks/growths` runs these tests with each growth refused in turn.
 use crate::samples::Shape;
 use crate::wanted::{integers, one, with};
 use std::alloc::{AllocError, Global};

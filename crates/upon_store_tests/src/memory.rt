@@ -1,6 +1,5 @@
 // What a store does where a growth of memory may be refused: the same as ever, or it says that memory is out, and a
-// refused addition leaves it as it was. `checks/refuse-in-test upon_store_tests memory::additions_and_renderings` refuses
-// each in turn.
+// refused addition leaves it as it was. `checks/growths` refuses each in turn.
 use std::alloc::Global;
 use std::borrow::CowStr;
 use std::process::Abort;
@@ -54,7 +53,10 @@ fn additions_and_renderings(rt: HostRuntime) -> Result<(), Fail> {
     let alloc = rt.alloc();
     let engine = Engine::new(alloc);
     let store = store_of(&rt, alloc, &engine);
-    let mut out = Vec::new(alloc);
+    // The writer takes its memory before: if it had none later, that would be an io error.
+    let Ok(mut out) = Vec::with_capacity(alloc, 8) else {
+        return Ok(());
+    };
     match store.render(&engine, "a/main", &Value::None, &mut out) {
         Ok(()) => assert!(&rt; out.as_slice() == b"2!".as_slice()),
         Err(StoreError::NotFound) => assert!(&rt; store.get("a/main").is_none()),

@@ -1,5 +1,6 @@
 // Templates under delimiters of one's own.
 use std::alloc::Global;
+use std::borrow::CowStr;
 use std::test::Fail;
 use upon::{Engine, Syntax, Value, value};
 use upon_testing::answers::all_answer;
@@ -107,6 +108,22 @@ fn blocks_and_expressions(rt: HostRuntime) -> Result<(), Fail> {
         "invalid syntax: unexpected keyword `if` at 3..5",
     )];
     under(alloc, syntax, &context, &equal)
+}
+
+// A template keeps the syntax under which it was added.
+#[test]
+fn an_included_template_under_its_own(rt: HostRuntime) -> Result<(), Fail> {
+    let alloc = rt.alloc();
+    let mut engine = Engine::new(alloc);
+    engine.add_template(CowStr::Borrowed("t"), CowStr::Borrowed("{{ 1 }}<< 2 >>"))?;
+    engine.set_syntax(
+        Syntax::builder()
+            .expr("<<", ">>")
+            .block("<%", "%>")
+            .build(alloc)?,
+    );
+    let rows = [("<% include \"t\" %>|<< 3 >>{{ 4 }}", "1<< 2 >>|3{{ 4 }}")];
+    all_answer(alloc, &engine, &Value::None, &rows)
 }
 
 #[test]

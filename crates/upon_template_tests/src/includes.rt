@@ -147,6 +147,20 @@ fn depth_comes_after_the_name(rt: HostRuntime) -> std::result::Result<(), Fail> 
     Ok(())
 }
 
+// A template is rendered with the templates of the engine that is given.
+#[test]
+fn templates_of_another_engine(rt: HostRuntime) -> std::result::Result<(), Fail> {
+    let alloc = rt.alloc();
+    let one = engine(alloc, &[("t", "one")])?;
+    let other = engine(alloc, &[("t", "other")])?;
+    let template = one.compile(CowStr::Borrowed("{% include \"t\" %}"))?;
+    let text = template.render_from(&one, &Value::None).to_string()?;
+    assert_eq!(&rt; text.as_str(), "one");
+    let text = template.render_from(&other, &Value::None).to_string()?;
+    assert_eq!(&rt; text.as_str(), "other");
+    Ok(())
+}
+
 // A `with` of the include comes before the name, and the name before the depth.
 #[test]
 fn depth_comes_last(rt: HostRuntime) -> std::result::Result<(), Fail> {
