@@ -1,0 +1,111 @@
+// Templates by their names, with the files that are none.
+use crate::includes::including;
+use std::alloc::{AllocError, Global};
+use std::borrow::CowStr;
+use std::collections::{BTreeMap, BTreeSet};
+use upon::error::ErrorKind;
+use upon::{Engine, Error};
+use upon_html::formatters::{Escape, Verbatim};
+use upon_tool_io::files::ReadFault;
+
+/// Why a file is no template.
+#[derive(Drop)]
+pub enum Refusal {
+    /// It could not be read.
+    Unreadable,
+    /// It is not UTF-8.
+    NotText,
+    /// Its text is no template.
+    Fault(Error),
+}
+
+/// The files of a folder by their names, with the reasons why some are no templates. An engine holds the templates.
+#[derive(Drop)]
+pub struct Library {
+    alloc: Global,
+    names: BTreeSet<String>,
+    refused: BTreeMap<String, Refusal>,
+}
+
+/// Has an engine escape values for HTML, and name `verbatim` what leaves one as it is. It fails if there is no memory.
+pub fn escape(alloc: Global, engine: &mut Engine<'_>) -> Result<(), AllocError> {
+    engine.add_formatter(CowStr::Borrowed("verbatim"), Box::new(alloc, Verbatim)?)?;
+    engine.set_default_formatter(Box::new(alloc, Escape)?);
+    Ok(())
+}
+
+impl Library {
+    /// Creates a library without files.
+    pub fn new(alloc: Global) -> Library {
+        Library {
+            alloc,
+            names: BTreeSet::new(alloc),
+            refused: BTreeMap::new(alloc),
+        }
+    }
+
+    /// Returns the names of the files, in ascending order.
+    pub fn names(&self) -> &BTreeSet<String> {
+        &self.names
+    }
+
+    /// Returns why the file of a name is no template, or `None` if it is one or is not there.
+    pub fn refusal(&self, name: &str) -> Option<&Refusal> {
+        self.refused.get(name)
+    }
+
+    /// Adds a file: its template to the engine, or the reason why it is none. It fails if there is no memory.
+    pub fn add(
+        &mut self,
+        engine: &mut Engine<'_>,
+        name: &str,
+        read: Result<String, ReadFault>,
+    ) -> Result<(), AllocError> {
+        self.names.insert(String::from_str(self.alloc, name)?)?;
+        if let Some(refusal) = add_template(engine, name, read)? {
+            let name = String::from_str(self.alloc, name)?;
+            drop(self.refused.insert(name, refusal)?);
+        }
+        Ok(())
+    }
+
+    /// Returns the file that is no template and that a rendering reached, if that is why it ended with this error.
+    pub fn reached(&self, engine: &Engine<'_>, error: &Error) -> Option<(&str, &Refusal)> {
+        if error.reason() != Some("unknown template") {
+            return None;
+        }
+        let template = engine.get_template(error.template_name()?)?;
+        let place = error.place()?;
+        let quoted = template.source().get(place.m..place.n)?;
+        self.refusal_at(quoted)
+    }
+
+    // The file that is no template of the name that a quoted string denotes.
+    fn refusal_at(&self, quoted: &str) -> Option<(&str, &Refusal)> {
+        let template = including(self.alloc, quoted).ok()?;
+        let names = template.includes().ok()?;
+        let (name, refusal) = self.refused.get_key_value(*names.first()?)?;
+        Some((name.as_str(), refusal))
+    }
+}
+
+// Adds the template of a text to an engine; if it is none, the answer is the reason.
+fn add_template(
+    engine: &mut Engine<'_>,
+    name: &str,
+    read: Result<String, ReadFault>,
+) -> Result<Option<Refusal>, AllocError> {
+    let text = match read {
+        Ok(text) => text,
+        Err(ReadFault::NotText) => return Ok(Some(Refusal::NotText)),
+        Err(ReadFault::Unreadable) => return Ok(Some(Refusal::Unreadable)),
+        Err(ReadFault::OutOfMemory) => return Err(AllocError),
+    };
+    let Err(error) = engine.add_template(CowStr::Borrowed(name), CowStr::Owned(text)) else {
+        return Ok(None);
+    };
+    match error.kind() {
+        ErrorKind::OutOfMemory => Err(AllocError),
+        _ => Ok(Some(Refusal::Fault(error))),
+    }
+}

@@ -1,0 +1,11 @@
+// Tests of the tool: its words, what it shows of templates on JSON, and what it says of errors.
+#![tactic(auto)]
+
+#[cfg(test)]
+mod checks;
+#[cfg(test)]
+mod libraries;
+#[cfg(test)]
+mod renderings;
+#[cfg(test)]
+mod words;
