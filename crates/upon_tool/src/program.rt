@@ -4,13 +4,14 @@ ghost use Rattle.std.specs.Prelude.{◌≤◌};
 use crate::check::{check_file, check_text};
 use crate::failure::{Failure, report};
 use crate::library::{Library, escape};
+use crate::names;
 use crate::rendering::{Page, explain, send, show};
 use std::alloc::{AllocError, Global};
 use std::borrow::CowStr;
 use std::io::{BufWriter, Read, Write};
 use std::rt::Files;
 use upon::Engine;
-use upon_tool_io::arguments::{self, Call, CheckCall, RenderCall};
+use upon_tool_io::arguments::{self, Call, CheckCall, NamesCall, RenderCall};
 use upon_tool_io::files::{ReadFault, files_of, joined, read_file, read_text};
 use upon_tool_io::output::Replacement;
 
@@ -29,12 +30,18 @@ pub fn run<R: Files + AllocGlobal + Clone + Drop, I: Read, O: Write, E: Write>(
     match arguments::read(alloc, words) {
         Ok(Call::Render(call)) => run_render(rt, &call, input, out, err),
         Ok(Call::Check(call)) => run_check(rt, &call, input, err),
-        Err(error) => show_words(&error, out, err),
+        Ok(Call::Names(call)) => run_names(rt, &call, input, out, err),
+        Err(error) => show_words(alloc, &error, out, err),
     }
 }
 
 // Shows the help, or what is wrong with the words, and answers the status.
-fn show_words<O: Write, E: Write>(error: &clap::Error, out: &mut O, err: &mut E) -> u8
+fn show_words<O: Write, E: Write>(
+    alloc: Global,
+    error: &clap::Error,
+    out: &mut O,
+    err: &mut E,
+) -> u8
     ensures { result ≤ 2 }
 {
     if error.use_stderr() {
@@ -46,7 +53,7 @@ fn show_words<O: Write, E: Write>(error: &clap::Error, out: &mut O, err: &mut E)
     }
     match write!(out, "{error}").and_then(|_| out.flush()) {
         Ok(()) => 0,
-        Err(_) => 1,
+        Err(error) => report(alloc, &Failure::Fault(error.into()), err),
     }
 }
 
@@ -136,10 +143,7 @@ fn prepare<'a, R: Files + AllocGlobal + Clone + Drop, I: Read>(
     if call.html {
         escape(rt.alloc(), engine)?;
     }
-    if let Some(folder) = call.templates {
-        add_folder(rt, folder, engine, library)?;
-    }
-    engine.add_template(CowStr::Borrowed(call.file), CowStr::Owned(source))?;
+    add_templates(rt, call.templates, call.file, source, engine, library)?;
     Ok(Context { json, set })
 }
 
@@ -188,6 +192,22 @@ fn failure_of<'a>(name: &'a str, fault: ReadFault) -> Failure<'a> {
         ReadFault::NotText => Failure::NotText(name),
         ReadFault::OutOfMemory => AllocError.into(),
     }
+}
+
+// Adds the templates of a folder, if one is given, and then that of a file.
+fn add_templates<'a, R: Files + AllocGlobal + Clone + Drop>(
+    rt: &R,
+    folder: Option<&'a str>,
+    file: &'a str,
+    source: String,
+    engine: &mut Engine<'_>,
+    library: &mut Library,
+) -> Result<(), Failure<'a>> {
+    if let Some(folder) = folder {
+        add_folder(rt, folder, engine, library)?;
+    }
+    engine.add_template(CowStr::Borrowed(file), CowStr::Owned(source))?;
+    Ok(())
 }
 
 // Adds each file of a folder under its path in it.
@@ -281,4 +301,34 @@ fn check_folder<E: Write>(
         is_right &= check_file(alloc, engine, library, name.as_str(), err)?;
     }
     Ok(is_right)
+}
+
+// Lists what a template needs, and answers the status.
+fn run_names<R: Files + AllocGlobal + Clone + Drop, I: Read, O: Write, E: Write>(
+    rt: &R,
+    call: &NamesCall<'_>,
+    input: &mut I,
+    out: &mut O,
+    err: &mut E,
+) -> u8
+    ensures { result ≤ 2 }
+{
+    let alloc = rt.alloc();
+    let mut engine = Engine::new(alloc);
+    let mut library = Library::new(alloc);
+    let added = match text_of(rt, call.file, input) {
+        Ok(source) => add_templates(
+            rt,
+            call.templates,
+            call.file,
+            source,
+            &mut engine,
+            &mut library,
+        ),
+        Err(failure) => Err(failure),
+    };
+    match added {
+        Ok(()) => names::show(alloc, &engine, &library, call.file, call.json, out, err),
+        Err(failure) => report(alloc, &failure, err),
+    }
 }

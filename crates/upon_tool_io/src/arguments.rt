@@ -10,6 +10,8 @@ pub enum Call<'a> {
     Render(RenderCall<'a>),
     /// To check templates.
     Check(CheckCall<'a>),
+    /// To list what a template needs.
+    Names(NamesCall<'a>),
 }
 
 /// A rendering that is asked for.
@@ -38,6 +40,17 @@ pub struct CheckCall<'a> {
     pub templates: Option<&'a str>,
 }
 
+/// A list that is asked for, of what a template needs.
+#[derive(Drop)]
+pub struct NamesCall<'a> {
+    /// The template's file; `-` is standard input.
+    pub file: &'a str,
+    /// The folder of the templates that can be included.
+    pub templates: Option<&'a str>,
+    /// Whether the list is JSON.
+    pub json: bool,
+}
+
 const FILE: &str = "FILE";
 
 const DATA: &str = "data";
@@ -50,9 +63,13 @@ const HTML: &str = "html";
 
 const OUT: &str = "out";
 
+const JSON: &str = "json";
+
 const RENDER: &str = "render";
 
 const CHECK: &str = "check";
+
+const NAMES: &str = "names";
 
 /// Returns what the words ask for, of which the first is the program's name. The error is clap's: its text is for the
 /// user, also the help that was asked for.
@@ -62,6 +79,7 @@ pub fn read<'a>(alloc: Global, words: &'a [String]) -> Result<Call<'a>, clap::Er
     match matches.subcommand() {
         Some((RENDER, found)) => Ok(Call::Render(render_call(alloc, found)?)),
         Some((CHECK, found)) => Ok(Call::Check(check_call(alloc, found)?)),
+        Some((NAMES, found)) => Ok(Call::Names(names_call(found))),
         _ => Err(command.error(ErrorKind::MissingSubcommand, "a command is missing")?),
     }
 }
@@ -86,6 +104,15 @@ fn check_call<'a>(alloc: Global, matches: &ArgMatches<'a>) -> Result<CheckCall<'
     })
 }
 
+// What a list's matches ask for.
+fn names_call<'a>(matches: &ArgMatches<'a>) -> NamesCall<'a> {
+    NamesCall {
+        file: matches.get_str(FILE).unwrap_or_default(),
+        templates: matches.get_str(TEMPLATES),
+        json: matches.get_flag(JSON),
+    }
+}
+
 // The values of an argument that may be there several times.
 fn words<'a>(alloc: Global, found: Option<&[&'a str]>) -> Result<Vec<&'a str>, AllocError> {
     match found {
@@ -97,11 +124,12 @@ fn words<'a>(alloc: Global, found: Option<&[&'a str]>) -> Result<Vec<&'a str>, A
 fn command<'a>(alloc: Global) -> Result<Command<'a>, AllocError> {
     Command::new(alloc, "upon-tool")
         .bin_name("upon-tool")?
-        .about("Renders and checks templates")
+        .about("Renders templates, checks them, and lists what they need")
         .subcommand_required(true)
         .disable_help_subcommand(true)
         .subcommand(render_command(alloc)?)?
-        .subcommand(check_command(alloc)?)
+        .subcommand(check_command(alloc)?)?
+        .subcommand(names_command(alloc)?)
 }
 
 fn render_command<'a>(alloc: Global) -> Result<Command<'a>, AllocError> {
@@ -146,6 +174,20 @@ fn check_command<'a>(alloc: Global) -> Result<Command<'a>, AllocError> {
         .about("Shows each error of templates, and each include that names none")
         .arg(files)?
         .arg(templates(alloc))
+}
+
+fn names_command<'a>(alloc: Global) -> Result<Command<'a>, AllocError> {
+    let json = Arg::new(alloc, JSON)
+        .long(JSON)
+        .action(ArgAction::SetTrue)
+        .help("Write one JSON object in place of lines");
+    Command::new(alloc, NAMES)
+        .about(
+            "Lists the names that a template needs of its context, and the templates that it includes",
+        )
+        .arg(file(alloc))?
+        .arg(templates(alloc))?
+        .arg(json)
 }
 
 fn file<'a>(alloc: Global) -> Arg<'a> {
