@@ -1,7 +1,7 @@
 // What the words of a call ask for.
 use std::alloc::{AllocError, Global};
 use std::test::Fail;
-use upon_tool_io::arguments::{Call, CheckCall, RenderCall, read};
+use upon_tool_io::arguments::{Call, CheckCall, NamesCall, RenderCall, read};
 
 // The words ask for this, as one text.
 fn asks(alloc: Global, words: &[&str], wanted: &str) -> Result<(), Fail> {
@@ -12,6 +12,7 @@ fn asks(alloc: Global, words: &[&str], wanted: &str) -> Result<(), Fail> {
     let line = match read(alloc, owned.as_slice()) {
         Ok(Call::Render(call)) => render_line(alloc, &call)?,
         Ok(Call::Check(call)) => check_line(alloc, &call)?,
+        Ok(Call::Names(call)) => names_line(alloc, &call)?,
         Err(error) => format!(in alloc; "{:?}", error.kind())?,
     };
     if line.as_str() == wanted {
@@ -36,6 +37,15 @@ fn render_line(alloc: Global, call: &RenderCall<'_>) -> Result<String, AllocErro
 fn check_line(alloc: Global, call: &CheckCall<'_>) -> Result<String, AllocError> {
     let CheckCall { files, templates } = call;
     format!(in alloc; "{files:?} {templates:?}")
+}
+
+fn names_line(alloc: Global, call: &NamesCall<'_>) -> Result<String, AllocError> {
+    let NamesCall {
+        file,
+        templates,
+        json,
+    } = call;
+    format!(in alloc; "{file} {templates:?} {json}")
 }
 
 #[test]
@@ -72,11 +82,20 @@ fn checks(rt: HostRuntime) -> Result<(), Fail> {
 }
 
 #[test]
+fn lists(rt: HostRuntime) -> Result<(), Fail> {
+    let alloc = rt.alloc();
+    asks(alloc, &["t", "names", "a"], "a None false")?;
+    let words = ["t", "names", "--json", "--templates", "d", "-"];
+    asks(alloc, words.as_slice(), "- Some(\"d\") true")
+}
+
+#[test]
 fn refusals(rt: HostRuntime) -> Result<(), Fail> {
     let alloc = rt.alloc();
     asks(alloc, &["t"], "MissingSubcommand")?;
     asks(alloc, &["t", "render"], "MissingRequiredArgument")?;
     asks(alloc, &["t", "check"], "MissingRequiredArgument")?;
+    asks(alloc, &["t", "names"], "MissingRequiredArgument")?;
     asks(alloc, &["t", "render", "a", "b"], "UnknownArgument")?;
     asks(
         alloc,
