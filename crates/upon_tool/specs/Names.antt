@@ -35,10 +35,14 @@ needs_data needs = object (member (codes "missing") (names_data (missing_names n
     (member (codes "templates") (names_data (reached_templates needs))
     (member (codes "whole") (boolean (needs_whole needs)) no_members))))
 
--- a name in one line: a line break as `\n`, and a backslash as two
+-- a byte of a name in one line: a line break as `\n`, and a backslash as two
+abbrev pub in_line : ℕ → List ℕ
+in_line b = if b == byte "\n" then codes "\\n" else (if b == byte "\\" then codes "\\\\" else b ∷ [])
+
+-- a name in one line
 abbrev pub one_line : List ℕ → List ℕ
 one_line [] = []
-one_line (b ∷ bs) = (if b == byte "\n" then codes "\\n" else if b == byte "\\" then codes "\\\\" else b ∷ []) ++ one_line bs
+one_line (b ∷ bs) = in_line b ++ one_line bs
 
 -- a line for each name, with this before it
 abbrev pub lines_of : List ℕ → List (List ℕ) → List ℕ

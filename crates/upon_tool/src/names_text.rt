@@ -3,7 +3,7 @@ ghost use Rattle.std.specs.Prelude.{◌≡◌, ◌++◌, IfOk, OnOk, string_byte
 ghost use Rattle.serde_json.specs.View.{view};
 ghost use Rattle.serde_json.specs.Written.{compact_text};
 ghost use Rattle.upon_engine.specs.Names.{texts};
-ghost use Rattle.upon_tool.specs.Names.{lines_of, names_data, needs_data, needs_lines, needs_text, one_line};
+ghost use Rattle.upon_tool.specs.Names.{in_line, lines_of, names_data, needs_data, needs_lines, needs_text, one_line};
 
 use serde_json::{Value as Json, json};
 use std::alloc::{AllocError, Global};
@@ -82,11 +82,19 @@ fn push_name(text: &mut Vec<u8>, name: &str) -> Result<(), AllocError>
     ensures { OnOk result (text.new.items ≡ text.old.items ++ one_line name.now) }
 {
     for byte in name.as_bytes() {
-        match byte {
-            b'\n' => text.extend_from_slice(b"\\n")?,
-            b'\\' => text.extend_from_slice(b"\\\\")?,
-            _ => text.push(*byte)?,
-        }
+        push_byte(text, *byte)?;
+    }
+    Ok(())
+}
+
+// Appends a byte of a name: a line break as `\n`, and a backslash as two.
+fn push_byte(text: &mut Vec<u8>, byte: u8) -> Result<(), AllocError>
+    ensures { OnOk result (text.new.items ≡ text.old.items ++ in_line byte) }
+{
+    match byte {
+        b'\n' => text.extend_from_slice(b"\\n")?,
+        b'\\' => text.extend_from_slice(b"\\\\")?,
+        _ => text.push(byte)?,
     }
     Ok(())
 }
