@@ -1,5 +1,6 @@
 pub mod Entries
 pub mod Syntax
+pub mod DefaultSyntax
 pub mod SetTexts
 pub mod TagTexts
 pub mod Builder

@@ -1,10 +1,12 @@
 // The delimiters of a template language.
-ghost use Rattle.std.specs.Prelude.{◌≡◌, ◌<◌, length, map, true, IfOk};
+ghost use Rattle.std.specs.Prelude.{◌≡◌, ◌<◌, length, map, true, IfOk, IsOkAnd};
 ghost use Rattle.upon_language_spec.specs.DefaultDelimiters.{default_delimiters};
 ghost use Rattle.upon_language_spec.specs.LiesIn.{HasUtf8};
 ghost use Rattle.upon_language_spec.specs.Search.{HasTexts, kind_at, text_at};
 ghost use Rattle.upon_lexer.specs.Entries.{delimiter_text_of, entries_list, nodes_list};
 ghost use Rattle.upon_lexer.specs.Grown.{nodes_of};
+ghost use Rattle.upon_lexer.specs.declared.types.syntax.Entries.TheVariants.{Default};
+ghost use Rattle.upon_lexer.specs.declared.types.syntax.Nodes.TheVariants.{Default as DefaultNodes};
 ghost use Rattle.upon_lexer.specs.SetTexts.{nothing_set, usual_texts, built_delimiters};
 
 pub use builder::SyntaxBuilder;
@@ -235,7 +237,8 @@ enum Entries {
 
 impl Entries {
     fn try_clone(&self) -> Result<Entries, AllocError>
-        ensures { IfOk result (λ copy. entries_list copy ≡ entries_list self.now) }
+        ensures list { IfOk result (λ copy. entries_list copy ≡ entries_list self.now) }
+        ensures succeeds { self.now ≡ Default → IsOkAnd result (λ copy. copy ≡ Default) }
     {
         match self {
             Entries::Default => Ok(Entries::Default),
@@ -281,7 +284,8 @@ enum Nodes {
 
 impl Nodes {
     fn try_clone(&self) -> Result<Nodes, AllocError>
-        ensures { IfOk result (λ copy. nodes_list copy ≡ nodes_list self.now) }
+        ensures list { IfOk result (λ copy. nodes_list copy ≡ nodes_list self.now) }
+        ensures succeeds { self.now ≡ DefaultNodes → IsOkAnd result (λ copy. copy ≡ DefaultNodes) }
     {
         match self {
             Nodes::Default => Ok(Nodes::Default),
@@ -329,6 +333,7 @@ pub struct Syntax {
 }
 
 impl Syntax {
+    ghost use Rattle.upon_lexer.specs.DefaultSyntax.{IsDefault};
     ghost use Rattle.upon_lexer.specs.Syntax.{syntax_delimiters};
     ghost use Rattle.upon_lexer.specs.Builder.{builder_texts};
 
@@ -337,6 +342,7 @@ impl Syntax {
     pub fn default() -> Syntax
         ensures list { syntax_delimiters result ≡ default_delimiters }
         ensures built { syntax_delimiters result ≡ built_delimiters usual_texts }
+        ensures itself { IsDefault result }
     {
         Syntax {
             entries: Entries::Default,
@@ -351,9 +357,10 @@ impl Syntax {
         SyntaxBuilder::new()
     }
 
-    /// A syntax of the same list. It fails where there is no memory for the copy; the default syntax takes none.
+    /// Returns a syntax of the same list. It fails if there is no memory for the copy; the default syntax takes none.
     pub fn try_clone(&self) -> Result<Syntax, AllocError>
-        ensures { IfOk result (λ copy. syntax_delimiters copy ≡ syntax_delimiters self.now) }
+        ensures list { IfOk result (λ copy. syntax_delimiters copy ≡ syntax_delimiters self.now) }
+        ensures succeeds { IsDefault self.now → IsOkAnd result IsDefault }
     {
         Ok(Syntax {
             entries: self.entries.try_clone()?,

@@ -15,7 +15,7 @@ use Rattle.upon_engine.proofs.compile.with_searcher.Goals as goal
 pub from_parts-requires : goal.from_parts-requires
 from_parts-requires c =
     let instrs = c.in_ok-instrs.instrs.items in
-    subst (λ d. HasProgram d (cow_str_bytes c.args.source) instrs) (sym (c.in_ok-syntax.ensures ∙ c.syntax.ensures)) (subst (λ s. HasProgram (searcher_delimiters c.args.searcher.now) s instrs) c.as_str.ensures.value c.in_ok-instrs.ensures.program)
+    subst (λ d. HasProgram d (cow_str_bytes c.args.source) instrs) (sym (c.in_ok-syntax.ensures.list ∙ c.syntax.ensures)) (subst (λ s. HasProgram (searcher_delimiters c.args.searcher.now) s instrs) c.as_str.ensures.value c.in_ok-instrs.ensures.program)
 
 pub returns-clause-has_tree : goal.returns-clause-has_tree
 returns-clause-has_tree c =
@@ -24,14 +24,14 @@ returns-clause-has_tree c =
     let s = c.as_str.result.now in
     let some = c.in_ok-instrs.ensures.has_tree in
     let has : HasTree d s some.0 = some.1 in
-    let kept = kept_has d (template_syntax t) (sym (c.from_parts.ensures.syntax ∙ (c.in_ok-syntax.ensures ∙ c.syntax.ensures))) s (template_source t) t.instrs.items t.is_compiled some.0 (c.as_str.ensures.value ∙ sym c.from_parts.ensures.source) has in
+    let kept = kept_has d (template_syntax t) (sym (c.from_parts.ensures.syntax ∙ (c.in_ok-syntax.ensures.list ∙ c.syntax.ensures))) s (template_source t) t.instrs.items t.is_compiled some.0 (c.as_str.ensures.value ∙ sym c.from_parts.ensures.source) has in
     subst (λ x. HasTree d x (template_tree t)) c.from_parts.ensures.source kept
 
 pub returns-clause-only_tree : goal.returns-clause-only_tree
 returns-clause-only_tree c tree has =
     let t = c.from_parts.result in
     let d = searcher_delimiters c.args.searcher.now in
-    kept_only d (template_syntax t) (sym (c.from_parts.ensures.syntax ∙ (c.in_ok-syntax.ensures ∙ c.syntax.ensures))) (template_source t) t.instrs.items t.is_compiled tree (subst (λ x. HasTree d x tree) (sym c.from_parts.ensures.source) has)
+    kept_only d (template_syntax t) (sym (c.from_parts.ensures.syntax ∙ (c.in_ok-syntax.ensures.list ∙ c.syntax.ensures))) (template_source t) t.instrs.items t.is_compiled tree (subst (λ x. HasTree d x tree) (sym c.from_parts.ensures.source) has)
 
 pub returns-in_err-instrs-clause-no_tree : goal.returns-in_err-instrs-clause-no_tree
 returns-in_err-instrs-clause-no_tree c =

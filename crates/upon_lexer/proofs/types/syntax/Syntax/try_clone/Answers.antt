@@ -6,10 +6,10 @@ use Rattle.upon_lexer.proofs.types.syntax.Syntax.try_clone.Goals as goal
 
 pub invariant_of-result : goal.invariant_of-result
 invariant_of-result c =
-    let same = sym c.in_ok-try_clone.ensures in
+    let same = sym c.in_ok-try_clone.ensures.list in
     let Utf8 : List DelimiterText → Type 0 = λ ds. ∥ HasUtf8 ds ∥₁ in
     record {
       has_texts = subst HasTexts same c.args.self.now.has_texts;
       has_utf8 = subst Utf8 same c.args.self.now.has_utf8;
-      is_trie = c.in_ok-try_clone-2.ensures ∙ c.args.self.now.is_trie ∙ ap nodes_of same;
+      is_trie = c.in_ok-try_clone-2.ensures.list ∙ c.args.self.now.is_trie ∙ ap nodes_of same;
     }
