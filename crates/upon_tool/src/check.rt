@@ -28,9 +28,10 @@ pub fn missing<'t>(
         ↔ (Includes name (template_tree template.now) × (is_missing own.now table name ≡ true))) }
 {
     let mut missing = Vec::new(alloc);
-    for name in template.includes()? {
+    let names = template.includes()?;
+    for name in names.as_slice() {
         if is_missing(engine, own, name) {
-            missing.push(name)?;
+            missing.push(*name)?;
         }
     }
     Ok(missing)

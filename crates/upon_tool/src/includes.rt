@@ -1,9 +1,12 @@
 // Where a text includes templates, and which.
+ghost use Rattle.upon_types.specs.Span.{LiesIn};
+
 use crate::failure::report_fault;
 use std::alloc::Global;
 use std::borrow::CowStr;
 use std::io;
 use upon::error::ErrorKind;
+use upon::types::Span;
 use upon::types::token::Token;
 use upon::{Engine, Error, Result, Template};
 use upon_lexer::compile::lex::Lexer;
@@ -34,18 +37,20 @@ pub fn show_includes<E: io::Write>(
         };
         let text = source.get(span.m..span.n).unwrap_or_default();
         if is_next && includes_one(alloc, text, missing)? {
-            let shown = Some((source, span));
-            let error = Error::from_parts(
-                alloc,
-                ErrorKind::Render,
-                Some("unknown template"),
-                shown,
-            );
-            report_fault(alloc, &error.with_name(alloc, name), err);
+            show_include(alloc, name, source, span, err);
         }
         is_next = matches!(token, Token::Keyword) && text == "include";
     }
     Ok(())
+}
+
+// Shows an include at a span.
+fn show_include<E: io::Write>(alloc: Global, name: &str, source: &str, span: Span, err: &mut E)
+    requires { LiesIn source.now span }
+{
+    let reason = Some("unknown template");
+    let error = Error::from_parts(alloc, ErrorKind::Render, reason, Some((source, span)));
+    report_fault(alloc, &error.with_name(alloc, name), err);
 }
 
 // Whether a quoted name is one of these.

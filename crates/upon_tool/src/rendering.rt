@@ -1,5 +1,5 @@
 // A template rendered on the value of JSON.
-ghost use Rattle.std.specs.Prelude.{◌≡◌, ◌≤◌, None, Some, IfErr, IsErr, OnOk, true};
+ghost use Rattle.std.specs.Prelude.{◌≡◌, ◌≤◌, None, Some, IfErr, IsErr, OnOk, option_map, true};
 ghost use Rattle.upon_types.specs.Tree.{Statements};
 ghost use Rattle.upon_language_spec.specs.Grammar.{HasTree};
 ghost use Rattle.upon_engine.specs.Texts.{Stored};
@@ -45,18 +45,27 @@ pub fn render<'a, O: io::Write>(
     // If there is no context, nothing is written.
     ensures unwritten { IfErr result (λ f. is_of_data f ≡ true → O.contents out.new ≡ O.contents out.old) }
 {
-    let (file, json) = match page.json {
-        Some((file, json)) => (file, Some(json)),
-        None => ("", None),
-    };
+    let (file, json) = parts(page.json);
     let value = match context(alloc, json, page.set) {
         Ok(value) => value,
         Err(fault) => return Err(Failure::Data(file, fault)),
     };
-    match engine.render_template_to(page.name, &value, out) {
-        Some(Ok(())) => Ok(()),
-        Some(Err(error)) => Err(Failure::Fault(error)),
-        None => Err(Failure::Unreadable(page.name)),
+    let Some(rendered) = engine.render_template_to(page.name, &value, out) else {
+        return Err(Failure::Unreadable(page.name));
+    };
+    match rendered {
+        Ok(()) => Ok(()),
+        Err(error) => Err(Failure::Fault(error)),
+    }
+}
+
+// The name of the context's file, and its text if it is there.
+fn parts<'a, 't>(json: Option<(&'a str, &'t str)>) -> (&'a str, Option<&'t str>)
+    ensures { option_map (λ text. text.now) result.1 ≡ json_in json.entry }
+{
+    match json {
+        Some((file, text)) => (file, Some(text)),
+        None => ("", None),
     }
 }
 
