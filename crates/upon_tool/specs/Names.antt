@@ -49,12 +49,14 @@ abbrev pub lines_of : List ℕ → List (List ℕ) → List ℕ
 lines_of kind [] = []
 lines_of kind (name ∷ names) = kind ++ (one_line name ++ byte "\n" ∷ lines_of kind names)
 
--- the lines
+-- the lines, with one more if the whole context counts
+abbrev pub with_whole : Bool → List ℕ → List ℕ
+with_whole whole lines = if whole then lines ++ codes "whole\n" else lines
+
+-- the lines of what is needed
 abbrev pub needs_lines : Needs → List ℕ
-needs_lines needs = lines_of (codes "name ") (needed_names needs)
-    ++ (lines_of (codes "template ") (reached_templates needs)
-    ++ (lines_of (codes "missing ") (missing_names needs)
-    ++ (if needs_whole needs then codes "whole\n" else [])))
+needs_lines needs = with_whole (needs_whole needs) ((lines_of (codes "name ") (needed_names needs)
+    ++ lines_of (codes "template ") (reached_templates needs)) ++ lines_of (codes "missing ") (missing_names needs))
 
 -- what is written: the object of JSON, with a line break, or the lines
 abbrev pub needs_text : Bool → Needs → List ℕ

@@ -1,9 +1,10 @@
 // The texts in which it is shown what a template needs: lines, or JSON.
-ghost use Rattle.std.specs.Prelude.{◌≡◌, ◌++◌, IfOk, OnOk, string_bytes};
-ghost use Rattle.serde_json.specs.View.{view};
+ghost use Rattle.std.specs.Prelude.{◌≡◌, ◌++◌, map, IfOk, OnOk, string_bytes};
+ghost use Rattle.serde_json.specs.Data.{string};
+ghost use Rattle.serde_json.specs.View.{items_of, items_view, view};
 ghost use Rattle.serde_json.specs.Written.{compact_text};
 ghost use Rattle.upon_engine.specs.Names.{texts};
-ghost use Rattle.upon_tool.specs.Names.{in_line, lines_of, names_data, needs_data, needs_lines, needs_text, one_line};
+ghost use Rattle.upon_tool.specs.Names.{in_line, lines_of, needs_data, needs_lines, needs_text, one_line};
 
 use serde_json::{Value as Json, json};
 use std::alloc::{AllocError, Global};
@@ -26,29 +27,30 @@ pub fn needs_text(alloc: Global, needs: &Needs<'_>, as_json: bool) -> Result<Vec
 fn object_text(alloc: Global, needs: &Needs<'_>) -> Result<String, AllocError>
     ensures { IfOk result (λ text. string_bytes text ≡ compact_text (needs_data needs.now)) }
 {
-    object(alloc, needs)?.to_string(alloc)
+    let json = object(alloc, needs)?;
+    json.to_string(alloc)
 }
 
 // Its members are the three lists, and whether the whole context counts.
 fn object(alloc: Global, needs: &Needs<'_>) -> Result<Json, AllocError>
     ensures { IfOk result (λ json. view json ≡ needs_data needs.now) }
 {
-    let names = array(alloc, needs.names())?;
-    let templates = array(alloc, needs.templates())?;
-    let missing = array(alloc, needs.missing())?;
+    let names = strings(alloc, needs.names())?;
+    let templates = strings(alloc, needs.templates())?;
+    let missing = strings(alloc, needs.missing())?;
     let whole = needs.is_whole();
     json!(in alloc; {"names": names, "templates": templates, "missing": missing, "whole": whole})
 }
 
-// Names as JSON.
-fn array(alloc: Global, names: &[&str]) -> Result<Json, AllocError>
-    ensures { IfOk result (λ json. view json ≡ names_data (texts names.now)) }
+// Names as values of JSON.
+fn strings(alloc: Global, names: &[&str]) -> Result<Vec<Json>, AllocError>
+    ensures { IfOk result (λ items. items_view items.items ≡ items_of (map string (texts names.now))) }
 {
     let mut items = Vec::new(alloc);
     for name in names {
         items.push(Json::try_from_str(alloc, name)?)?;
     }
-    Ok(Json::Array(items))
+    Ok(items)
 }
 
 // A line for each name, after its kind; and one more if the whole context counts.
@@ -59,9 +61,10 @@ fn lines(alloc: Global, needs: &Needs<'_>) -> Result<Vec<u8>, AllocError>
     push_lines(&mut text, b"name ", needs.names())?;
     push_lines(&mut text, b"template ", needs.templates())?;
     push_lines(&mut text, b"missing ", needs.missing())?;
-    if needs.is_whole() {
-        text.extend_from_slice(b"whole\n")?;
+    if !needs.is_whole() {
+        return Ok(text);
     }
+    text.extend_from_slice(b"whole\n")?;
     Ok(text)
 }
 
@@ -81,7 +84,8 @@ fn push_lines(text: &mut Vec<u8>, kind: &[u8], names: &[&str]) -> Result<(), All
 fn push_name(text: &mut Vec<u8>, name: &str) -> Result<(), AllocError>
     ensures { OnOk result (text.new.items ≡ text.old.items ++ one_line name.now) }
 {
-    for byte in name.as_bytes() {
+    let bytes = name.as_bytes();
+    for byte in bytes {
         push_byte(text, *byte)?;
     }
     Ok(())

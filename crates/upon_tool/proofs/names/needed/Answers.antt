@@ -1,0 +1,10 @@
+use Rattle.upon_tool.proofs.names.needed.Goals as goal
+
+pub returns-in_ok-needs-in-Some-clause-needed : goal.returns-in_ok-needs-in-Some-clause-needed
+returns-in_ok-needs-in-Some-clause-needed g c = λ t is. record {
+  names = rw c.in_ok-needs-in-Some.was at (c.in-Some.ensures.names t is);
+  templates = rw c.in_ok-needs-in-Some.was at (c.in-Some.ensures.templates t is);
+  missing = rw c.in_ok-needs-in-Some.was at (c.in-Some.ensures.missing t is);
+  whole = rw c.in_ok-needs-in-Some.was at (c.in-Some.ensures.whole t is);
+  rise = rw c.in_ok-needs-in-Some.was at (c.in-Some.ensures.rise t is);
+}
