@@ -1,5 +1,5 @@
 // What a template needs: names of its context, and other templates.
-ghost use Rattle.std.specs.Prelude.{◌≡◌, ◌≤◌, None, Some, IfErr, IfOk, IsErr, OnOk};
+ghost use Rattle.std.specs.Prelude.{◌≡◌, ◌≤◌, None, Some, IfErr, IfOk, IsErrAnd, OnOk};
 ghost use Rattle.std.specs.Io.KnownBytes.{Appends};
 ghost use Rattle.upon_meaning_spec.specs.Engine.{Template as TemplateMeant};
 ghost use Rattle.upon_engine.specs.declared.needs.Needs.{Needs as Listed};
@@ -23,7 +23,7 @@ pub fn needed<'n, 'a>(engine: &'n Engine<'_>, name: &'a str) -> Result<Needs<'n>
         (t : TemplateMeant) → table name.entry.now ≡ Some t → IfErr result (λ f. status_of f ≡ 1) }
     // If it has none, there is an error.
     ensures absent { let table = (⟦<&'static Engine<'static> as EngineView>⟧.engine_view engine.entry).templates in
-        table name.entry.now ≡ None → IfErr result (λ f. status_of f ≡ 2) }
+        table name.entry.now ≡ None → IsErrAnd result (λ f. status_of f ≡ 2) }
 {
     match engine.needs(name) {
         Some(needs) => Ok(needs?),

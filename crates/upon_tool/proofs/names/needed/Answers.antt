@@ -8,3 +8,6 @@ returns-in_ok-needs-in-Some-clause-needed g c = λ t is. record {
   whole = rw c.in_ok-needs-in-Some.was at (c.in-Some.ensures.whole t is);
   rise = rw c.in_ok-needs-in-Some.was at (c.in-Some.ensures.rise t is);
 }
+
+pub returns-in_ok-needs-in-Some-clause-absent : goal.returns-in_ok-needs-in-Some-clause-absent
+returns-in_ok-needs-in-Some-clause-absent g c = λ none. absurd (c.in-Some.ensures.absent.1 none)
