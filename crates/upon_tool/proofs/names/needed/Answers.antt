@@ -1,3 +1,4 @@
+use Rattle.std.proofs.Common.{◌≡◌, true, false}
 use Rattle.upon_tool.proofs.names.needed.Goals as goal
 
 pub returns-in_ok-needs-in-Some-clause-needed : goal.returns-in_ok-needs-in-Some-clause-needed
@@ -10,4 +11,4 @@ returns-in_ok-needs-in-Some-clause-needed g c = λ t is. record {
 }
 
 pub returns-in_ok-needs-in-Some-clause-absent : goal.returns-in_ok-needs-in-Some-clause-absent
-returns-in_ok-needs-in-Some-clause-absent g c = λ none. absurd (c.in-Some.ensures.absent.1 none)
+returns-in_ok-needs-in-Some-clause-absent g c = λ none. let e : true ≡ false = c.in-Some.ensures.absent.1 none in absurd cc
