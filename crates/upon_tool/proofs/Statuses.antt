@@ -1,5 +1,5 @@
 -- The statuses of failures.
-use Rattle.std.proofs.Common.{ℕ, ◌≤◌, arith}
+use Rattle.std.proofs.Common.{◌≡◌, ℕ, ◌≤◌, arith}
 use Rattle.upon_tool.specs.Status.{status_of}
 use Rattle.upon_tool.specs.declared.failure.Failure.{Failure}
 use Rattle.upon_tool.specs.declared.failure.Failure.TheVariants.{NoEquals, InputTwice, Unreadable, NotText, Data, Unwritable, Fault}
@@ -22,3 +22,6 @@ most_status (NotText name) = omega arith
 most_status (Data name fault) = omega arith
 most_status (Unwritable name error) = omega arith
 most_status (Fault error) = omega arith
+
+pub no_success : (n : ℕ) → 1 ≤ n → n ≡ 0 → ⊥
+no_success n least is = omega arith
