@@ -5,7 +5,6 @@ use std::borrow::CowStr;
 use std::collections::{BTreeMap, BTreeSet};
 use upon::error::ErrorKind;
 use upon::{Engine, Error};
-use upon_html::formatters::{Escape, Verbatim};
 use upon_tool_io::files::ReadFault;
 
 /// Why a file is no template.
@@ -25,13 +24,6 @@ pub struct Library {
     alloc: Global,
     names: BTreeSet<String>,
     refused: BTreeMap<String, Refusal>,
-}
-
-/// Has an engine escape values for HTML, and name `verbatim` what leaves one as it is. It fails if there is no memory.
-pub fn escape(alloc: Global, engine: &mut Engine<'_>) -> Result<(), AllocError> {
-    engine.add_formatter(CowStr::Borrowed("verbatim"), Box::new(alloc, Verbatim)?)?;
-    engine.set_default_formatter(Box::new(alloc, Escape)?);
-    Ok(())
 }
 
 impl Library {

@@ -1,9 +1,9 @@
 // The program: from its words to its status.
-ghost use Rattle.std.specs.Prelude.{◌≤◌};
+ghost use Rattle.std.specs.Prelude.{◌≤◌, IfOk};
 
 use crate::check::{check_file, check_text};
 use crate::failure::{Failure, report};
-use crate::library::{Library, escape};
+use crate::library::Library;
 use crate::names;
 use crate::rendering::{Page, explain, send, show};
 use std::alloc::{AllocError, Global};
@@ -11,6 +11,7 @@ use std::borrow::CowStr;
 use std::io::{BufWriter, Read, Write};
 use std::rt::Files;
 use upon::Engine;
+use upon_html::formatters::{Escape, Verbatim};
 use upon_tool_io::arguments::{self, Call, CheckCall, NamesCall, RenderCall};
 use upon_tool_io::files::{ReadFault, files_of, joined, read_file, read_text};
 use upon_tool_io::output::Replacement;
@@ -80,19 +81,38 @@ fn run_render<R: Files + AllocGlobal + Clone + Drop, I: Read, O: Write, E: Write
 ) -> u8
     ensures { result ≤ 2 }
 {
+    match render_call(rt, call, input, out, err) {
+        Ok(status) => status,
+        Err(failure) => report(rt.alloc(), &failure, err),
+    }
+}
+
+// Renders, and answers the status, if the templates and the context can be read.
+fn render_call<'a, R: Files + AllocGlobal + Clone + Drop, I: Read, O: Write, E: Write>(
+    rt: &R,
+    call: &RenderCall<'a>,
+    input: &mut I,
+    out: &mut O,
+    err: &mut E,
+) -> Result<u8, Failure<'a>>
+    ensures { IfOk result (λ status. status ≤ 2) }
+{
     let alloc = rt.alloc();
     let mut engine = Engine::new(alloc);
+    // The formatters are put in here, where the engine stays: a function that hands on what it has put behind `dyn` would
+    // have a contract that says nothing.
+    if call.html {
+        engine.add_formatter(CowStr::Borrowed("verbatim"), Box::new(alloc, Verbatim)?)?;
+        engine.set_default_formatter(Box::new(alloc, Escape)?);
+    }
     let mut library = Library::new(alloc);
-    let context = match prepare(rt, call, input, &mut engine, &mut library) {
-        Ok(context) => context,
-        Err(failure) => return report(alloc, &failure, err),
-    };
+    let context = prepare(rt, call, input, &mut engine, &mut library)?;
     let page = Page {
         name: call.file,
         json: named(call.data, &context.json),
         set: context.set.as_slice(),
     };
-    run_page(rt, &engine, &library, &page, call.out, out, err)
+    Ok(run_page(rt, &engine, &library, &page, call.out, out, err))
 }
 
 // Renders a page to where its text is to go.
@@ -140,9 +160,6 @@ fn prepare<'a, R: Files + AllocGlobal + Clone + Drop, I: Read>(
     let set = pairs(rt.alloc(), call.set.as_slice())?;
     let source = text_of(rt, call.file, input)?;
     let json = text_at(rt, call.data, input)?;
-    if call.html {
-        escape(rt.alloc(), engine)?;
-    }
     add_templates(rt, call.templates, call.file, source, engine, library)?;
     Ok(Context { json, set })
 }

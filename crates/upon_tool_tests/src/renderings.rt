@@ -1,9 +1,11 @@
 // What is shown of a template on JSON, and what is said if that fails.
 use crate::libraries::library;
 use std::alloc::{AllocError, Global};
+use std::borrow::CowStr;
 use std::test::Fail;
 use upon::Engine;
-use upon_tool::library::{Library, escape};
+use upon_html::formatters::{Escape, Verbatim};
+use upon_tool::library::Library;
 use upon_tool::rendering::{Page, show};
 
 // The status, what went to standard output and what to standard error, as one text.
@@ -75,7 +77,8 @@ fn escapes(rt: HostRuntime) -> Result<(), Fail> {
         ("raw", b"{{ a | verbatim }}"),
     ];
     let mut engine = Engine::new(alloc);
-    escape(alloc, &mut engine)?;
+    engine.add_formatter(CowStr::Borrowed("verbatim"), Box::new(alloc, Verbatim)?)?;
+    engine.set_default_formatter(Box::new(alloc, Escape)?);
     let library = library(alloc, &mut engine, files.as_slice())?;
     let wanted = "0|<p>&lt;b&gt;</p><b>|";
     all_answer(
