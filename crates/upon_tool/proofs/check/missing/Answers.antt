@@ -1,4 +1,4 @@
-use Rattle.std.proofs.Common.{rules, ◌≡◌, ◌↔◌, ◌<◌, ◌∙◌, ℕ, List, [], Bool, Contains, length, take, get_or, option_map, sym, ap, subst}
+use Rattle.std.proofs.Common.{rules, ◌≡◌, ◌↔◌, ◌<◌, ◌∙◌, ℕ, List, [], Bool, Contains, length, take, option_map, sym, ap, subst}
 use Rattle.std.specs.BTreeMap.{get_by_text}
 use Rattle.std.proofs.lemmas.List.{take_all}
 use Rattle.upon_meaning_spec.specs.Includes.{Includes}
@@ -27,8 +27,7 @@ returns g c = λ name.
     let whole : take c.loop-name.name-index names ≡ names = take_all c.loop-name.name-index names c.loop-name-test.false in
     let same : c.loop-name.missing.items ≡ kept passes names = c.loop-name.invariant ∙ ap (kept passes) whole in
     let found = kept_contains passes names name in
-    let included : Contains (texts names) name ↔ Includes name (template_tree c.args.template.now) = subst (λ l. Contains (texts l) name ↔ Includes name (template_tree c.args.template.now)) (sym c.as_slice-name-items.ensures.value) (c.in_ok-names.ensures.included name) in
-    (
+    let included : Contains (texts names) name ↔ Includes name (template_tree c.args.template.now) = subst (λ l. Contains (texts l) name ↔ Includes name (template_tree c.args.template.now)) (sym c.as_slice-name-items.ensures.value) (c.in_ok-names.ensures.included name) in (
       λ h. let both = found.0 (subst (λ l. Contains (texts l) name) same h) in (included.0 both.0, both.1),
       λ h. subst (λ l. Contains (texts l) name) (sym same) (found.1 (included.1 h.0, h.1)),
     )
