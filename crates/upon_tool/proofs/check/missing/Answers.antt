@@ -1,4 +1,4 @@
-use Rattle.std.proofs.Common.{rules, ◌≡◌, ◌↔◌, ◌<◌, ◌∙◌, ℕ, List, [], Bool, Contains, length, take, get_or, option_map, sym, ap, subst}
+use Rattle.std.proofs.Common.{rules, ◌≡◌, ◌↔◌, ◌<◌, ◌∙◌, ℕ, List, [], Bool, Contains, length, take, option_map, sym, ap, subst}
 use Rattle.std.specs.BTreeMap.{get_by_text}
 use Rattle.std.proofs.lemmas.List.{take_all}
 use Rattle.upon_meaning_spec.specs.Includes.{Includes}
