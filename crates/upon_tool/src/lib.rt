@@ -10,3 +10,5 @@ pub mod names;
 pub mod names_text;
 pub mod program;
 pub mod rendering;
+mod sources;
+mod work;

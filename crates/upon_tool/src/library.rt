@@ -1,7 +1,6 @@
 // Templates by their names, with the files that are none.
 use crate::includes::including;
 use std::alloc::{AllocError, Global};
-use std::borrow::CowStr;
 use std::collections::{BTreeMap, BTreeSet};
 use upon::error::ErrorKind;
 use upon::{Engine, Error};
@@ -16,6 +15,28 @@ pub enum Refusal {
     NotText,
     /// Its text is no template.
     Fault(Error),
+}
+
+impl Refusal {
+    /// Returns why a file is no template that could not be read as text. It fails if there was no memory.
+    pub fn of_read(fault: ReadFault) -> Result<Refusal, AllocError> {
+        match fault {
+            ReadFault::NotText => Ok(Refusal::NotText),
+            ReadFault::Unreadable => Ok(Refusal::Unreadable),
+            ReadFault::OutOfMemory => Err(AllocError),
+        }
+    }
+
+    /// Returns why a text is no template, or `None` if an engine took it. It fails if there was no memory.
+    pub fn of_added(added: upon::Result<()>) -> Result<Option<Refusal>, AllocError> {
+        let Err(error) = added else {
+            return Ok(None);
+        };
+        match error.kind() {
+            ErrorKind::OutOfMemory => Err(AllocError),
+            _ => Ok(Some(Refusal::Fault(error))),
+        }
+    }
 }
 
 /// The files of a folder by their names, with the reasons why some are no templates. An engine holds the templates.
@@ -46,15 +67,10 @@ impl Library {
         self.refused.get(name)
     }
 
-    /// Adds a file: its template to the engine, or the reason why it is none. It fails if there is no memory.
-    pub fn add(
-        &mut self,
-        engine: &mut Engine<'_>,
-        name: &str,
-        read: Result<String, ReadFault>,
-    ) -> Result<(), AllocError> {
+    /// Keeps the name of a file, and the reason why it is no template, if it is none. It fails if there is no memory.
+    pub fn add(&mut self, name: &str, refusal: Option<Refusal>) -> Result<(), AllocError> {
         self.names.insert(String::from_str(self.alloc, name)?)?;
-        if let Some(refusal) = add_template(engine, name, read)? {
+        if let Some(refusal) = refusal {
             let name = String::from_str(self.alloc, name)?;
             drop(self.refused.insert(name, refusal)?);
         }
@@ -78,26 +94,5 @@ impl Library {
         let names = template.includes().ok()?;
         let (name, refusal) = self.refused.get_key_value(*names.first()?)?;
         Some((name.as_str(), refusal))
-    }
-}
-
-// Adds the template of a text to an engine; if it is none, the answer is the reason.
-fn add_template(
-    engine: &mut Engine<'_>,
-    name: &str,
-    read: Result<String, ReadFault>,
-) -> Result<Option<Refusal>, AllocError> {
-    let text = match read {
-        Ok(text) => text,
-        Err(ReadFault::NotText) => return Ok(Some(Refusal::NotText)),
-        Err(ReadFault::Unreadable) => return Ok(Some(Refusal::Unreadable)),
-        Err(ReadFault::OutOfMemory) => return Err(AllocError),
-    };
-    let Err(error) = engine.add_template(CowStr::Borrowed(name), CowStr::Owned(text)) else {
-        return Ok(None);
-    };
-    match error.kind() {
-        ErrorKind::OutOfMemory => Err(AllocError),
-        _ => Ok(Some(Refusal::Fault(error))),
     }
 }
