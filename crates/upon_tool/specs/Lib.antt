@@ -1,0 +1,4 @@
+pub mod Status
+pub mod Rendering
+pub mod Missing
+pub mod Names

@@ -1,0 +1,100 @@
+// Templates that are checked: their faults, and the includes that name nothing.
+ghost use Rattle.std.specs.Prelude.{◌≡◌, ◌↔◌, ℕ, List, Contains, IfOk, true};
+ghost use Rattle.upon_meaning_spec.specs.Includes.{Includes};
+ghost use Rattle.upon_engine.specs.Names.{texts};
+ghost use Rattle.upon_engine.specs.Template.{template_tree};
+ghost use Rattle.upon_tool.specs.Missing.{is_missing};
+
+use crate::failure::report_fault;
+use crate::includes::show_includes;
+use crate::library::Library;
+use crate::rendering::report_refusal;
+use std::alloc::{AllocError, Global};
+use std::borrow::CowStr;
+use std::io;
+use upon::error::ErrorKind;
+use upon::{Engine, EngineView, Template};
+
+/// Returns the names that a template includes and that are neither its own nor of a template that the engine holds, in
+/// ascending order. It fails if there is no memory.
+pub fn missing<'t>(
+    alloc: Global,
+    engine: &Engine<'_>,
+    own: &str,
+    template: &'t Template<'_>,
+) -> Result<Vec<&'t str>, AllocError>
+    ensures { let table = (⟦<&'static Engine<'static> as EngineView>⟧.engine_view engine.entry).templates in
+        IfOk result (λ names. (name : List ℕ) → Contains (texts names.items) name
+        ↔ (Includes name (template_tree template.now) × (is_missing own.now table name ≡ true))) }
+{
+    let mut missing = Vec::new(alloc);
+    let names = template.includes()?;
+    for name in names.as_slice() {
+        if is_missing(engine, own, name) {
+            missing.push(*name)?;
+        }
+    }
+    Ok(missing)
+}
+
+// Whether a name is neither this one nor of a template that the engine holds.
+fn is_missing(engine: &Engine<'_>, own: &str, name: &str) -> bool
+    ensures { let table = (⟦<&'static Engine<'static> as EngineView>⟧.engine_view engine.entry).templates in
+        result ≡ is_missing own.now table name.now }
+{
+    name != own && engine.get_template(name).is_none()
+}
+
+/// Says what is wrong with the text of a template, and returns whether nothing is. It fails if there is no memory.
+pub fn check_text<E: io::Write>(
+    alloc: Global,
+    engine: &Engine<'_>,
+    name: &str,
+    source: CowStr<'_>,
+    err: &mut E,
+) -> Result<bool, AllocError> {
+    let template = match engine.compile(source) {
+        Ok(template) => template,
+        Err(error) => {
+            let error = error.with_name(alloc, name);
+            if let ErrorKind::OutOfMemory = error.kind() {
+                return Err(AllocError);
+            }
+            report_fault(alloc, &error, err);
+            return Ok(false);
+        }
+    };
+    let missing = missing(alloc, engine, name, &template)?;
+    if missing.is_empty() {
+        return Ok(true);
+    }
+    match show_includes(alloc, name, template.source(), missing.as_slice(), err) {
+        Ok(()) => Ok(false),
+        Err(_) => Err(AllocError),
+    }
+}
+
+/// Says what is wrong with the file of a name of a library, and returns whether nothing is. It fails if there is no
+/// memory.
+pub fn check_file<E: io::Write>(
+    alloc: Global,
+    engine: &Engine<'_>,
+    library: &Library,
+    name: &str,
+    err: &mut E,
+) -> Result<bool, AllocError> {
+    if let Some(refusal) = library.refusal(name) {
+        report_refusal(alloc, name, refusal, err);
+        return Ok(false);
+    }
+    match engine.get_template(name) {
+        Some(template) => check_text(
+            alloc,
+            engine,
+            name,
+            CowStr::Borrowed(template.source()),
+            err,
+        ),
+        None => Ok(true),
+    }
+}

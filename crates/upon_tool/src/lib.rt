@@ -1,0 +1,14 @@
+// The work of the program `upon-tool`: renders templates on JSON, checks them and lists what they need, with the templates
+// of a folder.
+#![tactic(auto)]
+
+pub mod check;
+pub mod failure;
+pub mod includes;
+pub mod library;
+pub mod names;
+pub mod names_text;
+pub mod program;
+pub mod rendering;
+mod sources;
+mod work;

@@ -1,0 +1,98 @@
+// Templates by their names, with the files that are none.
+use crate::includes::including;
+use std::alloc::{AllocError, Global};
+use std::collections::{BTreeMap, BTreeSet};
+use upon::error::ErrorKind;
+use upon::{Engine, Error};
+use upon_tool_io::files::ReadFault;
+
+/// Why a file is no template.
+#[derive(Drop)]
+pub enum Refusal {
+    /// It could not be read.
+    Unreadable,
+    /// It is not UTF-8.
+    NotText,
+    /// Its text is no template.
+    Fault(Error),
+}
+
+impl Refusal {
+    /// Returns why a file is no template that could not be read as text. It fails if there was no memory.
+    pub fn of_read(fault: ReadFault) -> Result<Refusal, AllocError> {
+        match fault {
+            ReadFault::NotText => Ok(Refusal::NotText),
+            ReadFault::Unreadable => Ok(Refusal::Unreadable),
+            ReadFault::OutOfMemory => Err(AllocError),
+        }
+    }
+
+    /// Returns why a text is no template, or `None` if an engine took it. It fails if there was no memory.
+    pub fn of_added(added: upon::Result<()>) -> Result<Option<Refusal>, AllocError> {
+        let Err(error) = added else {
+            return Ok(None);
+        };
+        match error.kind() {
+            ErrorKind::OutOfMemory => Err(AllocError),
+            _ => Ok(Some(Refusal::Fault(error))),
+        }
+    }
+}
+
+/// The files of a folder by their names, with the reasons why some are no templates. An engine holds the templates.
+#[derive(Drop)]
+pub struct Library {
+    alloc: Global,
+    names: BTreeSet<String>,
+    refused: BTreeMap<String, Refusal>,
+}
+
+impl Library {
+    /// Creates a library without files.
+    pub fn new(alloc: Global) -> Library {
+        Library {
+            alloc,
+            names: BTreeSet::new(alloc),
+            refused: BTreeMap::new(alloc),
+        }
+    }
+
+    /// Returns the names of the files, in ascending order.
+    pub fn names(&self) -> &BTreeSet<String> {
+        &self.names
+    }
+
+    /// Returns why the file of a name is no template, or `None` if it is one or is not there.
+    pub fn refusal(&self, name: &str) -> Option<&Refusal> {
+        self.refused.get(name)
+    }
+
+    /// Keeps the name of a file, and the reason why it is no template, if it is none. It fails if there is no memory.
+    pub fn add(&mut self, name: &str, refusal: Option<Refusal>) -> Result<(), AllocError> {
+        self.names.insert(String::from_str(self.alloc, name)?)?;
+        if let Some(refusal) = refusal {
+            let name = String::from_str(self.alloc, name)?;
+            drop(self.refused.insert(name, refusal)?);
+        }
+        Ok(())
+    }
+
+    /// Returns the file that is no template and that a rendering reached, if that is why it ended with this error.
+    pub fn reached(&self, engine: &Engine<'_>, error: &Error) -> Option<(&str, &Refusal)> {
+        if error.reason() != Some("unknown template") {
+            return None;
+        }
+        let template = engine.get_template(error.template_name()?)?;
+        let place = error.place()?;
+        let quoted = template.source().get(place.m..place.n)?;
+        self.refusal_at(quoted)
+    }
+
+    // The file that is no template of the name that a quoted string denotes.
+    fn refusal_at(&self, quoted: &str) -> Option<(&str, &Refusal)> {
+        let template = including(self.alloc, quoted).ok()?;
+        let names = template.includes().ok()?;
+        let (name, refusal) = self.refused.get_key_value(*names.first()?)?;
+        Some((name.as_str(), refusal))
+    }
+}

@@ -1,0 +1,164 @@
+// The program: from its words to its status.
+ghost use Rattle.std.specs.Prelude.{◌≤◌, IfOk};
+
+use crate::failure::{Failure, report};
+use crate::rendering::Page;
+use crate::sources::{STANDARD, files_in, text_at, text_of};
+use crate::work::{Templates, Work, carry_out};
+use std::alloc::Global;
+use std::io::{Read, Write};
+use std::rt::Files;
+use upon_tool_io::arguments::{self, Call, CheckCall, NamesCall, RenderCall};
+
+/// Does what the words ask for, of which the first is the program's name, and returns the status. Templates and contexts
+/// come from files, and from `input` if their name is `-`.
+pub fn run<R: Files + AllocGlobal + Clone + Drop, I: Read, O: Write, E: Write>(
+    rt: &R,
+    words: &[String],
+    input: &mut I,
+    out: &mut O,
+    err: &mut E,
+) -> u8
+    ensures { result ≤ 2 }
+{
+    let alloc = rt.alloc();
+    let done = match arguments::read(alloc, words) {
+        Ok(Call::Render(call)) => run_render(rt, &call, input, out, err),
+        Ok(Call::Check(call)) => run_check(rt, &call, input, out, err),
+        Ok(Call::Names(call)) => run_names(rt, &call, input, out, err),
+        Err(error) => return show_words(alloc, &error, out, err),
+    };
+    match done {
+        Ok(status) => status,
+        Err(failure) => report(alloc, &failure, err),
+    }
+}
+
+// Shows the help, or what is wrong with the words, and answers the status.
+fn show_words<O: Write, E: Write>(
+    alloc: Global,
+    error: &clap::Error,
+    out: &mut O,
+    err: &mut E,
+) -> u8
+    ensures { result ≤ 2 }
+{
+    if error.use_stderr() {
+        let _ = write!(err, "{error}");
+        return match error.kind() {
+            clap::error::ErrorKind::OutOfMemory => 1,
+            _ => 2,
+        };
+    }
+    match write!(out, "{error}").and_then(|_| out.flush()) {
+        Ok(()) => 0,
+        Err(error) => report(alloc, &Failure::Fault(error.into()), err),
+    }
+}
+
+// Renders, and answers the status.
+fn run_render<'a, R: Files + AllocGlobal + Clone + Drop, I: Read, O: Write, E: Write>(
+    rt: &R,
+    call: &RenderCall<'a>,
+    input: &mut I,
+    out: &mut O,
+    err: &mut E,
+) -> Result<u8, Failure<'a>>
+    ensures { IfOk result (λ status. status ≤ 2) }
+{
+    if call.file == STANDARD && call.data == Some(STANDARD) {
+        return Err(Failure::InputTwice);
+    }
+    let set = pairs(rt.alloc(), call.set.as_slice())?;
+    let source = text_of(rt, call.file, input)?;
+    let json = text_at(rt, call.data, input)?;
+    let templates = Templates {
+        files: files_in(rt, call.templates)?,
+        page: Some((call.file, source)),
+        html: call.html,
+    };
+    let page = Page {
+        name: call.file,
+        json: named(call.data, &json),
+        set: set.as_slice(),
+    };
+    carry_out(
+        rt,
+        templates,
+        Work::Render(&page, call.out),
+        input,
+        out,
+        err,
+    )
+}
+
+// A text that may be there, after its file's name.
+fn named<'a, 't>(name: Option<&'a str>, text: &'t Option<String>) -> Option<(&'a str, &'t str)> {
+    match (name, text) {
+        (Some(name), Some(text)) => Some((name, text.as_str())),
+        _ => None,
+    }
+}
+
+// The words of `--set`, each split at its first `=`.
+fn pairs<'a>(alloc: Global, words: &[&'a str]) -> Result<Vec<(&'a str, &'a str)>, Failure<'a>> {
+    let mut pairs = Vec::new(alloc);
+    for word in words {
+        match word.split_once('=') {
+            Some(pair) => pairs.push(pair)?,
+            None => return Err(Failure::NoEquals(word)),
+        }
+    }
+    Ok(pairs)
+}
+
+// Checks, and answers the status.
+fn run_check<'a, R: Files + AllocGlobal + Clone + Drop, I: Read, O: Write, E: Write>(
+    rt: &R,
+    call: &CheckCall<'a>,
+    input: &mut I,
+    out: &mut O,
+    err: &mut E,
+) -> Result<u8, Failure<'a>>
+    ensures { IfOk result (λ status. status ≤ 2) }
+{
+    let templates = Templates {
+        files: files_in(rt, call.templates)?,
+        page: None,
+        html: false,
+    };
+    carry_out(
+        rt,
+        templates,
+        Work::Check(call.files.as_slice()),
+        input,
+        out,
+        err,
+    )
+}
+
+// Lists what a template needs, and answers the status.
+fn run_names<'a, R: Files + AllocGlobal + Clone + Drop, I: Read, O: Write, E: Write>(
+    rt: &R,
+    call: &NamesCall<'a>,
+    input: &mut I,
+    out: &mut O,
+    err: &mut E,
+) -> Result<u8, Failure<'a>>
+    ensures { IfOk result (λ status. status ≤ 2) }
+{
+    let source = text_of(rt, call.file, input)?;
+    let templates = Templates {
+        files: files_in(rt, call.templates)?,
+        page: Some((call.file, source)),
+        html: false,
+    };
+    carry_out(
+        rt,
+        templates,
+        Work::Names(call.file, call.json),
+        input,
+        out,
+        err,
+    )
+}

@@ -1,0 +1,155 @@
+// A template rendered on the value of JSON.
+ghost use Rattle.std.specs.Prelude.{◌≡◌, ◌≤◌, None, Some, IfErr, IsErr, OnOk, option_map, true};
+ghost use Rattle.upon_types.specs.Tree.{Statements};
+ghost use Rattle.upon_language_spec.specs.Grammar.{HasTree};
+ghost use Rattle.upon_engine.specs.Texts.{Stored};
+ghost use Rattle.upon_engine.specs.Theorem.{Sends};
+ghost use Rattle.upon_json.specs.Context.{set_pairs};
+ghost use Rattle.upon_tool.specs.Rendering.{json_in, is_of_data, Renders, Shows};
+ghost use Rattle.upon_tool.specs.Status.{status_of};
+
+use crate::failure::{Failure, report, report_fault};
+use crate::library::{Library, Refusal};
+use std::alloc::Global;
+use std::io;
+use upon::{Engine, EngineTexts};
+use upon_json::context::context;
+
+/// A template of an engine, with what it is rendered on.
+#[derive(Clone, Copy)]
+pub struct Page<'a, 't, 's> {
+    /// The template's name.
+    pub name: &'a str,
+    /// The text of a JSON object, after its file's name; none is an object without members.
+    pub json: Option<(&'a str, &'t str)>,
+    /// Texts that are set over the object, by their keys; of equal keys the last counts.
+    pub set: &'s [(&'a str, &'a str)],
+}
+
+/// Writes the text of a page.
+pub fn render<'a, O: io::Write>(
+    alloc: Global,
+    engine: &Engine<'_>,
+    page: &Page<'a, '_, '_>,
+    out: &mut O,
+) -> Result<(), Failure<'a>>
+    // If a text is held under the name, the output receives what its tree means on the value of the JSON.
+    ensures means { let texts = ⟦<&'static Engine<'static> as EngineTexts>⟧.texts engine.entry in
+        (held : Stored) (tree : Statements) → texts.texts page.now.name.now ≡ Some held
+        → HasTree held.syntax held.text tree
+        → Renders (json_in page.now.json) (set_pairs page.now.set.now) (λ v r.
+        Sends texts (Some page.now.name.now) held.text tree v r (O.contents out.old) (O.contents out.new)) result }
+    // If none is, there is an error.
+    ensures absent { let texts = ⟦<&'static Engine<'static> as EngineTexts>⟧.texts engine.entry in
+        texts.texts page.now.name.now ≡ None → IsErr result }
+    // If there is no context, nothing is written.
+    ensures unwritten { IfErr result (λ f. is_of_data f ≡ true → O.contents out.new ≡ O.contents out.old) }
+{
+    let (file, json) = parts(page.json);
+    let value = match context(alloc, json, page.set) {
+        Ok(value) => value,
+        Err(fault) => return Err(Failure::Data(file, fault)),
+    };
+    let Some(rendered) = engine.render_template_to(page.name, &value, out) else {
+        return Err(Failure::Unreadable(page.name));
+    };
+    match rendered {
+        Ok(()) => Ok(()),
+        Err(error) => Err(Failure::Fault(error)),
+    }
+}
+
+// The name of the context's file, and its text if it is there.
+fn parts<'a, 't>(json: Option<(&'a str, &'t str)>) -> (&'a str, Option<&'t str>)
+    ensures { option_map (λ text. text.now) result.1 ≡ json_in json.entry }
+{
+    match json {
+        Some((file, text)) => (file, Some(text)),
+        None => ("", None),
+    }
+}
+
+/// Writes the same, and flushes.
+pub fn send<'a, O: io::Write>(
+    alloc: Global,
+    engine: &Engine<'_>,
+    page: &Page<'a, '_, '_>,
+    out: &mut O,
+) -> Result<(), Failure<'a>>
+    // If a text is held under the name, and all went well, the output has received what its tree means.
+    ensures means { let texts = ⟦<&'static Engine<'static> as EngineTexts>⟧.texts engine.entry in
+        (held : Stored) (tree : Statements) → texts.texts page.now.name.now ≡ Some held
+        → HasTree held.syntax held.text tree
+        → OnOk result (Shows (json_in page.now.json) (set_pairs page.now.set.now) (λ v r.
+        Sends texts (Some page.now.name.now) held.text tree v r (O.contents out.old) (O.contents out.new))) }
+    // If none is, there is an error.
+    ensures absent { let texts = ⟦<&'static Engine<'static> as EngineTexts>⟧.texts engine.entry in
+        texts.texts page.now.name.now ≡ None → IsErr result }
+{
+    render(alloc, engine, page, out)?;
+    match out.flush() {
+        Ok(()) => Ok(()),
+        Err(error) => Err(Failure::Fault(error.into())),
+    }
+}
+
+/// Writes the same, says what is wrong if it fails, and returns the status: 0 if all went well, else 1 or 2.
+pub fn show<O: io::Write, E: io::Write>(
+    alloc: Global,
+    engine: &Engine<'_>,
+    library: &Library,
+    page: &Page<'_, '_, '_>,
+    out: &mut O,
+    err: &mut E,
+) -> u8
+    ensures range { result ≤ 2 }
+    // If a text is held under the name, and the status is 0, the output has received what its tree means.
+    ensures means { let texts = ⟦<&'static Engine<'static> as EngineTexts>⟧.texts engine.entry in
+        (held : Stored) (tree : Statements) → texts.texts page.now.name.now ≡ Some held
+        → HasTree held.syntax held.text tree
+        → result ≡ 0 → Shows (json_in page.now.json) (set_pairs page.now.set.now) (λ v r.
+        Sends texts (Some page.now.name.now) held.text tree v r (O.contents out.old) (O.contents out.new)) }
+    // If none is, the status is not 0.
+    ensures absent { let texts = ⟦<&'static Engine<'static> as EngineTexts>⟧.texts engine.entry in
+        texts.texts page.now.name.now ≡ None → 1 ≤ result }
+{
+    let failure = match send(alloc, engine, page, out) {
+        Ok(()) => return 0,
+        Err(failure) => failure,
+    };
+    let _ = out.flush();
+    explain(alloc, engine, library, &failure, err)
+}
+
+/// Says why a run failed, and returns its status. Of a file that it reached and that is no template, it says what is wrong
+/// there.
+pub fn explain<E: io::Write>(
+    alloc: Global,
+    engine: &Engine<'_>,
+    library: &Library,
+    failure: &Failure<'_>,
+    err: &mut E,
+) -> u8
+    ensures { result ≡ status_of failure.now }
+{
+    if let Failure::Fault(error) = failure {
+        if let Some((name, refusal)) = library.reached(engine, error) {
+            report_refusal(alloc, name, refusal, err);
+            return 1;
+        }
+    }
+    report(alloc, failure, err)
+}
+
+/// Says why a file is no template.
+pub fn report_refusal<E: io::Write>(alloc: Global, name: &str, refusal: &Refusal, err: &mut E) {
+    match refusal {
+        Refusal::Fault(error) => report_fault(alloc, error, err),
+        Refusal::Unreadable => {
+            let _ = writeln!(err, "upon-tool: cannot read {name}");
+        }
+        Refusal::NotText => {
+            let _ = writeln!(err, "upon-tool: {name} is not UTF-8");
+        }
+    }
+}

@@ -1,0 +1,73 @@
+// The texts that a run reads: files by their names, standard input, and the files of a folder.
+use crate::failure::Failure;
+use std::alloc::AllocError;
+use std::io::Read;
+use std::rt::Files;
+use upon_tool_io::files::{ReadFault, files_of, joined, read_file, read_text};
+
+/// The name that stands for standard input or output.
+pub(crate) const STANDARD: &str = "-";
+
+/// A file of a folder, by its path there, with what was read of it.
+#[derive(Drop)]
+pub(crate) struct FolderFile {
+    /// The path.
+    pub(crate) name: String,
+    /// The text, or why there is none.
+    pub(crate) read: Result<String, ReadFault>,
+}
+
+/// Reads the files of a folder, if one is given.
+pub(crate) fn files_in<'a, R: Files + AllocGlobal + Clone + Drop>(
+    rt: &R,
+    folder: Option<&'a str>,
+) -> Result<Vec<FolderFile>, Failure<'a>> {
+    let alloc = rt.alloc();
+    let mut files = Vec::new(alloc);
+    let Some(folder) = folder else {
+        return Ok(files);
+    };
+    let names = files_of(rt, folder).map_err(|fault| failure_of(folder, fault))?;
+    for name in names {
+        let path = joined(alloc, folder, name.as_str())?;
+        let read = read_file(rt, alloc, path.as_str());
+        files.push(FolderFile { name, read })?;
+    }
+    Ok(files)
+}
+
+/// Returns the text of a file, if one is given.
+pub(crate) fn text_at<'a, R: Files + AllocGlobal, I: Read>(
+    rt: &R,
+    name: Option<&'a str>,
+    input: &mut I,
+) -> Result<Option<String>, Failure<'a>> {
+    match name {
+        Some(name) => Ok(Some(text_of(rt, name, input)?)),
+        None => Ok(None),
+    }
+}
+
+/// Returns the text of a file, or of standard input.
+pub(crate) fn text_of<'a, R: Files + AllocGlobal, I: Read>(
+    rt: &R,
+    name: &'a str,
+    input: &mut I,
+) -> Result<String, Failure<'a>> {
+    let alloc = rt.alloc();
+    let read = if name == STANDARD {
+        read_text(alloc, input)
+    } else {
+        read_file(rt, alloc, name)
+    };
+    read.map_err(|fault| failure_of(name, fault))
+}
+
+// Why a file of this name is not read.
+fn failure_of<'a>(name: &'a str, fault: ReadFault) -> Failure<'a> {
+    match fault {
+        ReadFault::Unreadable => Failure::Unreadable(name),
+        ReadFault::NotText => Failure::NotText(name),
+        ReadFault::OutOfMemory => AllocError.into(),
+    }
+}

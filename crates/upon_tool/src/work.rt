@@ -1,0 +1,163 @@
+// What is done with an engine that holds templates. The engine stays in one function: a function that takes `&mut Engine`
+// or returns an engine would have a contract that says nothing of what is behind its `dyn`.
+ghost use Rattle.std.specs.Prelude.{◌≤◌, IfOk};
+
+use crate::check::{check_file, check_text};
+use crate::failure::Failure;
+use crate::library::{Library, Refusal};
+use crate::names;
+use crate::rendering::{Page, explain, send, show};
+use crate::sources::{FolderFile, STANDARD, text_of};
+use std::alloc::{AllocError, Global};
+use std::borrow::CowStr;
+use std::io::{BufWriter, Read, Write};
+use std::rt::Files;
+use upon::Engine;
+use upon_html::formatters::{Escape, Verbatim};
+use upon_tool_io::output::Replacement;
+
+/// What an engine is to hold.
+#[derive(Drop)]
+pub(crate) struct Templates<'a> {
+    /// The files of a folder.
+    pub(crate) files: Vec<FolderFile>,
+    /// A template, by its name.
+    pub(crate) page: Option<(&'a str, String)>,
+    /// Whether values are escaped for HTML.
+    pub(crate) html: bool,
+}
+
+/// What is done with it.
+#[derive(Clone, Copy)]
+pub(crate) enum Work<'w, 'a> {
+    /// A page is rendered, to a file if one is given.
+    Render(&'w Page<'a, 'w, 'w>, Option<&'a str>),
+    /// Files are checked, and those of the folder.
+    Check(&'w [&'a str]),
+    /// It is listed what the template of a name needs, as JSON if that is asked for.
+    Names(&'a str, bool),
+}
+
+/// Puts templates into an engine, does a piece of work with it, and returns the status.
+pub(crate) fn carry_out<'a, R: Files + AllocGlobal + Clone + Drop, I: Read, O: Write, E: Write>(
+    rt: &R,
+    templates: Templates<'a>,
+    work: Work<'_, 'a>,
+    input: &mut I,
+    out: &mut O,
+    err: &mut E,
+) -> Result<u8, Failure<'a>>
+    ensures { IfOk result (λ status. status ≤ 2) }
+{
+    let alloc = rt.alloc();
+    let Templates { files, page, html } = templates;
+    let mut engine = Engine::new(alloc);
+    if html {
+        engine.add_formatter(CowStr::Borrowed("verbatim"), Box::new(alloc, Verbatim)?)?;
+        engine.set_default_formatter(Box::new(alloc, Escape)?);
+    }
+    let mut library = Library::new(alloc);
+    for FolderFile { name, read } in files {
+        let key = CowStr::Borrowed(name.as_str());
+        let refusal = match read {
+            Ok(text) => Refusal::of_added(engine.add_template(key, CowStr::Owned(text)))?,
+            Err(fault) => Some(Refusal::of_read(fault)?),
+        };
+        library.add(name.as_str(), refusal)?;
+    }
+    if let Some((name, source)) = page {
+        engine.add_template(CowStr::Borrowed(name), CowStr::Owned(source))?;
+    }
+    match work {
+        Work::Render(page, path) => Ok(run_page(rt, &engine, &library, page, path, out, err)),
+        Work::Check(names) => check_all(rt, &engine, &library, names, input, err),
+        Work::Names(name, json) => Ok(names::show(alloc, &engine, &library, name, json, out, err)),
+    }
+}
+
+// How many bytes of output are held until they are written.
+const OUTPUT_BUFFER: usize = 64 * 1024;
+
+// Renders a page to where its text is to go.
+fn run_page<R: Files + AllocGlobal, O: Write, E: Write>(
+    rt: &R,
+    engine: &Engine<'_>,
+    library: &Library,
+    page: &Page<'_, '_, '_>,
+    path: Option<&str>,
+    out: &mut O,
+    err: &mut E,
+) -> u8
+    ensures { result ≤ 2 }
+{
+    let alloc = rt.alloc();
+    let path = match path {
+        Some(path) if path != STANDARD => path,
+        _ => return show(alloc, engine, library, page, out, err),
+    };
+    match write_file(rt, engine, page, path) {
+        Ok(()) => 0,
+        Err(failure) => explain(alloc, engine, library, &failure, err),
+    }
+}
+
+// Writes the text of a page to a file, which is replaced if all went well.
+fn write_file<'a, R: Files + AllocGlobal>(
+    rt: &R,
+    engine: &Engine<'_>,
+    page: &Page<'a, '_, '_>,
+    path: &'a str,
+) -> Result<(), Failure<'a>> {
+    let alloc = rt.alloc();
+    let (replacement, file) = Replacement::open(rt, path).map_err(|error| Failure::Unwritable(
+        path, error,
+    ))?;
+    let sent = match BufWriter::with_capacity(alloc, OUTPUT_BUFFER, file) {
+        Ok(mut writer) => send(alloc, engine, page, &mut writer),
+        Err(error) => Err(Failure::Unwritable(path, error)),
+    };
+    match sent {
+        Ok(()) => replacement
+            .keep(rt)
+            .map_err(|error| Failure::Unwritable(path, error)),
+        Err(failure) => {
+            replacement.discard(rt);
+            Err(failure)
+        }
+    }
+}
+
+// Checks files and those of the library, and answers the status.
+fn check_all<'a, R: Files + AllocGlobal + Clone + Drop, I: Read, E: Write>(
+    rt: &R,
+    engine: &Engine<'_>,
+    library: &Library,
+    names: &[&'a str],
+    input: &mut I,
+    err: &mut E,
+) -> Result<u8, Failure<'a>>
+    ensures { IfOk result (λ status. status ≤ 2) }
+{
+    let alloc = rt.alloc();
+    let mut is_right = true;
+    for name in names {
+        let source = text_of(rt, name, input)?;
+        is_right &= check_text(alloc, engine, name, CowStr::Owned(source), err)?;
+    }
+    is_right &= check_folder(alloc, engine, library, err)?;
+    Ok(if is_right { 0 } else { 1 })
+}
+
+// Whether nothing is wrong with the files of the library.
+fn check_folder<E: Write>(
+    alloc: Global,
+    engine: &Engine<'_>,
+    library: &Library,
+    err: &mut E,
+) -> Result<bool, AllocError> {
+    let mut is_right = true;
+    for name in library.names() {
+        is_right &= check_file(alloc, engine, library, name.as_str(), err)?;
+    }
+    Ok(is_right)
+}

@@ -1,0 +1,215 @@
+// The arguments of the program.
+use clap::error::ErrorKind;
+use clap::{Arg, ArgAction, ArgMatches, Command};
+use std::alloc::{AllocError, Global};
+
+/// What a call of the program asks for.
+#[derive(Drop)]
+pub enum Call<'a> {
+    /// To render a template.
+    Render(RenderCall<'a>),
+    /// To check templates.
+    Check(CheckCall<'a>),
+    /// To list what a template needs.
+    Names(NamesCall<'a>),
+}
+
+/// A rendering that is asked for.
+#[derive(Drop)]
+pub struct RenderCall<'a> {
+    /// The template's file; `-` is standard input.
+    pub file: &'a str,
+    /// The file of the context; `-` is standard input.
+    pub data: Option<&'a str>,
+    /// The words of `--set`.
+    pub set: Vec<&'a str>,
+    /// The folder of the templates that can be included.
+    pub templates: Option<&'a str>,
+    /// Whether values are escaped for HTML.
+    pub html: bool,
+    /// Where the text goes; none and `-` are standard output.
+    pub out: Option<&'a str>,
+}
+
+/// A check that is asked for.
+#[derive(Drop)]
+pub struct CheckCall<'a> {
+    /// The files of the templates; `-` is standard input.
+    pub files: Vec<&'a str>,
+    /// The folder of the templates that can be included, which are checked too.
+    pub templates: Option<&'a str>,
+}
+
+/// A list that is asked for, of what a template needs.
+#[derive(Drop)]
+pub struct NamesCall<'a> {
+    /// The template's file; `-` is standard input.
+    pub file: &'a str,
+    /// The folder of the templates that can be included.
+    pub templates: Option<&'a str>,
+    /// Whether the list is JSON.
+    pub json: bool,
+}
+
+const FILE: &str = "FILE";
+
+const DATA: &str = "data";
+
+const SET: &str = "set";
+
+const TEMPLATES: &str = "templates";
+
+const HTML: &str = "html";
+
+const OUT: &str = "out";
+
+const JSON: &str = "json";
+
+const RENDER: &str = "render";
+
+const CHECK: &str = "check";
+
+const NAMES: &str = "names";
+
+/// Returns what the words ask for, of which the first is the program's name. The error is clap's: its text is for the
+/// user, also the help that was asked for.
+pub fn read<'a>(alloc: Global, words: &'a [String]) -> Result<Call<'a>, clap::Error> {
+    let mut command = command(alloc)?;
+    let matches = command.try_get_matches_from_mut(words)?;
+    match matches.subcommand() {
+        Some((RENDER, found)) => Ok(Call::Render(render_call(alloc, found)?)),
+        Some((CHECK, found)) => Ok(Call::Check(check_call(alloc, found)?)),
+        Some((NAMES, found)) => Ok(Call::Names(names_call(found))),
+        _ => Err(command.error(ErrorKind::MissingSubcommand, "a command is missing")?),
+    }
+}
+
+// What a rendering's matches ask for.
+fn render_call<'a>(alloc: Global, matches: &ArgMatches<'a>) -> Result<RenderCall<'a>, AllocError> {
+    Ok(RenderCall {
+        file: matches.get_str(FILE).unwrap_or_default(),
+        data: matches.get_str(DATA),
+        set: words(alloc, matches.get_strs(SET))?,
+        templates: matches.get_str(TEMPLATES),
+        html: matches.get_flag(HTML),
+        out: matches.get_str(OUT),
+    })
+}
+
+// What a check's matches ask for.
+fn check_call<'a>(alloc: Global, matches: &ArgMatches<'a>) -> Result<CheckCall<'a>, AllocError> {
+    Ok(CheckCall {
+        files: words(alloc, matches.get_strs(FILE))?,
+        templates: matches.get_str(TEMPLATES),
+    })
+}
+
+// What a list's matches ask for.
+fn names_call<'a>(matches: &ArgMatches<'a>) -> NamesCall<'a> {
+    NamesCall {
+        file: matches.get_str(FILE).unwrap_or_default(),
+        templates: matches.get_str(TEMPLATES),
+        json: matches.get_flag(JSON),
+    }
+}
+
+// The values of an argument that may be there several times.
+fn words<'a>(alloc: Global, found: Option<&[&'a str]>) -> Result<Vec<&'a str>, AllocError> {
+    match found {
+        Some(words) => Vec::from_slice(alloc, words),
+        None => Ok(Vec::new(alloc)),
+    }
+}
+
+fn command<'a>(alloc: Global) -> Result<Command<'a>, AllocError> {
+    Command::new(alloc, "upon-tool")
+        .bin_name("upon-tool")?
+        .about("Renders templates, checks them, and lists what they need")
+        .subcommand_required(true)
+        .disable_help_subcommand(true)
+        .subcommand(render_command(alloc)?)?
+        .subcommand(check_command(alloc)?)?
+        .subcommand(names_command(alloc)?)
+}
+
+fn render_command<'a>(alloc: Global) -> Result<Command<'a>, AllocError> {
+    let set = option(
+        alloc,
+        SET,
+        "KEY=TEXT",
+        "Set a text at a key of the context, over DATA",
+    )
+    .action(ArgAction::Append);
+    let html = Arg::new(alloc, HTML)
+        .long(HTML)
+        .action(ArgAction::SetTrue)
+        .help("Escape values for HTML; the formatter verbatim leaves one as it is");
+    Command::new(alloc, RENDER)
+        .about("Renders a template on a JSON object")
+        .arg(file(alloc))?
+        .arg(option(
+            alloc,
+            DATA,
+            "DATA",
+            "The JSON object that is the context, or - for standard input",
+        ))?
+        .arg(set)?
+        .arg(templates(alloc))?
+        .arg(html)?
+        .arg(option(
+            alloc,
+            OUT,
+            "OUT",
+            "Write to this file, which is replaced if all went well",
+        ))
+}
+
+fn check_command<'a>(alloc: Global) -> Result<Command<'a>, AllocError> {
+    let files = Arg::new(alloc, FILE)
+        .num_args(1..)
+        .action(ArgAction::Append)
+        .required_unless_present(TEMPLATES)?
+        .help("The templates, or - for standard input");
+    Command::new(alloc, CHECK)
+        .about("Shows each error of templates, and each include that names none")
+        .arg(files)?
+        .arg(templates(alloc))
+}
+
+fn names_command<'a>(alloc: Global) -> Result<Command<'a>, AllocError> {
+    let json = Arg::new(alloc, JSON)
+        .long(JSON)
+        .action(ArgAction::SetTrue)
+        .help("Write one JSON object in place of lines");
+    Command::new(alloc, NAMES)
+        .about(
+            "Lists the names that a template needs of its context, and the templates that it includes",
+        )
+        .arg(file(alloc))?
+        .arg(templates(alloc))?
+        .arg(json)
+}
+
+fn file<'a>(alloc: Global) -> Arg<'a> {
+    Arg::new(alloc, FILE)
+        .required(true)
+        .help("The template, or - for standard input")
+}
+
+fn templates<'a>(alloc: Global) -> Arg<'a> {
+    option(
+        alloc,
+        TEMPLATES,
+        "DIR",
+        "A folder, of which each file can be included by its path in it",
+    )
+}
+
+// An argument by a name, with one value.
+fn option<'a>(alloc: Global, name: &'a str, value: &'a str, help: &'a str) -> Arg<'a> {
+    Arg::new(alloc, name)
+        .long(name)
+        .value_name(value)
+        .help(help)
+        .action(ArgAction::Set)
+}

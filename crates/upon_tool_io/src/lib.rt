@@ -1,0 +1,6 @@
+// What the program `upon-tool` takes from outside: its words, files and folders, and files that it replaces.
+#![tactic(auto)]
+
+pub mod arguments;
+pub mod files;
+pub mod output;

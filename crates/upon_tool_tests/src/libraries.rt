@@ -1,0 +1,29 @@
+// Libraries of texts that are written out.
+use std::alloc::{AllocError, Global};
+use std::borrow::CowStr;
+use upon::Engine;
+use upon_tool::library::{Library, Refusal};
+use upon_tool_io::files::read_text;
+
+/// Adds files to an engine, of which each has its name and its bytes; returns their library, with one more file that can't
+/// be read.
+pub fn library(
+    alloc: Global,
+    engine: &mut Engine<'_>,
+    files: &[(&str, &[u8])],
+) -> Result<Library, AllocError> {
+    let mut library = Library::new(alloc);
+    for (name, bytes) in files {
+        let mut reader = *bytes;
+        let refusal = match read_text(alloc, &mut reader) {
+            Ok(text) => {
+                let added = engine.add_template(CowStr::Borrowed(name), CowStr::Owned(text));
+                Refusal::of_added(added)?
+            }
+            Err(fault) => Some(Refusal::of_read(fault)?),
+        };
+        library.add(name, refusal)?;
+    }
+    library.add("unreadable", Some(Refusal::Unreadable))?;
+    Ok(library)
+}

@@ -1,0 +1,106 @@
+// What the words of a call ask for.
+use std::alloc::{AllocError, Global};
+use std::test::Fail;
+use upon_tool_io::arguments::{Call, CheckCall, NamesCall, RenderCall, read};
+
+// The words ask for this, as one text.
+fn asks(alloc: Global, words: &[&str], wanted: &str) -> Result<(), Fail> {
+    let mut owned = Vec::new(alloc);
+    for word in words {
+        owned.push(String::from_str(alloc, word)?)?;
+    }
+    let line = match read(alloc, owned.as_slice()) {
+        Ok(Call::Render(call)) => render_line(alloc, &call)?,
+        Ok(Call::Check(call)) => check_line(alloc, &call)?,
+        Ok(Call::Names(call)) => names_line(alloc, &call)?,
+        Err(error) => format!(in alloc; "{:?}", error.kind())?,
+    };
+    if line.as_str() == wanted {
+        Ok(())
+    } else {
+        Err(Fail::new(format_args!("{line:?} in place of {wanted:?}")))
+    }
+}
+
+fn render_line(alloc: Global, call: &RenderCall<'_>) -> Result<String, AllocError> {
+    let RenderCall {
+        file,
+        data,
+        set,
+        templates,
+        html,
+        out,
+    } = call;
+    format!(in alloc; "{file} {data:?} {set:?} {templates:?} {html} {out:?}")
+}
+
+fn check_line(alloc: Global, call: &CheckCall<'_>) -> Result<String, AllocError> {
+    let CheckCall { files, templates } = call;
+    format!(in alloc; "{files:?} {templates:?}")
+}
+
+fn names_line(alloc: Global, call: &NamesCall<'_>) -> Result<String, AllocError> {
+    let NamesCall {
+        file,
+        templates,
+        json,
+    } = call;
+    format!(in alloc; "{file} {templates:?} {json}")
+}
+
+#[test]
+fn renderings(rt: HostRuntime) -> Result<(), Fail> {
+    let alloc = rt.alloc();
+    asks(alloc, &["t", "render", "a"], "a None [] None false None")?;
+    let words = [
+        "t",
+        "render",
+        "--html",
+        "--set",
+        "k=v",
+        "a",
+        "--set=k=-w",
+        "--data",
+        "-",
+        "--out",
+        "o",
+    ];
+    asks(
+        alloc,
+        words.as_slice(),
+        "a Some(\"-\") [\"k=v\", \"k=-w\"] None true Some(\"o\")",
+    )?;
+    let words = ["t", "render", "--templates", "d", "--", "-a"];
+    asks(alloc, words.as_slice(), "-a None [] Some(\"d\") false None")
+}
+
+#[test]
+fn checks(rt: HostRuntime) -> Result<(), Fail> {
+    let alloc = rt.alloc();
+    asks(alloc, &["t", "check", "a", "b"], "[\"a\", \"b\"] None")?;
+    asks(alloc, &["t", "check", "--templates", "d"], "[] Some(\"d\")")
+}
+
+#[test]
+fn lists(rt: HostRuntime) -> Result<(), Fail> {
+    let alloc = rt.alloc();
+    asks(alloc, &["t", "names", "a"], "a None false")?;
+    let words = ["t", "names", "--json", "--templates", "d", "-"];
+    asks(alloc, words.as_slice(), "- Some(\"d\") true")
+}
+
+#[test]
+fn refusals(rt: HostRuntime) -> Result<(), Fail> {
+    let alloc = rt.alloc();
+    asks(alloc, &["t"], "MissingSubcommand")?;
+    asks(alloc, &["t", "render"], "MissingRequiredArgument")?;
+    asks(alloc, &["t", "check"], "MissingRequiredArgument")?;
+    asks(alloc, &["t", "names"], "MissingRequiredArgument")?;
+    asks(alloc, &["t", "render", "a", "b"], "UnknownArgument")?;
+    asks(
+        alloc,
+        &["t", "render", "a", "--out", "b", "--out", "c"],
+        "ArgumentConflict",
+    )?;
+    asks(alloc, &["t", "--help"], "DisplayHelp")
+}
