@@ -1,5 +1,6 @@
 // The bytes that delimiters have at their second place, or at their first, if they are at most three.
 ghost use Rattle.std.specs.Prelude.{◌≡◌, ℕ, ◌<◌, ◌≤◌, List, length, IfSome, slice_index};
+ghost use Rattle.memchr.specs.Find.{IsFirstByte, is_byte3};
 ghost use Rattle.upon_language_spec.specs.Search.{DelimiterText, NoneFrom, text_at};
 ghost use Rattle.upon_lexer.specs.FewBytes.{IsOneOf, HaveOneOf};
 ghost use Rattle.upon_lexer.specs.Syntax.{syntax_delimiters};
@@ -83,9 +84,20 @@ impl FewBytes {
         let Some(rest) = source.as_bytes()[at..].get(self.place..) else {
             return source.len();
         };
-        match memchr::memchr3(self.first, self.second, self.third, rest) {
+        match self.look(rest) {
             Some(found) => at + found,
             None => source.len(),
+        }
+    }
+
+    // The first index of one of these bytes. Two of them are found faster than three.
+    fn look(self, bytes: &[u8]) -> Option<usize>
+        ensures { IsFirstByte (is_byte3 self.first self.second self.third) bytes.now result }
+    {
+        if self.first == self.second {
+            memchr::memchr2(self.second, self.third, bytes)
+        } else {
+            memchr::memchr3(self.first, self.second, self.third, bytes)
         }
     }
 }

@@ -2,12 +2,12 @@ use Rattle.std.proofs.Common.{length, arith, inl, inr}
 use Rattle.upon_lexer.proofs.Ways.{none_searched}
 use Rattle.upon_lexer.proofs.compile.few_bytes.FewBytes.next.Goals as goal
 
-pub returns-in-Some-memchr3-clause-none : goal.returns-in-Some-memchr3-clause-none
-returns-in-Some-memchr3-clause-none c = λ ds have q after below.
+pub returns-in-Some-look-clause-none : goal.returns-in-Some-look-clause-none
+returns-in-Some-look-clause-none c = λ ds have q after below.
     let looked = c.in-Some.ensures.lookup.0 in
-    let found = c.in-Some-memchr3.ensures.0 in
+    let found = c.in-Some-look.ensures.0 in
     none_searched c.args.self c.args.source.now c.as_bytes.result.now c.in-Some.rest.now c.args.at c.as_bytes.ensures.value
-    (looked.0, looked.2) c.in-Some-memchr3.found found.before ds have q after (inl below)
+    (looked.0, looked.2) c.in-Some-look.found found.before ds have q after (inl below)
 
 pub returns-in-None-clause-none : goal.returns-in-None-clause-none
 returns-in-None-clause-none c = λ ds have q after below.
