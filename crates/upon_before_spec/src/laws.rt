@@ -16,7 +16,7 @@ ghost use Rattle.upon_before_spec.specs.Alone.{Template as TemplateBefore, Resol
 ghost use Rattle.upon_before_spec.specs.Now.{statements_now, template_now};
 ghost use Rattle.upon_before_spec.specs.Kept.{IncludesOnly, AnswersAlike, HoldAlike};
 
-/// A text that had a tree has it still, and one that has such a tree had it.
+/// States that a text that had a tree has it still, and one that has such a tree had it.
 pub fn tree_kept()
     ensures now { (delimiters : List DelimiterText) (s : List ℕ) (tree : StatementsBefore)
         → HadTree delimiters s tree → HasTree delimiters s (statements_now tree) }
@@ -25,15 +25,16 @@ pub fn tree_kept()
         → HasTree delimiters s (statements_now tree) → HadTree delimiters s tree }
 {}
 
-/// A text that was refused is refused still, with the same first fault, unless that was an `else` in a `for`.
+/// States that a text that was refused is refused still, with the same first fault, unless that was an `else` in a
+/// `for`.
 pub fn fault_kept()
     ensures { (delimiters : List DelimiterText) (s : List ℕ) (span : Span) (reason : List ℕ)
         → WasFirstFault delimiters s span reason
         → IsFirstFault delimiters s span reason ⊎ ElseInFor delimiters s span reason }
 {}
 
-/// A template means what it meant, where both template sources answer alike under some names, and it and the templates
-/// that answer include none but these.
+/// States that a template means what it meant, if both template sources answer alike under some names, and it and
+/// the templates that answer include none but these.
 pub fn meaning_kept<V, T>()
     ensures { (calls : Calls V) (before : ResolverBefore T) (now : Resolver T) (names : List ℕ → Bool) (left : ℕ)
         (t : TemplateBefore) (name : Option (List ℕ)) (root : Root) (s : States V T)
@@ -42,7 +43,7 @@ pub fn meaning_kept<V, T>()
         ≡ alone_within_before calls before left t name root s }
 {}
 
-/// With the engine's templates: a template means what it meant, where under each name that it reaches the engine holds
+/// With the engine's templates: a template means what it meant, if under each name that it reaches the engine holds
 /// a template of before, the same that a table of before held, or neither holds any.
 pub fn rendering_kept<V, T>()
     ensures { (calls : Calls V) (before : TableBefore) (now : Table) (limit : ℕ) (t : TemplateBefore)

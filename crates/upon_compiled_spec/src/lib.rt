@@ -13,8 +13,8 @@ ghost use Rattle.upon_instructions.specs.Program.{program_view};
 ghost use Rattle.upon_instructions.specs.declared.types.program.Instr.{Instr};
 ghost use Rattle.upon_compiled_spec.specs.Compiled.{HasProgram, the_tree};
 
-/// The tree of a compiled template is the only one of its text; the instructions are its program, and its spans lie in
-/// the text.
+/// States that the tree of a compiled template is the only one of its text; the instructions are its program, and its
+/// spans lie in the text.
 pub fn compiled_tree()
     ensures only_tree { (delimiters : List DelimiterText) (s : List ℕ) (instrs : List Instr)
         (h : HasProgram delimiters s instrs) (tree : Statements) → HasTree delimiters s tree → tree

@@ -29,7 +29,7 @@ impl Compiler {
         }
     }
 
-    /// The instructions so far, and then those of a template's tree. It fails where memory is out.
+    /// Appends the instructions so far, and then those of a template's tree. It fails if memory is out.
     pub fn compile_template(self, template: Template) -> Result<Vec<Instr>, AllocError>
         ensures { IfOk result (λ program. program_view program.items
             ≡ code_of self ++ statements_code (length (code_of self)) (tree_of template)) }
@@ -40,7 +40,7 @@ impl Compiler {
         Ok(instrs)
     }
 
-    /// How many instructions there are.
+    /// Returns how many instructions there are.
     fn len(&self) -> usize
         ensures { result ≡ length (code_of self.now) }
     {
@@ -55,7 +55,7 @@ impl Compiler {
         Ok(())
     }
 
-    /// The instruction of this number becomes this one.
+    /// Replaces the instruction of this number by this one.
     fn replace(&mut self, at: usize, instr: Instr)
         requires { at < length (code_of self.old) }
         ensures { code_of self.new ≡ slice_set (code_of self.old) at (instr_of instr) }

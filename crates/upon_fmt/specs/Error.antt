@@ -2,7 +2,7 @@
 use Rattle.std.specs.Prelude.{ℕ, List, Option, Some, None, option_map, string_bytes, codes}
 use Rattle.upon_fmt.specs.declared.fmt.Error.{Error}
 
--- the message of a refusal, where there is one
+-- the message of a refusal, if there is one
 abbrev pub message_of : Error → Option (List ℕ)
 message_of error = option_map string_bytes error.message
 

@@ -25,7 +25,7 @@ abbrev pub Ends : Result (Unit {0}) Error → FormatEnd → Type 0
 Ends (Ok u) end = end ≡ well
 Ends (Err e) end = end ≡ refused (message_of e)
 
--- where no mark is set afterwards: none was set before, this text is appended, and the result is this end
+-- if no mark is set afterwards: none was set before, this text is appended, and the result is this end
 abbrev pub Formats : Formatter → Formatter → Result (Unit {0}) Error → Formatted → Type 0
 Formats old new result o =
     is_marked new ≡ false

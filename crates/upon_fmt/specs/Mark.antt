@@ -10,7 +10,7 @@ waiting Clear = None
 waiting (Waits error) = Some error
 waiting (Taken error) = None
 
--- the same mark, where no error waits
+-- the same mark, if no error waits
 abbrev pub set_aside : Mark → Mark
 set_aside Clear = Clear
 set_aside (Waits error) = Taken error

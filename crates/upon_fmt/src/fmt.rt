@@ -24,7 +24,7 @@ pub struct Error {
 }
 
 impl Error {
-    /// A refusal with a copy of a message. It fails where there is no memory for the copy.
+    /// Creates a refusal with a copy of a message. It fails if there is no memory for the copy.
     pub fn from_text(alloc: Global, message: &str) -> std::result::Result<Error, AllocError>
         ensures { IfOk result (λ error. message_of error ≡ Some message.now) }
     {
@@ -34,7 +34,7 @@ impl Error {
         })
     }
 
-    /// The message, where there is one.
+    /// Returns the message, if there is one.
     pub fn message(self) -> Option<String>
         ensures { option_map string_bytes result ≡ message_of self }
     {
@@ -94,12 +94,12 @@ impl Formatter {
         }
     }
 
-    /// What takes memory for the text.
+    /// Returns what takes memory for the text.
     pub fn allocator(&self) -> Global {
         self.alloc
     }
 
-    /// Appends a text, or sets the mark where there is no memory for it.
+    /// Appends a text, or sets the mark if there is no memory for it.
     pub fn write_str(&mut self, text: &str) -> Result
         ensures { Writes self.old self.new result text.now }
     {
@@ -115,7 +115,7 @@ impl Formatter {
         }
     }
 
-    /// Appends a character, or sets the mark where there is no memory for it.
+    /// Appends a character, or sets the mark if there is no memory for it.
     pub fn write_char(&mut self, character: char) -> Result
         ensures { Writes self.old self.new result (encode_utf8 character) }
     {
@@ -139,7 +139,7 @@ impl Formatter {
         self.is_marked = true;
     }
 
-    /// The text, or `None` where the mark is set.
+    /// Returns the text, or `None` if the mark is set.
     pub fn into_text(self) -> Option<String>
         ensures { MatchOption
             result
@@ -158,7 +158,7 @@ pub trait Format: Drop {
     // What it writes for a value, and how that ends.
     ghost formats: { Self → Val → Formatted };
 
-    /// Appends the text of a value. Where the formatter's mark is set afterwards, memory was out, and nothing else is
+    /// Appends the text of a value. If the formatter's mark is set afterwards, memory was out, and nothing else is
     /// said.
     fn format(&self, f: &mut Formatter, value: &Value) -> Result
         ensures { Formats f.old f.new result (formats self.now (view value.now)) };

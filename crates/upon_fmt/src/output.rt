@@ -14,7 +14,7 @@ pub enum Mark {
     Clear,
     /// A write has failed. The last that did answered this error, which waits to be taken.
     Waits(io::Error),
-    /// A write has failed. The last that did answered this error, which was taken, or put aside where memory was
+    /// A write has failed. The last that did answered this error, which was taken, or put aside if memory was
     /// refused.
     Taken(io::Error),
 }
@@ -50,7 +50,7 @@ impl Mark {
 
 /// What receives a text, or a beginning of it.
 pub trait Output {
-    /// The bytes that were received, where they are known.
+    /// The bytes that were received, if they are known.
     ghost given: { Self → Option (List ℕ) };
 
     /// Whether a write has failed, with which error, and whether that waits to be taken.
@@ -59,14 +59,14 @@ pub trait Output {
     /// The references that it holds, which it keeps.
     ghost holds: { Self → List ℕ };
 
-    /// Hands on the whole text. It fails where something of the text was not received: a beginning was.
+    /// Hands on the whole text. It fails if something of the text was not received: a beginning was.
     ///
     /// Then a write failed, whose error waits; or memory was refused, and no error waits.
     fn give(&mut self, text: &str) -> fmt::Result
         ensures same { holds self.new ≡ holds self.old }
         ensures gave { Gave (given self.old) (given self.new) (mark self.old) (mark self.new) result text.now };
 
-    /// Takes the error of a write, right after a text that was not received whole; `None` where memory was refused.
+    /// Takes the error of a write, right after a text that was not received whole; `None` if memory was refused.
     fn take_err(&mut self) -> Option<io::Error>
         ensures same { holds self.new ≡ holds self.old }
         ensures error { result ≡ waiting (mark self.old) }
@@ -74,7 +74,7 @@ pub trait Output {
         ensures given { given self.new ≡ given self.old };
 }
 
-/// A text receives all, or nothing where there is no memory. Its mark is always clear.
+/// A text receives all, or nothing if there is no memory. Its mark is always clear.
 impl Output for String {
     ghost given = { λ text. Some (string_bytes text) };
 
@@ -117,7 +117,7 @@ fn write_or_mark<W: io::Write>(writer: &mut W, mark: &mut Mark, text: &str) -> f
     mark.note(write_whole(writer, text))
 }
 
-/// A writer as an output. Its mark is set where a write fails, with the error that it answered, or takes nothing; an
+/// A writer as an output. Its mark is set if a write fails, with the error that it answered, or takes nothing; an
 /// empty text calls no write.
 #[derive(Drop)]
 pub struct Writer<W> {
@@ -129,7 +129,7 @@ impl<W: io::Write> Writer<W> {
     ghost use Rattle.std.specs.Prelude.{◌≡◌};
     ghost use Rattle.upon_fmt.specs.Writer.{writer_of, mark_of};
 
-    /// A writer that no write has failed for.
+    /// Creates a writer that no write has failed for.
     pub fn new(writer: W) -> Writer<W>
         ensures writer { writer_of result ≡ writer }
         ensures mark { mark_of result ≡ Clear }
@@ -168,7 +168,7 @@ impl<'w, W: io::Write> LentWriter<'w, W> {
     ghost use Rattle.std.specs.Prelude.{◌≡◌};
     ghost use Rattle.upon_fmt.specs.Writer.{lent_writer_of, lent_mark_of};
 
-    /// A writer that no write has failed for.
+    /// Creates a writer that no write has failed for.
     pub fn new(writer: &'w mut W) -> LentWriter<'w, W>
         ensures writer { lent_writer_of result ≡ writer.entry }
         ensures mark { lent_mark_of result ≡ Clear }

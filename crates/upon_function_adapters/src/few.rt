@@ -30,7 +30,7 @@ pub struct Fn0<C, R> {
 }
 
 impl<C, R> Fn0<C, R> {
-    /// The function that calls this callable.
+    /// Creates the function that calls this callable.
     pub fn new(callable: C) -> Self
         ensures { result.callable ≡ callable }
     {
@@ -71,7 +71,7 @@ pub struct Fn1<C, A, R> {
 }
 
 impl<C, A, R> Fn1<C, A, R> {
-    /// The function that calls this callable.
+    /// Creates the function that calls this callable.
     pub fn new(callable: C) -> Self
         ensures { result.callable ≡ callable }
     {
@@ -113,7 +113,7 @@ pub struct Fn2<C, A, B, R> {
 }
 
 impl<C, A, B, R> Fn2<C, A, B, R> {
-    /// The function that calls this callable.
+    /// Creates the function that calls this callable.
     pub fn new(callable: C) -> Self
         ensures { result.callable ≡ callable }
     {

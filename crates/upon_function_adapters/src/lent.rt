@@ -33,7 +33,7 @@ pub struct Fn1S<C, R> {
 }
 
 impl<C, R> Fn1S<C, R> {
-    /// The function that calls this callable.
+    /// Creates the function that calls this callable.
     pub fn new(callable: C) -> Self
         ensures { result.callable ≡ callable }
     {
@@ -75,7 +75,7 @@ pub struct Fn1L<C, R> {
 }
 
 impl<C, R> Fn1L<C, R> {
-    /// The function that calls this callable.
+    /// Creates the function that calls this callable.
     pub fn new(callable: C) -> Self
         ensures { result.callable ≡ callable }
     {
@@ -117,7 +117,7 @@ pub struct Fn1M<C, R> {
 }
 
 impl<C, R> Fn1M<C, R> {
-    /// The function that calls this callable.
+    /// Creates the function that calls this callable.
     pub fn new(callable: C) -> Self
         ensures { result.callable ≡ callable }
     {
@@ -159,7 +159,7 @@ pub struct Fn1V<C, R> {
 }
 
 impl<C, R> Fn1V<C, R> {
-    /// The function that calls this callable.
+    /// Creates the function that calls this callable.
     pub fn new(callable: C) -> Self
         ensures { result.callable ≡ callable }
     {

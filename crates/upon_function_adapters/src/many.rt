@@ -31,7 +31,7 @@ pub struct Fn3<F, A, B, C, R> {
 }
 
 impl<F, A, B, C, R> Fn3<F, A, B, C, R> {
-    /// The function that calls this callable.
+    /// Creates the function that calls this callable.
     pub fn new(callable: F) -> Self
         ensures { result.callable ≡ callable }
     {
@@ -91,7 +91,7 @@ pub struct Fn4<F, A, B, C, D, R> {
 }
 
 impl<F, A, B, C, D, R> Fn4<F, A, B, C, D, R> {
-    /// The function that calls this callable.
+    /// Creates the function that calls this callable.
     pub fn new(callable: F) -> Self
         ensures { result.callable ≡ callable }
     {
@@ -155,7 +155,7 @@ pub struct Fn5<F, A, B, C, D, E, R> {
 }
 
 impl<F, A, B, C, D, E, R> Fn5<F, A, B, C, D, E, R> {
-    /// The function that calls this callable.
+    /// Creates the function that calls this callable.
     pub fn new(callable: F) -> Self
         ensures { result.callable ≡ callable }
     {

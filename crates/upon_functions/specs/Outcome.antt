@@ -23,7 +23,7 @@ abbrev pub option_outcome : {T : Type 0} → (T → Option Outcome) → Option T
 option_outcome outcome (Some x) = outcome x
 option_outcome outcome None = Some (value none_val)
 
--- a refusal with this text, where there was memory for it
+-- a refusal with this text, if there was memory for it
 abbrev pub refusal_of : Option (List ℕ) → Option Outcome
 refusal_of (Some text) = Some (refusal text)
 refusal_of None = None

@@ -46,7 +46,7 @@ pub trait Function: Drop {
     ghost answers: { Self → List Val → Answer };
 
     /// Calls the function. The error is `Arity` for another number of arguments, `Arg` for the first argument that
-    /// does not fit, which is always one that is given, `Fault` where the function refuses, and `Memory` where there
+    /// does not fit, which is always one that is given, `Fault` if the function refuses, and `Memory` if there
     /// is no memory.
     fn call(&self, alloc: Global, args: &[ValueCow]) -> Result<Value, CallError>
         ensures says { Says result (answers self.now (arguments_view args.now)) }

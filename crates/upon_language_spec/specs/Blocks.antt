@@ -93,7 +93,7 @@ abbrev pub open_block : Block → Span → List Lexeme → List OpenBlock → Li
 open_block kind begin ls stack = record { kind = kind; has_else = false; span = from_to begin (end_from begin ls) }
     ∷ stack
 
--- the open blocks after a tag, where it closes one
+-- the open blocks after a tag, if it closes one
 abbrev pub by_closer : Option Closer → List OpenBlock → List OpenBlock
 by_closer None stack = stack
 by_closer (Some closer) stack = after_closer closer stack

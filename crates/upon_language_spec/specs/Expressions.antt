@@ -77,7 +77,7 @@ abbrev pub ClosesList : Token → Span → List Lexeme → List Lexeme → Type 
 ClosesList t span before rest = Closes t span before rest ⊎
     ((mid : List Lexeme) × GoesBy Comma before mid × Closes t span mid rest)
 
--- where the last of the expressions ends; the span itself where there is none
+-- where the last of the expressions ends; the span itself if there is none
 abbrev pub last_end : ℕ → Bases → ℕ
 last_end n no_bases = n
 last_end n (base_then b bs) = last_end (base_span b).n bs

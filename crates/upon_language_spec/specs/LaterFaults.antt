@@ -58,7 +58,7 @@ abbrev pub minus_before : Option Lexeme → Bool
 minus_before None = false
 minus_before (Some l) = elim l.token [ Minus ↦ true | _ ↦ false ]
 
--- a literal begins with its sign, where it has one
+-- a literal begins with its sign, if it has one
 abbrev pub start_from : Option Lexeme → ℕ → ℕ
 start_from None p = p
 start_from (Some l) p = elim l.token [ Minus ↦ l.span.m | Plus ↦ l.span.m | _ ↦ p ]
@@ -79,7 +79,7 @@ number_report_of base start p n (Some too_large) = Some
           (base ++ codes " literal out of range for 64-bit integer");
     })
 
--- the report of a number that denotes no integer, where it is wrong
+-- the report of a number that denotes no integer, if it is wrong
 abbrev pub number_report : List ℕ → Option Lexeme → ℕ → ℕ → Option Report
 number_report text before p n = if is_float text then Some
     (record { span = span_of (start_from before p) n; reason = codes "invalid float literal" }) else number_report_of

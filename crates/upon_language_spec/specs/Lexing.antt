@@ -27,7 +27,7 @@ pub record LexerState : Type 0 where
   -- whether it has refused the text
   pub over : Bool
 
--- the span of the begin of the open tag, where one is open
+-- the span of the begin of the open tag, if one is open
 abbrev pub begin_in : Mode → List Lexeme → Option Span
 begin_in outside ls = None
 begin_in mode ls = first_span (open_tag ls)

@@ -27,7 +27,7 @@ digit_fault base limit value offset (b ∷ bs) = if b == underscore then digit_f
     (value * base + digit_value b) (offset + 1) bs)
     else Some (bad_digit offset))
 
--- what is wrong with a number's text, where something is
+-- what is wrong with a number's text, if something is
 abbrev pub number_fault : Bool → List ℕ → Option NumberFault
 number_fault minus text = digit_fault (base_and_digits text).0 (magnitude_limit minus) 0
     (length text - length (base_and_digits text).1) (base_and_digits text).1

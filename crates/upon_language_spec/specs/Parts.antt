@@ -199,7 +199,7 @@ abbrev pub lesser : Wanted → Option Wanted → Option Wanted
 lesser w None = Some w
 lesser w (Some v) = Some (if nat_lt (rank w) (rank v) then w else v)
 
--- the least of a part's own word and of those after it, which count where the part may be left out
+-- the least of a part's own word and of those after it, which count if the part may be left out
 abbrev pub least_of : Bool → Option Wanted → Option Wanted → Option Wanted
 least_of false w others = w
 least_of true None others = others

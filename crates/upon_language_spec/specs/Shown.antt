@@ -15,12 +15,12 @@ trim_end_span s span = record { m = span.m; n = span.m + length (trim_end (slice
 abbrev pub trim_start_span : List ℕ → Span → Span
 trim_start_span s span = record { m = span.n - length (trim_start (slice s span)); n = span.n }
 
--- a span, trimmed where the first argument is true
+-- a span, trimmed if the first argument is true
 abbrev pub trim_if : Bool → (Span → Span) → Span → Span
 trim_if true trim span = trim span
 trim_if false trim span = span
 
--- at its end where the begin after it has the hyphen, and then at its start where the end before it has it
+-- at its end if the begin after it has the hyphen, and then at its start if the end before it has it
 abbrev pub shown_span : List ℕ → Bool → Bool → Span → Span
 shown_span s end_before begin_behind span = trim_if end_before (trim_start_span s)
     (trim_if begin_behind (trim_end_span s) span)
@@ -44,7 +44,7 @@ abbrev pub begin_trims : List Lexeme → Bool
 begin_trims [] = false
 begin_trims (l ∷ ls) = is_begin l.token && l.hyphen
 
--- a token with its shown part, where it is raw
+-- a token with its shown part, if it is raw
 abbrev pub shown_lexeme : List ℕ → Bool → Bool → Token → Lexeme → Lexeme
 shown_lexeme s end_before begin_behind Raw l = record l { span = shown_span s end_before begin_behind l.span }
 shown_lexeme s end_before begin_behind t l = l

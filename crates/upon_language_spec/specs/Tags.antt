@@ -43,7 +43,7 @@ symbol_of s l = record { token = l.token; word = word_of s l.token l.span }
 abbrev pub symbols_of : List ℕ → List Lexeme → List Symbol
 symbols_of s ls = map (symbol_of s) ls
 
--- a row of symbols begins a tag, where some text has a tag that begins with this row
+-- a row of symbols begins a tag, if some text has a tag that begins with this row
 pub record BeginsTag (row : List Symbol) : Type 0 where
   pub text : List ℕ
   pub lexemes : List Lexeme

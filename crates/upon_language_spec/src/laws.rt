@@ -21,14 +21,14 @@ ghost use Rattle.upon_language_spec.specs.Parts.{Part, tag_start, Path, wanted_a
 ghost use Rattle.upon_language_spec.specs.SpansLieIn.{StatementsLieIn};
 ghost use Rattle.upon_language_spec.specs.Given.{EachGiven, shown_tokens};
 
-/// A text is cut into tokens in one way at most, whatever the delimiters, as long as none of them is empty.
+/// States that a text is cut into tokens in one way at most, whatever the delimiters, as long as none of them is empty.
 pub fn one_cut()
     ensures { (delimiters : List DelimiterText) (s : List ℕ) (ls ks : List Lexeme)
         → HasTexts delimiters → Cut delimiters s outside 0 ls outside (length s)
         → Cut delimiters s outside 0 ks outside (length s) → ls ≡ ks }
 {}
 
-/// The parts that a text is cut into join to the text: nothing of it is lost.
+/// States that the parts that a text is cut into join to the text: nothing of it is lost.
 pub fn cut_joins()
     ensures { (delimiters : List DelimiterText) (s : List ℕ) (ls : List Lexeme)
         → HasTexts delimiters → Cut delimiters s outside 0 ls outside (length s) → concat (parts s ls) ≡ s }
@@ -41,57 +41,58 @@ pub fn cut_lies_in()
         → Cut delimiters s outside 0 ls outside (length s) → LexemesLieIn s ls }
 {}
 
-/// A text has one tree at most, spans included, whatever the delimiters (overlapping and equal ones too), as long as
-/// none of them is empty.
+/// States that a text has one tree at most, spans included, whatever the delimiters (overlapping and equal ones too),
+/// as long as none of them is empty.
 pub fn one_tree()
     ensures { (delimiters : List DelimiterText) (s : List ℕ) (a b : Statements)
         → HasTexts delimiters → HasTree delimiters s a → HasTree delimiters s b → a ≡ b }
 {}
 
-/// A number denotes one integer at most, with a minus before it or without.
+/// States that a number denotes one integer at most, with a minus before it or without.
 pub fn one_integer()
     ensures { (minus : Bool) (text : List ℕ) (z w : ℤ) → IsInteger minus text z → IsInteger minus text w → z ≡ w }
 {}
 
-/// An index denotes one number at most.
+/// States that an index denotes one number at most.
 pub fn one_index()
     ensures { (text : List ℕ) (i j : ℕ) → IsIndex text i → IsIndex text j → i ≡ j }
 {}
 
-/// A string that begins at an offset denotes one text at most.
+/// States that a string that begins at an offset denotes one text at most.
 pub fn one_text()
     ensures { (s : List ℕ) (m n k : ℕ) (t u : List ℕ) → IsText s m n t → IsText s m k u → t ≡ u }
 {}
 
-/// A text has one first fault at most: one span and one reason.
+/// States that a text has one first fault at most: one span and one reason.
 pub fn one_first_fault()
     ensures { (delimiters : List DelimiterText) (s : List ℕ) (span other : Span) (reason words : List ℕ)
         → HasTexts delimiters → IsFirstFault delimiters s span reason → IsFirstFault delimiters s other words
         → (span ≡ other) × (reason ≡ words) }
 {}
 
-/// A text that has a first fault has no tree.
+/// States that a text that has a first fault has no tree.
 pub fn no_tree_with_fault()
     ensures { (delimiters : List DelimiterText) (s : List ℕ) (span : Span) (reason : List ℕ) (tree : Statements)
         → HasTexts delimiters → IsFirstFault delimiters s span reason → HasTree delimiters s tree → ⊥ }
 {}
 
-/// The tokens that a lexer gives for a whole text, one by one, are its tokens with what trimming leaves of the raw
-/// parts.
+/// States that the tokens that a lexer gives for a whole text, one by one, are its tokens with what trimming leaves of
+/// the raw parts.
 pub fn given_is_shown()
     ensures { (delimiters : List DelimiterText) (s : List ℕ) (ls : List Lexeme) (given : List (Token × Span))
         → HasTexts delimiters → Cut delimiters s outside 0 ls outside (length s)
         → EachGiven delimiters s outside false ls given → given ≡ shown_tokens s false ls }
 {}
 
-/// A text has one first fault that ends its cutting at most: at one point, with one span and one reason.
+/// States that a text has one first fault that ends its cutting at most: at one point, with one span and one reason.
 pub fn one_first_cut_fault()
     ensures { (delimiters : List DelimiterText) (s : List ℕ) (p q : ℕ) (span other : Span) (reason words : List ℕ)
         → HasTexts delimiters → IsFirstCutFault delimiters s p span reason → IsFirstCutFault delimiters s q other words
         → (p ≡ q) × (span ≡ other) × (reason ≡ words) }
 {}
 
-/// The parts of what a text reads to, and then the rest of the text, are the text: nothing of it is lost on the way.
+/// States that the parts of what a text reads to, and then the rest of the text, are the text: nothing of it is lost on
+/// the way.
 pub fn read_joins()
     ensures { (delimiters : List DelimiterText) (s : List ℕ) (ls : List Lexeme) (mode : Mode) (p : ℕ)
         → HasTexts delimiters → ReadsTo delimiters s ls mode p → concat (parts s ls) ++ drop p s ≡ s }
@@ -105,7 +106,7 @@ pub fn tree_or_first_fault()
         ⊎ ((span : Span) × (reason : List ℕ) × IsFirstFault delimiters s span reason) }
 {}
 
-/// A UTF-8 text has exactly one tree and no first fault, or exactly one first fault and no tree.
+/// States that a UTF-8 text has exactly one tree and no first fault, or exactly one first fault and no tree.
 pub fn one_answer()
     ensures { (delimiters : List DelimiterText) (s : List ℕ) → HasTexts delimiters → HasUtf8 delimiters → IsUtf8 s
         → ((tree : Statements) × HasTree delimiters s tree
@@ -116,13 +117,14 @@ pub fn one_answer()
         × ((tree : Statements) → HasTree delimiters s tree → ⊥)) }
 {}
 
-/// A row of a text's symbols begins a tag where it leads from a tag's start to some parts that are still to come.
+/// States that a row of a text's symbols begins a tag if it leads from a tag's start to some parts that are still to
+/// come.
 pub fn leading_begins()
     ensures { (s : List ℕ) (ls : List Lexeme) (parts_left : List Part)
         → Path (tag_start ∷ []) (symbols_of s ls) parts_left → BeginsTag (symbols_of s ls) }
 {}
 
-/// A row that begins a tag leads from a tag's start to some parts that are still to come.
+/// States that a row that begins a tag leads from a tag's start to some parts that are still to come.
 pub fn beginning_leads()
     ensures { (row : List Symbol) → BeginsTag row → (parts_left : List Part) × Path (tag_start ∷ []) row parts_left }
 {}
@@ -134,7 +136,7 @@ pub fn parts_want()
         → IsWanted (symbols_of s ls) word }
 {}
 
-/// A text that has a tree has no fault of any kind, first or not.
+/// States that a text that has a tree has no fault of any kind, first or not.
 pub fn no_fault_with_tree()
     ensures { (delimiters : List DelimiterText) (s : List ℕ) (tree : Statements) (row : SyntaxFault) (p : ℕ)
         (span : Span) (reason : List ℕ)
@@ -155,13 +157,13 @@ pub fn reading_lies_in()
         → LexemesLieIn s ls × IsCharBoundary s p }
 {}
 
-/// A text in which no delimiter is has the tree of one raw part, which is the whole text.
+/// States that a text in which no delimiter is has the tree of one raw part, which is the whole text.
 pub fn raw_text()
     ensures { (delimiters : List DelimiterText) (s : List ℕ) → NoneFrom delimiters s 0 (length s) → 0 < length s
         → HasTree delimiters s (statement_then (raw (record { m = 0; n = length s })) no_statements) }
 {}
 
-/// The empty text has the tree without a statement.
+/// States that the empty text has the tree without a statement.
 pub fn empty_text()
     ensures { (delimiters : List DelimiterText) → HasTree delimiters [] no_statements }
 {}
@@ -173,13 +175,13 @@ pub fn tree_lies_in()
         → HasTexts delimiters → HasUtf8 delimiters → IsUtf8 s → HasTree delimiters s tree → StatementsLieIn s tree }
 {}
 
-/// The span of a fault of a UTF-8 text, the first or another, lies in the text, on character boundaries.
+/// States that the span of a fault of a UTF-8 text, the first or another, lies in the text, on character boundaries.
 pub fn fault_lies_in()
     ensures { (delimiters : List DelimiterText) (s : List ℕ) (row : SyntaxFault) (p : ℕ) (span : Span) (reason : List ℕ)
         → HasTexts delimiters → HasUtf8 delimiters → IsUtf8 s → Holds delimiters s row p span reason → LiesIn s span }
 {}
 
-/// The span of the first fault lies in the text, on character boundaries.
+/// States that the span of the first fault lies in the text, on character boundaries.
 pub fn first_fault_lies_in()
     ensures { (delimiters : List DelimiterText) (s : List ℕ) (span : Span) (reason : List ℕ)
         → HasTexts delimiters → HasUtf8 delimiters → IsUtf8 s → IsFirstFault delimiters s span reason → LiesIn s span }

@@ -27,7 +27,7 @@ sibling_within (suc more) nodes (suc n) b =
 unfoldable pub sibling_with : List Node → ℕ → ℕ → ℕ
 sibling_with nodes n b = sibling_within n nodes n b
 
--- the child of a node by a byte; 0 where there is none
+-- the child of a node by a byte; 0 if there is none
 abbrev pub child_of : List Node → ℕ → ℕ → ℕ
 child_of nodes n b = sibling_with nodes (node_at nodes n).child b
 

@@ -41,7 +41,7 @@ abbrev pub usual_texts : SetTexts
 usual_texts = with_comment (codes "{#") (codes "#}")
     (with_block (codes "{%") (codes "%}") (with_expr (codes "{{") (codes "}}") nothing_set))
 
--- of kinds in this order: begin, end, begin and a hyphen, a hyphen and end; none where no pair is set
+-- of kinds in this order: begin, end, begin and a hyphen, a hyphen and end; none if no pair is set
 abbrev pub pair_delimiters : Delimiter → Delimiter → Delimiter → Delimiter → Option Pair → List DelimiterText
 pair_delimiters begin end begin_trim end_trim None = []
 pair_delimiters begin end begin_trim end_trim (Some pair) =

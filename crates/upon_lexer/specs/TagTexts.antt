@@ -8,6 +8,6 @@ use Rattle.upon_lexer.specs.declared.types.syntax.builder.TagTexts.{TagTexts}
 abbrev pub pair_of : TagTexts → Pair
 pair_of texts = record { begin = texts.begin.now; end = texts.end.now }
 
--- where texts are set, each has a byte
+-- if texts are set, each has a byte
 abbrev pub HaveBytes : Option TagTexts → Type 0
 HaveBytes texts = ForSome texts (λ t. HasBytes (pair_of t))

@@ -23,8 +23,8 @@ pub fn default_one_answer()
         × ((tree : Statements) → HasTree default_delimiters s tree → ⊥)) }
 {}
 
-/// The trie of any delimiters leads by the text of each to a node, by no two texts to one node, and the node of a text
-/// has the first delimiter with that text.
+/// States that the trie of any delimiters leads by the text of each to a node, by no two texts to one node, and the
+/// node of a text has the first delimiter with that text.
 pub fn trie_of_any_delimiters()
     ensures { (delimiters : List DelimiterText) → IsTrieOf (length delimiters) delimiters (nodes_of delimiters) }
 {}

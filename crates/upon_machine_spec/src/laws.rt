@@ -17,8 +17,8 @@ ghost use Rattle.upon_machine_spec.specs.Spans.{StateLies, NextLies};
 ghost use Rattle.upon_machine_spec.specs.State.{State, at_start};
 ghost use Rattle.upon_machine_spec.specs.Step.{goes, stops, stuck, step};
 
-/// The run of a template's program ends, and gives what the template means by itself: the same text, end and next
-/// states. So no step on its way misses an operand or a frame.
+/// States that the run of a template's program ends, and gives what the template means by itself: the same text, end
+/// and next states. So no step on its way misses an operand or a frame.
 pub fn program_runs<V, T>()
     ensures { (calls : Calls V) (resolve : Resolver T) (left : ℕ) (t : Template) (name : Option (List ℕ)) (root : Root)
         (s : States V T)
@@ -26,20 +26,20 @@ pub fn program_runs<V, T>()
         ≡ Some (alone_within calls resolve left t name root s)) }
 {}
 
-/// A run gives one outcome, however many steps it is given.
+/// States that a run gives one outcome, however many steps it is given.
 pub fn runs_once<V, T>()
     ensures { (calls : Calls V) (resolve : Resolver T) (root : Root) (m n : ℕ) (s : State V T)
         (a b : Outcome (States V T))
         → run calls resolve root m s ≡ Some a → run calls resolve root n s ≡ Some b → a ≡ b }
 {}
 
-/// Where the spans in a template's tree lie in its text, all spans that the machine holds at its start lie so.
+/// If the spans in a template's tree lie in its text, all spans that the machine holds at its start lie so.
 pub fn spans_lie_at_start<V, T>()
     ensures { (t : Template) (name : Option (List ℕ)) (left : ℕ) (s : States V T)
         → TreeLiesIn t.source t.tree → StateLies (at_start t name left s) }
 {}
 
-/// Where all spans that the machine holds lie in the texts of their templates, they lie so after a step, and the step's
+/// If all spans that the machine holds lie in the texts of their templates, they lie so after a step, and the step's
 /// fault lies in the text of the template that runs. The same is asked of the templates that answer the names of
 /// includes.
 pub fn spans_lie_on<V, T>()
@@ -47,7 +47,7 @@ pub fn spans_lie_on<V, T>()
         → TemplatesLie resolve → StateLies s → NextLies s.active.running.source (step calls resolve root s) }
 {}
 
-/// In the midst of a run, where a text has been given and the run from here gives the rest of an outcome: no step is
+/// In the midst of a run, if a text has been given and the run from here gives the rest of an outcome: no step is
 /// stuck; one that goes on brings the end nearer, with its text after what was given; one that stops gives the
 /// outcome's end and states; and what was given, with the step's text, begins the outcome's text.
 pub fn midway<V, T>()
@@ -76,8 +76,8 @@ pub fn jumps_within()
     ensures { (tree : Statements) → JumpWithin (length (program_of tree)) (program_of tree) }
 {}
 
-/// What is found of names in a walk along a tree's program is what the tree says: whether it begins a path with a name
-/// outside of what binds that, which templates it includes there without a value, and which it includes.
+/// States that what is found of names in a walk along a tree's program is what the tree says: whether it begins a path
+/// with a name outside of what binds that, which templates it includes there without a value, and which it includes.
 pub fn program_names()
     ensures begun { (tree : Statements) (name : List ℕ)
         → (begins name (program_of tree) ≡ true) ↔ StatementsBegin (a_name name) tree }

@@ -11,7 +11,7 @@ use Rattle.upon_types.specs.Answers.{Misfit, wrong_type, out_of_range}
 abbrev pub unknown_callable : Span → Fault
 unknown_callable at = wrong (codes "unknown formatter or function") at
 
--- nothing has the name, where the value is not emitted
+-- nothing has the name, if the value is not emitted
 abbrev pub unknown_function : Span → Fault
 unknown_function at = wrong (codes "unknown function") at
 

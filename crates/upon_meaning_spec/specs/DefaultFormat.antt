@@ -1,4 +1,4 @@
--- What is written for a value where no formatter is named.
+-- What is written for a value if no formatter is named.
 use Rattle.std.specs.Prelude.{ℕ, List, [], ◌++◌, Option, Some, None, Bool, true, false, codes}
 use Rattle.std.specs.Fmt.{signed_decimal}
 use Rattle.upon_types.specs.Val.{Val, none_val, bool_val, int_val, text_val, list_val, map_val, kind_word}

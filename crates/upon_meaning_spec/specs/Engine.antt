@@ -61,7 +61,7 @@ abbrev pub limit_of : Option ℕ → Engine → ℕ
 limit_of None engine = engine.depth
 limit_of (Some depth) engine = depth
 
--- a rendering with the engine's templates, and a depth of its own where one is given
+-- a rendering with the engine's templates, and a depth of its own if one is given
 abbrev pub rendering_of : {V T : Type 0} → Engine → Source V → Option ℕ → Rendering V T
 rendering_of engine ask depth =
     record { calls = calls_of engine ask; resolve = from_table engine.templates; limit = limit_of depth engine }

@@ -1,4 +1,4 @@
--- What an expression comes to where it is not emitted: a value and its span, or a fault.
+-- What an expression comes to if it is not emitted: a value and its span, or a fault.
 use Rattle.std.specs.Prelude.{List, [], ◌∷◌, map, length, slice_get, Option, Some, None}
 use Rattle.upon_types.specs.declared.types.Span.{Span}
 use Rattle.upon_types.specs.Expression.{Expression, base, filtered, Base, var, literal, list, mapping, paren, call, Bases, no_bases, base_then, Items, no_items, item_then, Arguments, no_arguments, arguments}

@@ -16,7 +16,7 @@ use Rattle.upon_meaning_spec.specs.Engine.{Calls}
 use Rattle.upon_meaning_spec.specs.Evaluation.{Operand, evaluate}
 use Rattle.upon_meaning_spec.specs.Outcome.{End, good, fails, too_deep, Outcome, States, states, text_outcome, fault_outcome, then_do}
 
--- the template that runs: its text, and its name where it has one
+-- the template that runs: its text, and its name if it has one
 pub record RunningTemplate : Type 0 where
   pub source : List ℕ
   pub name : Option (List ℕ)
@@ -75,7 +75,7 @@ abbrev pub each_of : {Q : Type 0} → Body Q → RunningTemplate → Finding (Li
 each_of body running (found items) env q = each body (length items) 0 items env q
 each_of body running (at_fault f) env q = fault_outcome (fault_in running f) q
 
--- the same, or what the other branch gives where there is no item
+-- the same, or what the other branch gives if there is no item
 abbrev pub each_or : {Q : Type 0} → Body Q → Body Q → RunningTemplate → Finding (List (List Binding)) → Environment → Q
     → Outcome Q
 each_or body other running (found []) env q = other env q

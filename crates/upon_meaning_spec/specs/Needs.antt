@@ -132,13 +132,13 @@ NeedsName table tree name = Needs table tree (a_name name)
 abbrev pub NeedsAll : Table → Statements → Type 0
 NeedsAll table tree = Needs table tree an_index
 
--- the entry of a name, where the value is a map
+-- the entry of a name, if the value is a map
 abbrev pub entry_in : List ℕ → Val → Option (Option Val)
 entry_in name (map_val es) = Some (entry_at name es)
 entry_in name v = None
 
 -- two contexts agree on what a tree needs: both are maps with the same entry of each name needed, or neither is a map;
--- where all is needed they are the same
+-- if all is needed they are the same
 pub record AgreeForNeeds (table : Table) (tree : Statements) (this that : Val) : Type 0 where
   pub on_names : (name : List ℕ) → NeedsName table tree name → entry_in name this ≡ entry_in name that
   pub on_all : NeedsAll table tree → this ≡ that

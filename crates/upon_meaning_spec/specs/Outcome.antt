@@ -39,7 +39,7 @@ too_deep_outcome next = record { text = []; end = too_deep; next = next }
 abbrev pub with_text_before : {Q : Type 0} → List ℕ → Outcome Q → Outcome Q
 with_text_before text o = record o { text = text ++ o.text }
 
--- a text that ends so, and then another outcome where it ends well
+-- a text that ends so, and then another outcome if it ends well
 abbrev pub go_on : {Q : Type 0} → List ℕ → End → Q → (Q → Outcome Q) → Outcome Q
 go_on text good q go = with_text_before text (go q)
 go_on text (fails f) q go = record { text = text; end = fails f; next = q }

@@ -29,7 +29,7 @@ abbrev pub without : List ℕ → List Binding → List Binding
 without name [] = []
 without name (b ∷ bs) = if bytes_eq b.name name then without name bs else (b ∷ without name bs)
 
--- a loop's items, where none binds the name
+-- a loop's items, if none binds the name
 abbrev pub items_without : List ℕ → Finding (List (List Binding)) → Finding (List (List Binding))
 items_without name (found items) = found (map (without name) items)
 items_without name (at_fault f) = at_fault f

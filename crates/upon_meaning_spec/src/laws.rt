@@ -25,8 +25,8 @@ pub mod scopes;
 pub mod sources;
 pub mod whole_scopes;
 
-/// A greater depth gives the same text, end and next states where the lesser one does not end because includes are too
-/// deep; where it does, its text is a beginning of the greater one's.
+/// States that a greater depth gives the same text, end and next states if the lesser one does not end because
+/// includes are too deep; if it does, its text is a beginning of the greater one's.
 pub fn greater_depth<V, T>()
     ensures { (rendering : Rendering V T) (a b : ℕ) (t : Template) (name : Option (List ℕ)) (root : Root)
         (s : States V T) → a ≤ b
@@ -34,7 +34,7 @@ pub fn greater_depth<V, T>()
         (alone (record rendering { limit = b }) t name root s) }
 {}
 
-/// With the engine's templates: where a template has the number k, and it and those that it reaches have numbers
+/// With the engine's templates: if a template has the number k, and it and those that it reaches have numbers
 /// greater than those of the stored templates that they include, it never ends because includes are too deep, at any
 /// depth above k.
 pub fn numbered_depth<V, T>()
@@ -44,8 +44,9 @@ pub fn numbered_depth<V, T>()
         → (alone (rendering_of engine ask depth) t name root s).end ≢ too_deep }
 {}
 
-/// An include of a template with a value gives what that template gives alone on the value, with the depth that is
-/// left: the same text, end and next states, whatever is bound around the include, over any root, from any states.
+/// States that an include of a template with a value gives what that template gives alone on the value, with the depth
+/// that is left: the same text, end and next states, whatever is bound around the include, over any root, from any
+/// states.
 pub fn included_alone<V, T>()
     ensures within { (calls : Calls V) (resolve : Resolver T) (running : RunningTemplate) (left : ℕ) (word : Ident)
         (e : Expression) (env : Environment) (s : States V T) (v : Val) (t : Template) (next : States V T)
@@ -62,7 +63,8 @@ pub fn included_alone<V, T>()
         ≡ alone (record rendering { limit = suc left }) t (Some word.text) (context v) next }
 {}
 
-/// A template over a context never asks the value source, nor does one that it includes: the source's state stays.
+/// States that a template over a context never asks the value source, nor does one that it includes: the source's state
+/// stays.
 pub fn value_source_stays<V, T>()
     ensures within { (calls : Calls V) (resolve : Resolver T) (left : ℕ) (t : Template) (name : Option (List ℕ))
         (v : Val) (s : States V T) → (alone_within calls resolve left t name (context v) s).next.values ≡ s.values }
@@ -71,7 +73,7 @@ pub fn value_source_stays<V, T>()
         → (alone rendering t name (context v) s).next.values ≡ s.values }
 {}
 
-/// A template over a context gives the same, whatever the value source answers.
+/// States that a template over a context gives the same, whatever the value source answers.
 pub fn value_source_unasked<V, T>()
     ensures within { (calls : Calls V) (ask : Source V) (resolve : Resolver T) (left : ℕ) (t : Template)
         (name : Option (List ℕ)) (v : Val) (s : States V T)
@@ -84,8 +86,8 @@ pub fn value_source_unasked<V, T>()
         ≡ alone rendering t name (context v) s }
 {}
 
-/// A template over a context gives the same text, end and next state of the template source with another value source,
-/// also one whose states are of another type.
+/// States that a template over a context gives the same text, end and next state of the template source with another
+/// value source, also one whose states are of another type.
 pub fn value_source_replaced<V, W, T>()
     ensures { (calls : Calls V) (ask : Source W) (resolve : Resolver T) (left : ℕ) (t : Template)
         (name : Option (List ℕ)) (v : Val) (values : V) (others : W) (templates : T)
@@ -101,7 +103,7 @@ pub fn negated_condition<V, T>()
         ≡ statement_means calls include_means running (if_else false c b (otherwise a)) env s }
 {}
 
-/// Two templates of one name give the same text and next states, and end alike but for the span of a fault, where their
+/// Two templates of one name give the same text and next states, and end alike but for the span of a fault, if their
 /// trees are alike but for spans: raw parts show the same, and of an `if` the condition may be negated in one of the
 /// two alone, with its branches the other way round. Each template is rendered under its own text.
 pub fn turned_conditions<V, T>()

@@ -36,7 +36,7 @@ Answers shows source outcome (Err error) = TellsFaultOrMemory source outcome err
 abbrev pub lent_view : Option (Bor Value) → Option Val
 lent_view value = option_map (λ v. view v.now) value
 
--- what a walk by references ends at; no value where it missed by `?.`
+-- what a walk by references ends at; no value if it missed by `?.`
 abbrev pub lent_or_none : Option (Bor Value) → Val
 lent_or_none None = none_val
 lent_or_none (Some value) = view value.now

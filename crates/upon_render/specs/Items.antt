@@ -18,7 +18,7 @@ entry_binds key value entry = binding key.text (key_text entry.0) ∷ binding va
 
 -- A list with one name, or a map with two, whose entries are in the order of their keys' bytes. Else it is a fault:
 -- at the names where
--- they are too many or too few, at the iterable where the value has no items.
+-- they are too many or too few, at the iterable if the value has no items.
 abbrev pub items_of : LoopVars → Val → Span → Finding (List (List Binding))
 items_of (item name) (list_val vs) at = found (map (item_binds name) (val_list vs))
 items_of (key_value key value both) (map_val es) at = found (map (entry_binds key value) (entry_list es))

@@ -37,7 +37,7 @@ state_member i count (by_key word) op at =
     (if bytes_eq word.text (codes "first") then found (Some (is_first i)) else
     (if bytes_eq word.text (codes "last") then found (Some (is_last i count)) else miss op (not_in_map at)))
 
--- after a member of a loop's state no member may be, also where that member missed by `?.`
+-- after a member of a loop's state no member may be, also if that member missed by `?.`
 abbrev pub state_end : Val → List Member → Finding Val
 state_end v [] = found v
 state_end v (member ∷ members) = at_fault (index_into v member.span)
@@ -60,12 +60,12 @@ bound_value (plain v) members = walk members v
 bound_value (key_text text) members = key_walk text members
 bound_value (loop_state index count) members = state_walk index count members
 
--- what a binding answers, where there is one
+-- what a binding answers, if there is one
 abbrev pub maybe_bound : Option Bound → List Member → Finding (Option Val)
 maybe_bound None members = found None
 maybe_bound (Some b) members = as_some (bound_value b members)
 
--- a path among bindings: the first one of its first member's name answers; none where there is no such binding
+-- a path among bindings: the first one of its first member's name answers; none if there is no such binding
 abbrev pub bindings_walk : List Binding → Member → List Member → Finding (Option Val)
 bindings_walk bs first rest = maybe_bound (binding_of first.access bs) rest
 

@@ -64,7 +64,7 @@ abbrev pub is_lent_item : Item → Bool
 is_lent_item (Lone value) = is_borrowed value
 is_lent_item (Entry key value) = is_borrowed value
 
--- whether the item is lent, where there is one
+-- whether the item is lent, if there is one
 abbrev pub is_lent_here : Option Here → Bool → Bool
 is_lent_here None others = others
 is_lent_here (Some here) others = is_lent_item here.item

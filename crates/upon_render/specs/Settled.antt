@@ -12,19 +12,19 @@ use Rattle.upon_render.specs.Lookup.{or_not_in_scope, bindings_walk}
 use Rattle.upon_render.specs.LookupFaults.{not_in_scope}
 use Rattle.upon_render.specs.Walk.{context_walk}
 
--- what the root answers; none where it is the source
+-- what the root answers; none if it is the source
 abbrev pub root_settles : Root → Member → List Member → Option (Finding Val)
 root_settles (context v) first rest = Some (or_not_in_scope (context_walk first rest v) first.span)
 root_settles value_source first rest = None
 root_settles nothing first rest = Some (at_fault (not_in_scope first.span))
 
--- what is found among the bindings, else what the root answers; none where that is the source
+-- what is found among the bindings, else what the root answers; none if that is the source
 abbrev pub or_root_settles : Finding (Option Val) → Root → Member → List Member → Option (Finding Val)
 or_root_settles (found (Some v)) root first rest = Some (found v)
 or_root_settles (found None) root first rest = root_settles root first rest
 or_root_settles (at_fault fault) root first rest = Some (at_fault fault)
 
--- what is known of a path: what it comes to, where that needs no source, and whether it is lent
+-- what is known of a path: what it comes to, if that needs no source, and whether it is lent
 pub record Known : Type 0 where
   pub settled : Option (Finding Val)
   pub is_lent : Bool

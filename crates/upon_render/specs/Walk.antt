@@ -36,11 +36,11 @@ abbrev pub member_by_access : Val → Access → AccessOp → Span → Finding (
 member_by_access v (by_index n span) op at = index_in v n op at
 member_by_access v (by_key word) op at = key_in v word.text op at
 
--- the member of a value, none where it misses by `?.`, or the fault, which lies at the member
+-- the member of a value, none if it misses by `?.`, or the fault, which lies at the member
 abbrev pub lookup_member : Val → Member → Finding (Option Val)
 lookup_member v member = member_by_access v member.access member.op member.span
 
--- on with a member, where there is one
+-- on with a member, if there is one
 abbrev pub after_member : Finding (Option Val) → (Val → Finding Val) → Finding Val
 after_member (found (Some v)) go = go v
 after_member (found None) go = found none_val
@@ -56,7 +56,7 @@ abbrev pub as_some : Finding Val → Finding (Option Val)
 as_some (found v) = found (Some v)
 as_some (at_fault fault) = at_fault fault
 
--- on with the first member, where a context has it
+-- on with the first member, if a context has it
 abbrev pub after_first : Finding (Option Val) → (Val → Finding Val) → Finding (Option Val)
 after_first (found (Some v)) go = as_some (go v)
 after_first (found None) go = found (Some none_val)

@@ -12,7 +12,7 @@ use upon_types::error::{Error, ErrorKind};
 use upon_types::types::Span;
 use upon_types::value::Value;
 
-/// The fault of rendering with this reason at this span.
+/// Creates the fault of rendering with this reason at this span.
 pub(crate) fn wrong(alloc: Global, source: &str, reason: &str, at: Span) -> Error
     requires { LiesIn source.now at }
     ensures { OrMemory (fault_with_picture source.now (wrong reason.now at)) (fault_of result) }
@@ -44,7 +44,7 @@ fn with_reason(alloc: Global, source: &str, reason: Result<String, AllocError>, 
     }
 }
 
-/// A list has no item at an index.
+/// Returns the fault of a list that has no item at an index.
 pub(crate) fn out_of_bounds(alloc: Global, source: &str, len: usize, at: Span) -> Error
     requires { LiesIn source.now at }
     ensures { OrMemory (fault_with_picture source.now (out_of_bounds len at)) (fault_of result) }
@@ -53,7 +53,7 @@ pub(crate) fn out_of_bounds(alloc: Global, source: &str, len: usize, at: Span) -
     with_reason(alloc, source, reason, at)
 }
 
-/// A value of this kind has no items by index.
+/// Returns the fault of a value of this kind, which has no items by index.
 pub(crate) fn no_index_access(alloc: Global, source: &str, value: &Value, at: Span) -> Error
     requires { LiesIn source.now at }
     ensures { OrMemory (fault_with_picture source.now (no_index_access (view value.now) at)) (fault_of result) }
@@ -63,7 +63,7 @@ pub(crate) fn no_index_access(alloc: Global, source: &str, value: &Value, at: Sp
     with_reason(alloc, source, reason, at)
 }
 
-/// A value of this kind has no values by key.
+/// Returns the fault of a value of this kind, which has no values by key.
 pub(crate) fn no_key_access(alloc: Global, source: &str, value: &Value, at: Span) -> Error
     requires { LiesIn source.now at }
     ensures { OrMemory (fault_with_picture source.now (no_key_access (view value.now) at)) (fault_of result) }
@@ -73,7 +73,7 @@ pub(crate) fn no_key_access(alloc: Global, source: &str, value: &Value, at: Span
     with_reason(alloc, source, reason, at)
 }
 
-/// A loop's state has a value of this kind, which has no members.
+/// Returns the fault of a path into a loop's state, past a value of this kind.
 pub(crate) fn index_into(alloc: Global, source: &str, value: &Value, at: Span) -> Error
     requires { LiesIn source.now at }
     ensures { OrMemory (fault_with_picture source.now (index_into (view value.now) at)) (fault_of result) }
@@ -83,7 +83,7 @@ pub(crate) fn index_into(alloc: Global, source: &str, value: &Value, at: Span) -
     with_reason(alloc, source, reason, at)
 }
 
-/// A loop does not go over a value of this kind.
+/// Returns the fault of a loop over a value of this kind.
 pub(crate) fn not_iterable(alloc: Global, source: &str, value: &Value, at: Span) -> Error
     requires { LiesIn source.now at }
     ensures { OrMemory (fault_with_picture source.now (not_iterable (view value.now) at)) (fault_of result) }

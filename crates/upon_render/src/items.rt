@@ -31,7 +31,7 @@ pub(crate) struct Here<'a> {
 }
 
 impl<'a> Rest<'a> {
-    /// The next item.
+    /// Moves to the next item, and returns it.
     pub(crate) fn next(&mut self) -> Option<Item<'a>>
         ensures items { MatchOption
             result
@@ -60,7 +60,7 @@ impl<'a> Rest<'a> {
         }
     }
 
-    /// How many items are left.
+    /// Returns how many items are left.
     pub(crate) fn len(&self) -> usize
         ensures { result ≡ length (items_left self.now) }
     {

@@ -37,9 +37,9 @@ pub struct LoopState<'a> {
 impl<'a> LoopState<'a> {
     ghost use Rattle.upon_render.specs.Loop.{cursor, is_lent_loop, loop_lends, names_span};
 
-    /// The loop over these items, before the first one.
+    /// Creates the loop over these items, before the first one.
     ///
-    /// It is a fault where there is another number of names than the items have, at the names, and where the value has no
+    /// It is a fault if there is another number of names than the items have, at the names, and if the value has no
     /// items, at `span`. Memory is taken for a fault alone.
     pub fn new(
         alloc: Global,
@@ -85,15 +85,15 @@ impl<'a> LoopState<'a> {
         Some(())
     }
 
-    /// Whether no item is left. It takes no memory.
+    /// Returns whether no item is left. It takes no memory.
     pub fn is_empty(&self) -> bool
         ensures { result ≡ is_over (cursor self.now) }
     {
         self.rest.len() == 0
     }
 
-    /// What the loop binds to the path, or `None` where it does not bind the name that is the path's first member, and
-    /// before the first item.
+    /// Returns what the loop binds to the path, or `None` if it does not bind the name that is the path's first
+    /// member, and before the first item.
     ///
     /// What a lent list or map binds is lent; the key and the loop's state are made for the answer.
     pub fn lookup_var(&self, alloc: Global, source: &str, var: &Var) -> Result<Option<ValueCow<'a>>>
@@ -121,7 +121,7 @@ impl<'a> LoopState<'a> {
         }
     }
 
-    /// What the path finds in the loop's state, which its first member names, or `None` before the first item.
+    /// Returns what the path finds in the loop's state, which its first member names, or `None` before the first item.
     pub fn lookup_loop(
         &self,
         alloc: Global,
@@ -249,7 +249,8 @@ fn lookup_item<'a>(
         source.now
         (maybe_bound (first_bound name.now (binds (loop_vars_of vars.now) (item_of item.now))) (map member_of path.now))
         result }
-    ensures lent { lends_bound (is_lent_item item.now) (first_bound name.now (binds (loop_vars_of vars.now) (item_of item.now))) ≡ true → Lends
+    ensures lent { lends_bound (is_lent_item item.now)
+        (first_bound name.now (binds (loop_vars_of vars.now) (item_of item.now))) ≡ true → Lends
         IsLentIfAny
         (maybe_bound (first_bound name.now (binds (loop_vars_of vars.now) (item_of item.now))) (map member_of path.now))
         result }

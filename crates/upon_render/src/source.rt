@@ -58,11 +58,12 @@ pub trait ValueSource: Drop {
     /// The references that it holds.
     ghost holds: { Self → List ℕ };
 
-    /// The value at this path.
+    /// Returns the value at this path.
     fn value(&mut self, path: &[ValueMember]) -> Result<Value, SourceError>
         ensures same { holds self.new ≡ holds self.old }
         ensures stays { ask self.new ≡ ask self.old }
-        ensures asked { Asked view result (value_state self.new) (ask self.old (value_state self.old) (asked_path path.now)) };
+        ensures asked { Asked view result (value_state self.new)
+            (ask self.old (value_state self.old) (asked_path path.now)) };
 }
 
 impl<S: ValueSource> ValueSource for &mut S {
@@ -88,7 +89,7 @@ pub struct NoSource {
 }
 
 impl NoSource {
-    /// A source that refuses every path.
+    /// Creates a source that refuses every path.
     pub fn new(alloc: Global) -> NoSource {
         NoSource { alloc }
     }
@@ -111,7 +112,7 @@ impl ValueSource for NoSource {
     }
 }
 
-/// The path that a source is asked for.
+/// Returns the path that a source is asked for.
 pub(crate) fn members<'b>(
     alloc: Global,
     path: &'b [Member],

@@ -37,7 +37,7 @@ pub enum State<'a> {
     Boundary,
 }
 
-/// What answers where no frame does.
+/// What answers if no frame does.
 #[derive(Drop)]
 enum Root<'a, V> {
     Value(&'a Value),
@@ -76,20 +76,24 @@ impl<'a, V: ValueSource> Stack<'a, V> {
         }
     }
 
-    /// What the path finds: in the innermost frame that binds its first member, or else in the root.
+    /// Returns what the path finds: in the innermost frame that binds its first member, or else in the root.
     ///
-    /// What a lent value binds is lent. A source is asked once, for the whole path, where no frame binds it.
+    /// What a lent value binds is lent. A source is asked once, for the whole path, if no frame binds it.
     pub fn lookup_var(&mut self, source: &str, var: &Var) -> Result<ValueCow<'a>>
         requires { StepsLieIn source.now (first_member var.now ∷ rest_members var.now) }
-        ensures answer { (ask : Source V.State) (q : V.State) → HasSource V.ask V.value_state (root_of self.old) ask q → Answers
+        ensures answer { (ask : Source V.State) (q : V.State) → HasSource V.ask V.value_state (root_of self.old) ask q
+            → Answers
             cow_view
             source.now
             (lookup ask (environment_of self.old) (first_member var.now) (rest_members var.now) q).answer
             result }
-        ensures next { (ask : Source V.State) (q : V.State) → HasSource V.ask V.value_state (root_of self.old) ask q → OrOutOfMemory
+        ensures next { (ask : Source V.State) (q : V.State) → HasSource V.ask V.value_state (root_of self.old) ask q
+            → OrOutOfMemory
             result
-            (HasSource V.ask V.value_state (root_of self.new) ask (lookup ask (environment_of self.old) (first_member var.now) (rest_members var.now) q).next) }
-        ensures lent { (ask : Source V.State) (q : V.State) → stack_lends self.old (first_member var.now).access ≡ true → Lends
+            (HasSource V.ask V.value_state (root_of self.new) ask
+            (lookup ask (environment_of self.old) (first_member var.now) (rest_members var.now) q).next) }
+        ensures lent { (ask : Source V.State) (q : V.State) → stack_lends self.old (first_member var.now).access ≡ true
+            → Lends
             IsLent
             (lookup ask (environment_of self.old) (first_member var.now) (rest_members var.now) q).answer
             result }
@@ -104,7 +108,7 @@ impl<'a, V: ValueSource> Stack<'a, V> {
         }
     }
 
-    /// One frame more, the innermost. Where there is no memory, nothing changes.
+    /// One frame more, the innermost. If there is no memory, nothing changes.
     pub fn push(&mut self, frame: State<'a>) -> std::result::Result<(), AllocError>
         ensures ok { OnOk result (frames_of self.new ≡ frames_of self.old ++ frame.entry ∷ []) }
         ensures environment { OnOk result (environment_of self.new ≡ frame_over frame.entry (environment_of self.old)) }
@@ -115,7 +119,7 @@ impl<'a, V: ValueSource> Stack<'a, V> {
         Ok(())
     }
 
-    /// The context of the innermost frame, which is a scope.
+    /// Removes the innermost frame, which is a scope, and returns its context.
     pub fn pop_scope(&mut self) -> ValueCow<'a>
         requires { IsScope (top (frames_of self.old)) }
         ensures frames { frames_of self.old ≡ frames_of self.new ++ State.Scope result ∷ [] }
@@ -129,7 +133,7 @@ impl<'a, V: ValueSource> Stack<'a, V> {
         }
     }
 
-    /// The name and the value of the innermost frame, which is a variable.
+    /// Removes the innermost frame, which is a variable, and returns its name and its value.
     pub fn pop_var(&mut self) -> (&'a Ident, ValueCow<'a>)
         requires { IsVar (top (frames_of self.old)) }
         ensures frames { frames_of self.old ≡ frames_of self.new ++ State.Var result.0 result.1 ∷ [] }
@@ -143,7 +147,7 @@ impl<'a, V: ValueSource> Stack<'a, V> {
         }
     }
 
-    /// The loop of the innermost frame, which is a loop.
+    /// Removes the innermost frame, which is a loop, and returns the loop.
     pub fn pop_loop_state(&mut self) -> LoopState<'a>
         requires { IsLoop (top (frames_of self.old)) }
         ensures frames { frames_of self.old ≡ frames_of self.new ++ State.Loop result ∷ [] }
@@ -171,7 +175,7 @@ impl<'a, V: ValueSource> Stack<'a, V> {
         }
     }
 
-    /// The loop of the innermost frame, which is a loop.
+    /// Returns the loop of the innermost frame, which is a loop.
     pub fn last_loop_state_mut(&mut self) -> &mut LoopState<'a>
         requires { IsLoop (top (frames_of self.old)) }
         ensures { top (frames_of self.old) ≡ Some (State.Loop result.now) }
@@ -185,10 +189,11 @@ impl<'a, V: ValueSource> Stack<'a, V> {
         }
     }
 
-    /// The loop of the innermost frame, which is a loop, goes to its next item; at the end it stays at the last one.
+    /// Moves the loop of the innermost frame, which is a loop, to its next item; at the end it stays at the last one.
     pub fn iterate_loop(&mut self) -> Option<()>
         requires { IsLoop (top (frames_of self.old)) }
-        ensures frames { (below : List State) (state : LoopState) → frames_of self.old ≡ below ++ State.Loop state ∷ [] → Iterates
+        ensures frames { (below : List State) (state : LoopState) → frames_of self.old ≡ below ++ State.Loop state ∷ []
+            → Iterates
             result
             state
             (λ next. frames_of self.new ≡ below ++ State.Loop next ∷ []) }
@@ -203,7 +208,7 @@ impl<'a, V: ValueSource> Stack<'a, V> {
         }
     }
 
-    /// Whether the loop of the innermost frame, which is a loop, has no item left.
+    /// Returns whether the loop of the innermost frame, which is a loop, has no item left.
     pub fn is_loop_empty(&self) -> bool
         requires { IsLoop (top (frames_of self.now)) }
         ensures { (below : List State) (state : LoopState) → frames_of self.now ≡ below ++ State.Loop state ∷ []
@@ -218,7 +223,7 @@ impl<'a, V: ValueSource> Stack<'a, V> {
         }
     }
 
-    /// The source of values below the frames, or `None` over a context.
+    /// Returns the source of values below the frames, or `None` over a context.
     pub fn into_source(self) -> Option<V>
         ensures { MatchOption
             result
@@ -259,7 +264,8 @@ fn lookup_root<'a, V: ValueSource>(
         result }
     ensures next { (ask : Source V.State) (q : V.State) → HasSource V.ask V.value_state root.old ask q → OrOutOfMemory
         result
-        (HasSource V.ask V.value_state root.new ask (root_value ask (pure_root root.old) (first_member var.now) (rest_members var.now) q).next) }
+        (HasSource V.ask V.value_state root.new ask
+        (root_value ask (pure_root root.old) (first_member var.now) (rest_members var.now) q).next) }
     ensures lent { (ask : Source V.State) (q : V.State) → root_lends root.old ≡ true → Lends
         IsLent
         (root_value ask (pure_root root.old) (first_member var.now) (rest_members var.now) q).answer
@@ -291,11 +297,13 @@ fn ask_source<'a, V: ValueSource>(
     ensures answer { Answers
         cow_view
         source.now
-        (root_value (V.ask values.old) value_source (first_member var.now) (rest_members var.now) (V.value_state values.old)).answer
+        (root_value (V.ask values.old) value_source (first_member var.now) (rest_members var.now)
+        (V.value_state values.old)).answer
         result }
     ensures next { OrOutOfMemory
         result
-        (V.value_state values.new ≡ (root_value (V.ask values.old) value_source (first_member var.now) (rest_members var.now) (V.value_state values.old)).next) }
+        (V.value_state values.new ≡ (root_value (V.ask values.old) value_source (first_member var.now)
+        (rest_members var.now) (V.value_state values.old)).next) }
     ensures stays { V.ask values.new ≡ V.ask values.old }
     ensures same { V.holds values.new ≡ V.holds values.old }
 {
@@ -322,7 +330,8 @@ fn search<'a>(
     requires { StepsLieIn source.now (first_member var.now ∷ rest_members var.now) }
     ensures { (env : Environment) (lent : Bool) → Finds
         source.now
-        (known (frames_over env frames.now) (frames_lend lent frames.now (first_member var.now).access) (first_member var.now) (rest_members var.now))
+        (known (frames_over env frames.now) (frames_lend lent frames.now (first_member var.now).access)
+        (first_member var.now) (rest_members var.now))
         (known env lent (first_member var.now) (rest_members var.now))
         result }
 {
@@ -348,7 +357,8 @@ fn lookup_frame<'a>(
     requires { StepsLieIn source.now (first_member var.now ∷ rest_members var.now) }
     ensures { (env : Environment) (lent : Bool) → Finds
         source.now
-        (known (frame_over frame.now env) (frame_lends frame.now (first_member var.now).access lent) (first_member var.now) (rest_members var.now))
+        (known (frame_over frame.now env) (frame_lends frame.now (first_member var.now).access lent)
+        (first_member var.now) (rest_members var.now))
         (known env lent (first_member var.now) (rest_members var.now))
         result }
 {
@@ -377,11 +387,15 @@ fn lookup_named<'a>(
     ensures answer { Answers
         maybe_view
         source.now
-        (bindings_walk (binding (ident_of ident.now).text (plain (cow_view value.now)) ∷ []) (first_member var.now) (rest_members var.now))
+        (bindings_walk (binding (ident_of ident.now).text (plain (cow_view value.now)) ∷ []) (first_member var.now)
+        (rest_members var.now))
         result }
-    ensures lent { lends_bound (is_borrowed value.now) (binding_of (first_member var.now).access (binding (ident_of ident.now).text (plain (cow_view value.now)) ∷ [])) ≡ true → Lends
+    ensures lent { lends_bound (is_borrowed value.now)
+        (binding_of (first_member var.now).access
+        (binding (ident_of ident.now).text (plain (cow_view value.now)) ∷ [])) ≡ true → Lends
         IsLentIfAny
-        (bindings_walk (binding (ident_of ident.now).text (plain (cow_view value.now)) ∷ []) (first_member var.now) (rest_members var.now))
+        (bindings_walk (binding (ident_of ident.now).text (plain (cow_view value.now)) ∷ []) (first_member var.now)
+        (rest_members var.now))
         result }
 {
     if let Access::Key(name) = &var.first().access {
@@ -392,7 +406,8 @@ fn lookup_named<'a>(
     Ok(None)
 }
 
-// What the path, by its first member and the others, finds in a context. It is a fault where the context does not have it.
+// What the path, by its first member and the others, finds in a context. It is a fault where the context does not have
+// it.
 fn lookup_context<'a>(
     alloc: Global,
     source: &str,
@@ -405,11 +420,13 @@ fn lookup_context<'a>(
     ensures answer { Answers
         cow_view
         source.now
-        (or_not_in_scope (context_walk (member_of first.now) (map member_of rest.now) (cow_view context.now)) first.now.span)
+        (or_not_in_scope (context_walk (member_of first.now) (map member_of rest.now) (cow_view context.now))
+        first.now.span)
         result }
     ensures lent { is_borrowed context.now ≡ true → Lends
         IsLent
-        (or_not_in_scope (context_walk (member_of first.now) (map member_of rest.now) (cow_view context.now)) first.now.span)
+        (or_not_in_scope (context_walk (member_of first.now) (map member_of rest.now) (cow_view context.now))
+        first.now.span)
         result }
 {
     match lookup_in_context(alloc, source, context, first, rest) {

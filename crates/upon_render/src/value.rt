@@ -18,9 +18,9 @@ use upon_types::types::ast::{Access, AccessOp, Member};
 use upon_types::value::look::entry;
 use upon_types::value::{Value, ValueCow};
 
-/// The member of the value, or `None` where it misses by `?.`.
+/// Returns the member of the value, or `None` if it misses by `?.`.
 ///
-/// It is a fault at the member where it misses by `.`, and where the value has no members of its kind. Memory is taken
+/// It is a fault at the member if it misses by `.`, and if the value has no members of its kind. Memory is taken
 /// for a fault alone.
 pub fn lookup<'a>(
     alloc: Global,
@@ -37,10 +37,11 @@ pub fn lookup<'a>(
     }
 }
 
-/// The value that the members lead to from this one, which is no value after a miss by `?.`. No members give the value.
+/// Returns the value that the members lead to from this one, which is no value after a miss by `?.`. No members give
+/// the value.
 ///
-/// The fault of a member that is not there lies at that member. From a borrowed value what is found is borrowed too, and
-/// memory is taken for a fault alone.
+/// The fault of a member that is not there lies at that member. From a borrowed value what is found is borrowed too,
+/// and memory is taken for a fault alone.
 #[inline(always)]
 pub fn lookup_path<'a>(
     alloc: Global,
@@ -50,7 +51,8 @@ pub fn lookup_path<'a>(
 ) -> Result<ValueCow<'a>>
     requires { StepsLieIn source.now (map member_of path.now) }
     ensures answer { Answers cow_view source.now (walk (map member_of path.now) (cow_view value.now)) result }
-    ensures lent { is_borrowed value.now ≡ true → Lends IsLent (walk (map member_of path.now) (cow_view value.now)) result }
+    ensures lent { is_borrowed value.now ≡ true
+        → Lends IsLent (walk (map member_of path.now) (cow_view value.now)) result }
 {
     match value {
         ValueCow::Borrowed(start) => match descend(alloc, source, *start, path)? {
@@ -64,9 +66,10 @@ pub fn lookup_path<'a>(
     }
 }
 
-/// The value that the path leads to from a context, or `None` where the context has nothing at its first member.
+/// Returns the value that the path leads to from a context, or `None` if the context has nothing at its first
+/// member.
 ///
-/// Where the first member misses by `?.`, that is no value. Later members are as in [`lookup_path`].
+/// If the first member misses by `?.`, that is no value. Later members are as in [`lookup_path`].
 pub fn lookup_path_maybe<'a>(
     alloc: Global,
     source: &str,
@@ -75,8 +78,10 @@ pub fn lookup_path_maybe<'a>(
 ) -> Result<Option<ValueCow<'a>>>
     requires some { 0 < length path.now }
     requires spans { StepsLieIn source.now (map member_of path.now) }
-    ensures answer { Answers maybe_view source.now (path_in_context (map member_of path.now) (cow_view value.now)) result }
-    ensures lent { is_borrowed value.now ≡ true → Lends IsLentIfAny (path_in_context (map member_of path.now) (cow_view value.now)) result }
+    ensures answer { Answers maybe_view source.now (path_in_context (map member_of path.now) (cow_view value.now))
+        result }
+    ensures lent { is_borrowed value.now ≡ true
+        → Lends IsLentIfAny (path_in_context (map member_of path.now) (cow_view value.now)) result }
     ensures unbound { path_in_context (map member_of path.now) (cow_view value.now) ≡ found None → result ≡ Ok None }
 {
     match path {
@@ -85,7 +90,7 @@ pub fn lookup_path_maybe<'a>(
     }
 }
 
-/// The value that the members lead to from a value that a name is bound to, as in [`lookup_path`].
+/// Returns the value that the members lead to from a value that a name is bound to, as in [`lookup_path`].
 pub(crate) fn lookup_bound<'a>(
     alloc: Global,
     source: &str,
@@ -93,8 +98,10 @@ pub(crate) fn lookup_bound<'a>(
     path: &[Member],
 ) -> Result<Option<ValueCow<'a>>>
     requires { StepsLieIn source.now (map member_of path.now) }
-    ensures answer { Answers maybe_view source.now (as_some (walk (map member_of path.now) (cow_view value.now))) result }
-    ensures lent { is_borrowed value.now ≡ true → Lends IsLentIfAny (as_some (walk (map member_of path.now) (cow_view value.now))) result }
+    ensures answer { Answers maybe_view source.now (as_some (walk (map member_of path.now) (cow_view value.now)))
+        result }
+    ensures lent { is_borrowed value.now ≡ true
+        → Lends IsLentIfAny (as_some (walk (map member_of path.now) (cow_view value.now))) result }
 {
     match lookup_path(alloc, source, value, path) {
         Ok(end) => Ok(Some(end)),
@@ -102,7 +109,7 @@ pub(crate) fn lookup_bound<'a>(
     }
 }
 
-/// The same, of the path's first member and its others.
+/// Does the same, of the path's first member and its others.
 pub(crate) fn lookup_in_context<'a>(
     alloc: Global,
     source: &str,
@@ -111,9 +118,12 @@ pub(crate) fn lookup_in_context<'a>(
     rest: &[Member],
 ) -> Result<Option<ValueCow<'a>>>
     requires { StepsLieIn source.now (map member_of rest.now) }
-    ensures answer { Answers maybe_view source.now (context_walk (member_of first.now) (map member_of rest.now) (cow_view value.now)) result }
-    ensures lent { is_borrowed value.now ≡ true → Lends IsLentIfAny (context_walk (member_of first.now) (map member_of rest.now) (cow_view value.now)) result }
-    ensures unbound { context_walk (member_of first.now) (map member_of rest.now) (cow_view value.now) ≡ found None → result ≡ Ok None }
+    ensures answer { Answers maybe_view source.now
+        (context_walk (member_of first.now) (map member_of rest.now) (cow_view value.now)) result }
+    ensures lent { is_borrowed value.now ≡ true
+        → Lends IsLentIfAny (context_walk (member_of first.now) (map member_of rest.now) (cow_view value.now)) result }
+    ensures unbound { context_walk (member_of first.now) (map member_of rest.now) (cow_view value.now) ≡ found None
+        → result ≡ Ok None }
 {
     match value {
         ValueCow::Borrowed(start) => match reach(*start, first) {
@@ -194,7 +204,8 @@ fn item(items: &Vec<Value>, index: usize) -> Option<&Value>
 }
 
 fn found_or_missed(found: Option<&Value>, op: AccessOp) -> Option<Option<&Value>>
-    ensures { (fault : Fault) → option_map lent_view result ≡ found_only (found_or_missed (lent_view found.entry) op fault) }
+    ensures { (fault : Fault) → option_map lent_view result
+        ≡ found_only (found_or_missed (lent_view found.entry) op fault) }
 {
     match (found, op) {
         (Some(value), _) => Some(Some(value)),

@@ -18,7 +18,8 @@ pub trait CallPath: Drop {
     // The answer and the next state, in each state and for each path.
     ghost answers_path: { Source State };
 
-    /// The value at this path. The error is `Refused` where the function refuses, and `Memory` where memory is out.
+    /// Returns the value at this path. The error is `Refused` if the function refuses, and `Memory` if memory is
+    /// out.
     fn call(&mut self, path: &[ValueMember]) -> Result<Value, SourceError>
         ensures { Asked view result (call_state self.new) (answers_path (call_state self.old) (asked_path path.now)) };
 }
@@ -31,7 +32,7 @@ pub struct ValueFn<C> {
 }
 
 impl<C> ValueFn<C> {
-    /// The source that calls this function.
+    /// Creates the source that calls this function.
     pub fn new(callable: C) -> Self
         ensures { result.callable ≡ callable }
     {

@@ -17,7 +17,7 @@ use std::collections::BTreeMap;
 use upon_types::error::Result;
 use upon_types::value::Value;
 
-/// The value of the data that the notes are.
+/// Returns the value of the data that the notes are.
 pub fn whole_value(alloc: Global, mut notes: Notes) -> Result<Value>
     ensures reads { IfOk result (λ v. ReadsDatum (events_of notes) [] (view v)) }
 {

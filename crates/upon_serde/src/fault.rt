@@ -6,22 +6,23 @@ ghost use Rattle.upon_serde.specs.Refusal.{IsRefusal};
 use std::alloc::{AllocError, Global};
 use upon_types::error::{Error, ErrorKind, Result};
 
-/// The fault of a context that is no value.
+/// Returns the fault of a context that is no value.
 pub fn fault(alloc: Global, reason: &str) -> Error
     ensures { IsRefusal (fault_of result) }
 {
     Error::from_parts(alloc, ErrorKind::Serialize, Some(reason), None)
 }
 
-/// The fault of an implementation that sent no data: an end without its begin, a value without its key, or nothing.
+/// Returns the fault of an implementation that sent no data: an end without its begin, a value without its key, or
+/// nothing.
 pub fn incomplete(alloc: Global) -> Error
     ensures { IsRefusal (fault_of result) }
 {
     fault(alloc, "serde's data are incomplete")
 }
 
-/// The refusal of a context whose implementation answered an error. One of a kind that tells of no context is told as
-/// incomplete data.
+/// Returns the refusal of a context whose implementation answered an error. One of a kind that tells of no context is
+/// told as incomplete data.
 pub fn refusal(alloc: Global, error: Error) -> Error
     ensures { IsRefusal (fault_of result) }
 {
@@ -32,7 +33,7 @@ pub fn refusal(alloc: Global, error: Error) -> Error
     }
 }
 
-/// The integer that a number is. One past the integers is refused.
+/// Returns the integer that a number is. One past the integers is refused.
 pub fn integer(alloc: Global, number: u64) -> Result<i64>
     ensures { IfOk result (λ z. z ≡ pos number) }
 {

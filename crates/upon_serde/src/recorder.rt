@@ -21,7 +21,7 @@ pub struct Recorder {
 }
 
 impl Recorder {
-    /// A recorder that was sent nothing yet.
+    /// Creates a recorder that was sent nothing yet.
     pub fn new(alloc: Global) -> Recorder
         ensures { events_of result.notes ≡ [] }
     {
@@ -32,7 +32,7 @@ impl Recorder {
         }
     }
 
-    /// What it was sent.
+    /// Returns what it was sent.
     pub fn into_notes(self) -> Notes
         ensures { result ≡ self.notes }
     {

@@ -14,7 +14,7 @@ use std::alloc::Global;
 use upon_types::error::Result;
 use upon_types::value::Value;
 
-/// What serde writes of `value`, as a value of templates.
+/// Returns what serde writes of `value`, as a value of templates.
 ///
 /// A unit, a unit struct and `None` are no value. `Some` and a newtype struct are what is inside. A truth value is one,
 /// a whole number an integer, a character and a text a text, bytes a list of integers. A unit variant is its name. A
@@ -29,7 +29,7 @@ use upon_types::value::Value;
 /// - `i128 is not supported`, `u128 is not supported`.
 /// - `map key must be a string`: a key is of another type.
 /// - the message that an implementation of `Serialize` gives to `custom`.
-/// - `can only flatten structs and maps`, and `serde's data are incomplete` where an implementation by hand writes what
+/// - `can only flatten structs and maps`, and `serde's data are incomplete` if an implementation by hand writes what
 ///   is no data, or answers an error of a kind that tells of no context.
 ///
 /// Out of memory has the kind `OutOfMemory`.

@@ -27,7 +27,7 @@ use Rattle.upon_tag_parser.specs.declared.compile.parse.tag.Tag.TheVariants as c
 use Rattle.upon_syntax.specs.PieceTrees.{branch_of, with_branch, IsBlockEnd, ReadsOut, Reads, Ends, EndEach, Closes, MayPrecede, Pushes, Enters, Leaves, ReadsPiece, IsClosed, ReadsWith}
 use Rattle.upon_syntax.specs.declared.compile.parse.tree.BlockEnd.{BlockEnd}
 use Rattle.upon_syntax.specs.declared.compile.parse.tree.BlockEnd.TheVariants.{If, For, With}
-use Rattle.upon_syntax.specs.declared.compile.parse.tree.OpenBlock.{OpenBlock}
+use Rattle.upon_syntax.specs.declared.compile.parse.tree.EndedBlock.{EndedBlock}
 use Rattle.upon_syntax.specs.declared.compile.parse.tree.TreeBuilder.{TreeBuilder}
 
 -- the last one is the first of the reverse
@@ -35,7 +35,7 @@ pub reverse_more : {A : Type 0} (xs ys : List A) (x : A) → xs ≡ ys ++ x ∷ 
 reverse_more xs ys x e = ap reverse e ∙ reverse-append ys (x ∷ [])
 
 -- a statement before what was read
-statement_first : (s : List ℕ) (ts us : List Stmt) (t : Stmt) (blocks : List OpenBlock) (before mid : List Lexeme) → us ≡ ts ++ t ∷ [] → IsStatement s (statement_of t) before mid → ReadsOut s ts blocks mid → ReadsOut s us blocks before
+statement_first : (s : List ℕ) (ts us : List Stmt) (t : Stmt) (blocks : List EndedBlock) (before mid : List Lexeme) → us ≡ ts ++ t ∷ [] → IsStatement s (statement_of t) before mid → ReadsOut s ts blocks mid → ReadsOut s us blocks before
 statement_first s ts us t [] before mid e is r =
     let F : List Stmt → Type 0 = λ vs. AreStatements s (statements_of vs) before [] in
     subst F (sym (reverse_more us ts t e)) (mid, is, r)
@@ -46,22 +46,22 @@ statement_first s ts us t (block ∷ blocks) before mid e is r =
 -- the same, of a tree that it was pushed to
 pub reads_statement : (s : List ℕ) (old new : TreeBuilder) (t : Stmt) (before mid : List Lexeme) → Pushes t old new → IsStatement s (statement_of t) before mid → Reads s old mid → Reads s new before
 reads_statement s old new t before mid p is r =
-    let F : List OpenBlock → Type 0 = λ blocks. ReadsOut s new.stmts.items (reverse blocks) before in
+    let F : List EndedBlock → Type 0 = λ blocks. ReadsOut s new.stmts.items (reverse blocks) before in
     subst F (sym p.blocks) (statement_first s old.stmts.items new.stmts.items t (reverse old.blocks.items) before mid p.stmts is r)
 
 -- an end before what was read
 pub reads_end : (s : List ℕ) (old new : TreeBuilder) (end : BlockEnd) (before mid : List Lexeme) → Enters end old new → IsBlockEnd s end before mid → Reads s old mid → Reads s new before
 reads_end s old new end before mid p is r =
-    let block : OpenBlock = record { end = end; after = old.stmts } in
-    let F : List OpenBlock → Type 0 = λ blocks. ReadsOut s new.stmts.items blocks before in
+    let block : EndedBlock = record { end = end; after = old.stmts } in
+    let F : List EndedBlock → Type 0 = λ blocks. ReadsOut s new.stmts.items blocks before in
     let G : List Stmt → Type 0 = λ ts. ReadsOut s ts (block ∷ reverse old.blocks.items) before in
     subst F (sym (reverse_more new.blocks.items old.blocks.items block p.blocks)) (subst G (sym p.stmts) (before, mid, refl, is, r))
 
 -- what was read in a block, its end, and what was read around it
 pub reads_inside : (s : List ℕ) (old outer : TreeBuilder) (body : Scope) (end : BlockEnd) (before : List Lexeme) → Leaves old body end outer → Reads s old before → (mid after : List Lexeme) × AreStatements s (scope_of body) before mid × IsBlockEnd s end mid after × Reads s outer after
 reads_inside s old outer body end before p r =
-    let block : OpenBlock = record { end = end; after = outer.stmts } in
-    let F : List OpenBlock → Type 0 = λ blocks. ReadsOut s old.stmts.items blocks before in
+    let block : EndedBlock = record { end = end; after = outer.stmts } in
+    let F : List EndedBlock → Type 0 = λ blocks. ReadsOut s old.stmts.items blocks before in
     let q = subst F (reverse_more old.blocks.items outer.blocks.items block p.blocks) r in
     let G : Statements → Type 0 = λ ts. AreStatements s ts before q.0 in
     (q.0, q.1, subst G (sym p.stmts) q.2, q.3, q.4)
@@ -69,20 +69,20 @@ reads_inside s old outer body end before p r =
 -- the blocks that a tree closes, where one more statement was read
 pub closes_statement : (old new : TreeBuilder) (t : Stmt) (kinds : List BlockKind) → Pushes t old new → Closes kinds old → Closes kinds new
 closes_statement old new t kinds p h =
-    let F : List OpenBlock → Type 0 = λ blocks. EndEach kinds (reverse blocks) in subst F (sym p.blocks) h
+    let F : List EndedBlock → Type 0 = λ blocks. EndEach kinds (reverse blocks) in subst F (sym p.blocks) h
 
 -- where one more end was read
 pub closes_end : (old new : TreeBuilder) (end : BlockEnd) (kind : BlockKind) (kinds : List BlockKind) → Enters end old new → Ends kind end → Closes kinds old → Closes (kind ∷ kinds) new
 closes_end old new end kind kinds p e h =
-    let block : OpenBlock = record { end = end; after = old.stmts } in
-    let F : List OpenBlock → Type 0 = λ blocks. EndEach (kind ∷ kinds) blocks in
+    let block : EndedBlock = record { end = end; after = old.stmts } in
+    let F : List EndedBlock → Type 0 = λ blocks. EndEach (kind ∷ kinds) blocks in
     subst F (sym (reverse_more new.blocks.items old.blocks.items block p.blocks)) (e, h)
 
 -- and around the innermost block
 pub closes_inside : (old outer : TreeBuilder) (body : Scope) (end : BlockEnd) (kind : BlockKind) (kinds : List BlockKind) → Leaves old body end outer → Closes (kind ∷ kinds) old → Ends kind end × Closes kinds outer
 closes_inside old outer body end kind kinds p h =
-    let block : OpenBlock = record { end = end; after = outer.stmts } in
-    let F : List OpenBlock → Type 0 = λ blocks. EndEach (kind ∷ kinds) blocks in
+    let block : EndedBlock = record { end = end; after = outer.stmts } in
+    let F : List EndedBlock → Type 0 = λ blocks. EndEach (kind ∷ kinds) blocks in
     subst F (reverse_more old.blocks.items outer.blocks.items block p.blocks) h
 
 -- a tag that begins a block: with what is in the block, and its end, it is a statement

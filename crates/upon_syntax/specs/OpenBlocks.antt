@@ -71,7 +71,7 @@ closed_by endfor_tag = Some end_for
 closed_by endwith_tag = Some end_with
 closed_by tag = None
 
--- the open blocks with one more, where there is one
+-- the open blocks with one more, if there is one
 abbrev pub with_block_opened : Option Block → Span → List OpenBlock → List OpenBlock
 with_block_opened None span stack = stack
 with_block_opened (Some kind) span stack = new_block kind span ∷ stack
@@ -86,7 +86,7 @@ HasEffect tag (Opens kind) = (opened_by tag ≡ Some (kind_of kind)) × (closed_
 HasEffect tag (Closes closer) = (opened_by tag ≡ None) × (closed_by tag ≡ Some (closer_of closer))
 HasEffect tag Nothing = (opened_by tag ≡ None) × (closed_by tag ≡ None)
 
--- the closing tag that a tag is, where it is one, is taken
+-- the closing tag that a tag is, if it is one, is taken
 abbrev pub IsTaken : BlockTag → List OpenBlock → Type 0
 IsTaken tag stack = (closer : Closer) → closed_by tag ≡ Some closer → takes stack closer ≡ true
 

@@ -44,7 +44,7 @@ pieces_blocks reader = stack_of reader.blocks
 abbrev pub Pieces : Type 0
 Pieces = List Piece
 
--- the piece that was read, where one was
+-- the piece that was read, if one was
 abbrev pub found_pieces : Option CodePiece → List Piece
 found_pieces None = []
 found_pieces (Some piece) = piece_of piece ∷ []
@@ -176,7 +176,7 @@ abbrev pub HasGone : PieceReader → PieceReader → List Piece → Type 0
 HasGone reader after found = GoesFurther (pieces_delimiters reader) (pieces_text reader) (pieces_state reader)
     (pieces_state after) (pieces_blocks after) found
 
--- what it says that it found, where these pieces were found before
+-- what it says that it found, if these pieces were found before
 abbrev pub Finds : PieceReader → PieceReader → List Piece → Next → Type 0
 Finds reader after found (OnePiece piece) = HasGone reader after (found ++ piece_of piece ∷ [])
 Finds reader after found Comment = HasGone reader after found

@@ -11,7 +11,7 @@ use Rattle.upon_syntax.specs.Pieces.{Piece, IsPiece, ArePieces, pieces_of, Block
 use Rattle.upon_syntax.specs.declared.compile.parse.piece.Piece.{Piece as CodePiece}
 use Rattle.upon_syntax.specs.declared.compile.parse.tree.BlockEnd.{BlockEnd}
 use Rattle.upon_syntax.specs.declared.compile.parse.tree.BlockEnd.TheVariants.{If, For, With}
-use Rattle.upon_syntax.specs.declared.compile.parse.tree.OpenBlock.{OpenBlock}
+use Rattle.upon_syntax.specs.declared.compile.parse.tree.EndedBlock.{EndedBlock}
 use Rattle.upon_syntax.specs.declared.compile.parse.tree.TreeBuilder.{TreeBuilder}
 
 -- the statements, of which the last one is first
@@ -25,7 +25,7 @@ IsBlockEnd s (If other) before rest = IsElse s (else_of other) before rest
 IsBlockEnd s (For other) before rest = IsForElse s (else_of other) before rest
 IsBlockEnd s With before rest = IsWordTag s (codes "endwith") before rest
 
--- the other branch of an end, where it has one
+-- the other branch of an end, if it has one
 abbrev pub branch_of : BlockEnd → Option Scope
 branch_of (If other) = other
 branch_of (For other) = other
@@ -38,7 +38,7 @@ with_branch other (For before) = For (Some other)
 with_branch other With = With
 
 -- statements, then the end of each block around them with the statements after it, from the innermost on
-abbrev pub ReadsOut : List ℕ → List Stmt → List OpenBlock → List Lexeme → Type 0
+abbrev pub ReadsOut : List ℕ → List Stmt → List EndedBlock → List Lexeme → Type 0
 ReadsOut s ts [] before = AreStatements s (statements_back ts) before []
 ReadsOut s ts (block ∷ blocks) before = (mid after : List Lexeme) × AreStatements s (statements_back ts) before mid
     × IsBlockEnd s block.end mid after × ReadsOut s block.after.items blocks after
@@ -57,7 +57,7 @@ Ends (with_block, has_else) With = Unit {0}
 Ends block end = ⊥
 
 -- the ends are those of the open blocks, one for each
-abbrev pub EndEach : List BlockKind → List OpenBlock → Type 0
+abbrev pub EndEach : List BlockKind → List EndedBlock → Type 0
 EndEach [] [] = Unit {0}
 EndEach (kind ∷ kinds) (block ∷ blocks) = Ends kind block.end × EndEach kinds blocks
 EndEach kinds blocks = ⊥

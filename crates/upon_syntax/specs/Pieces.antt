@@ -65,7 +65,7 @@ closed_after for_block ((for_block, has_else) ∷ blocks) = Some blocks
 closed_after with_block ((with_block, has_else) ∷ blocks) = Some blocks
 closed_after kind (other ∷ blocks) = None
 
--- the open blocks after a tag, innermost first; none where the tag closes what is not open
+-- the open blocks after a tag, innermost first; none if the tag closes what is not open
 abbrev pub blocks_after_tag : BlockTag → List BlockKind → Option (List BlockKind)
 blocks_after_tag (if_tag negated e) blocks = Some ((if_block, false) ∷ blocks)
 blocks_after_tag (else_if_tag negated e) blocks = else_if_after blocks

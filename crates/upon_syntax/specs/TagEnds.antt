@@ -110,7 +110,7 @@ EndLies s (CutFault e) = Unit {0}
 EndLies s (Literal l refusal) = LiesIn s l.span × LiesIn s refusal.span
 EndLies s Eof = Unit {0}
 
--- the tag's end, where it was read
+-- the tag's end, if it was read
 abbrev pub tag_end : Ended → Option Lexed
 tag_end (End l) = Some l
 tag_end (CutFault e) = None

@@ -49,7 +49,7 @@ pub record TagRead (delimiters : List DelimiterText) (s : List ℕ) (sort : Sort
   pub reads : ReadsUpTo delimiters s sort ls tokens (last_or None tokens) after ended
 
 -- The tokens inside a tag lead to where this word is wanted, and to the tokens left, of which the first may not be
--- there. Where none is left, no end of a tag may be there, or none is.
+-- there. If none is left, no end of a tag may be there, or none is.
 pub record GoesNoFurther (delimiters : List DelimiterText) (s : List ℕ) (want : Want) (left : List Lexed)
     (ended : Ended) : Type 0 where
   pub sort : Sort

@@ -15,7 +15,7 @@ fault_of_digits TooLarge = too_large
 abbrev pub lexeme_of : Lexed → Lexeme
 lexeme_of x = record { token = x.token; hyphen = false; span = x.span }
 
--- the token before, where there is one
+-- the token before, if there is one
 abbrev pub before_of : Option Lexed → Option Lexeme
 before_of None = None
 before_of (Some x) = Some (lexeme_of x)

@@ -25,7 +25,7 @@ use Rattle.upon_tag_parser.specs.declared.compile.parse.want.Want.{Want}
 use Rattle.upon_tag_parser.specs.TagTokens.{lexemes_of}
 use Rattle.upon_tag_parser.specs.Wants.{wanted_of}
 
--- the first of the tokens may not be there; where there are none, no end of a tag may
+-- the first of the tokens may not be there; if there are none, no end of a tag may
 abbrev pub Refuses : List ℕ → List Part → List Lexeme → Type 0
 Refuses s parts [] = (k : Key) → (after parts EndExpr k ≡ None) × (after parts EndBlock k ≡ None)
 Refuses s parts (l ∷ ls) = after_symbol parts (symbol_of s l) ≡ None

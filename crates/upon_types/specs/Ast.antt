@@ -16,7 +16,7 @@ abbrev pub statements_from : List Statement → Statements
 statements_from [] = no_statements
 statements_from (t ∷ ts) = statement_then t (statements_from ts)
 
--- the other branch, where there is one
+-- the other branch, if there is one
 abbrev pub else_from : Option Statements → Else
 else_from None = no_else
 else_from (Some ts) = otherwise ts

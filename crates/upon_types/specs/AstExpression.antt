@@ -24,7 +24,7 @@ abbrev pub items_from : List (Quoted × Base) → Items
 items_from [] = no_items
 items_from (item ∷ items) = item_then (string_of item.0) item.1 (items_from items)
 
--- arguments, where there are some
+-- arguments, if there are some
 abbrev pub arguments_from : Option Arguments → Arguments
 arguments_from None = no_arguments
 arguments_from (Some args) = args
@@ -115,7 +115,7 @@ paren_of =
     fold-Paren Base Expression Arguments Base Expression Base Base Base base_level expression_level arguments_level
     call_level filter_level list_level map_level paren_level
 
--- arguments, where there may be none
+-- arguments, if there may be none
 abbrev pub maybe_arguments_of : Option Args → Arguments
 maybe_arguments_of args = arguments_from (option_map arguments_of args)
 

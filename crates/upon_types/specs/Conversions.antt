@@ -1,4 +1,4 @@
--- What rows of items and of entries become, where each item has a conversion of its own.
+-- What rows of items and of entries become, if each item has a conversion of its own.
 use Rattle.std.specs.Prelude.{◌≡◌, ℕ, List, [], ◌∷◌, Option, Some, None, IsTrue, String, string_bytes, bytes_eq, if◌then◌else◌}
 use Rattle.std.specs.declared.alloc.Global.{Global}
 use Rattle.upon_types.specs.Val.{Val, list_val, map_val, entry_at, rises}

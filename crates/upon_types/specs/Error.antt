@@ -23,7 +23,7 @@ kind_of OutOfMemory = memory
 abbrev pub picture_of : Excerpt → Picture
 picture_of e = record { number = e.number; column = e.column; width = e.width; line = string_bytes e.line }
 
--- what an error's details say, where it has some
+-- what an error's details say, if it has some
 abbrev pub detail : {T : Type 0} → (Details → Option T) → Error → Option T
 detail said e = option_and_then (λ details. said details.value) e.details
 
@@ -37,7 +37,7 @@ fault_of e = record {
   picture = detail (λ details. option_map picture_of details.excerpt) e;
 }
 
--- an error's kind, with the writer's error where it is one of a writer
+-- an error's kind, with the writer's error if it is one of a writer
 abbrev pub error_kind : Error → ErrorKind
 error_kind e = e.kind
 

@@ -33,7 +33,7 @@ mutual
     item_then : Ident → Base → Items → Items
     deriving IsSet as Items-set
 
-  -- the arguments of a call or a filter, with their span, where there are some
+  -- the arguments of a call or a filter, with their span, if there are some
   pub data Arguments : Type 0 where
     no_arguments : Arguments
     arguments : Bases → Span → Arguments

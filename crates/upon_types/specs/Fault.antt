@@ -30,7 +30,7 @@ bare_fault kind reason at = record { kind = kind; name = None; reason = reason; 
 abbrev pub fault_with_picture : List ℕ → Fault → Fault
 fault_with_picture source fault = record fault { picture = option_map (picture source) fault.span }
 
--- a fault without a name, at an offset in a source, where they are given
+-- a fault without a name, at an offset in a source, if they are given
 abbrev pub fault_at : Kind → Option (List ℕ) → Option (List ℕ × Span) → Fault
 fault_at kind reason None = bare_fault kind reason None
 fault_at kind reason (Some at) = fault_with_picture at.0 (bare_fault kind reason (Some at.1))
@@ -61,7 +61,7 @@ kind_text format = codes "format error"
 kind_text io = codes "io error"
 kind_text memory = codes "out of memory"
 
--- the reason after the kind, where there is one
+-- the reason after the kind, if there is one
 abbrev pub reason_text : Option (List ℕ) → List ℕ
 reason_text None = codes ""
 reason_text (Some reason) = codes ": " ++ reason

@@ -3,7 +3,7 @@ use Rattle.std.specs.Prelude.{ℕ, ℤ, List, Option, None, Some, int_le, ◌&&�
 use Rattle.upon_types.specs.Answers.{Misfit, wrong_type, out_of_range}
 use Rattle.upon_types.specs.Val.{Val, none_val, bool_val, int_val, text_val, list_val, map_val}
 
--- nothing where the value fits, else what is wrong with it
+-- nothing if the value fits, else what is wrong with it
 abbrev pub Test : Type 0
 Test = Val → Option Misfit
 

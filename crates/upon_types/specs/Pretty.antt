@@ -40,7 +40,7 @@ pretty_with_picture kind name reason p =
     picture_lines (kind_text kind) (name_or_anonymous name) reason p.number p.column p.line (margin p.number)
     (blanks (p.column - 1) ++ marks p.width)
 
--- where a reason or a picture is missing, the one line
+-- if a reason or a picture is missing, the one line
 abbrev pub pretty_by : Fault → Option (List ℕ) → Option Picture → List ℕ
 pretty_by fault None shown = line fault
 pretty_by fault (Some reason) None = line fault

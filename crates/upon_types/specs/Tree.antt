@@ -21,7 +21,7 @@ mutual
     statement_then : Statement → Statements → Statements
     deriving IsSet as Statements-set
 
-  -- the statements for the other case, where they are given
+  -- the statements for the other case, if they are given
   pub data Else : Type 0 where
     no_else : Else
     otherwise : Statements → Else

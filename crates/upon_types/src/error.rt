@@ -54,8 +54,8 @@ struct Details {
 pub type Result<T> = std::result::Result<T, Error>;
 
 impl Error {
-    /// The error of a kind, with a reason and a span in a source, where they are given. It has no template's name.
-    /// Where there is no memory for what it says beside the kind, the kind is `OutOfMemory`.
+    /// Creates the error of a kind, with a reason and a span in a source, if they are given. It has no template's
+    /// name. If there is no memory for what it says beside the kind, the kind is `OutOfMemory`.
     pub fn from_parts(
         alloc: Global,
         kind: ErrorKind,
@@ -77,8 +77,8 @@ impl Error {
         }
     }
 
-    /// The same as [`Error::from_parts`], with a reason that is moved in. An error that says its kind alone takes no
-    /// memory.
+    /// Does the same as [`Error::from_parts`], with a reason that is moved in. An error that says its kind alone
+    /// takes no memory.
     pub fn from_owned_parts(
         alloc: Global,
         kind: ErrorKind,
@@ -123,7 +123,8 @@ impl Error {
         }
     }
 
-    /// The same fault in the template of this name. Where there is no memory for that, the kind is `OutOfMemory`.
+    /// Returns the same fault in the template of this name. If there is no memory for that, the kind is
+    /// `OutOfMemory`.
     pub fn with_name(self, alloc: Global, name: &str) -> Error
         ensures fault { OrMemory (fault_with_name name.now (fault_of self)) (fault_of result) }
         ensures kind { KeepsKind (error_kind self) result }
@@ -161,7 +162,7 @@ impl Error {
         })
     }
 
-    /// What kind of fault it is.
+    /// Returns what kind of fault it is.
     pub fn kind(&self) -> &ErrorKind
         ensures kind { result.now ≡ error_kind self.now }
         ensures fault { kind_of result.now ≡ (fault_of self.now).kind }
@@ -169,29 +170,29 @@ impl Error {
         &self.kind
     }
 
-    /// The name of the template in which it lies, where it bears one.
+    /// Returns the name of the template in which it lies, if it bears one.
     pub fn template_name(&self) -> Option<&str>
         ensures { option_map (λ name. name.now) result ≡ (fault_of self.now).name }
     {
         as_text(&self.details.as_ref()?.name)
     }
 
-    /// What is wrong, beside the kind.
+    /// Returns what is wrong, beside the kind.
     pub fn reason(&self) -> Option<&str>
         ensures { option_map (λ reason. reason.now) result ≡ (fault_of self.now).reason }
     {
         as_text(&self.details.as_ref()?.reason)
     }
 
-    /// The span in the template's source where it lies, in bytes.
+    /// Returns the span in the template's source where it lies, in bytes.
     pub fn place(&self) -> Option<Span>
         ensures { result ≡ (fault_of self.now).span }
     {
         self.details.as_ref()?.span
     }
 
-    /// The fault in several lines, with a picture of its span: the line of the source in which it begins, and marks
-    /// under it. Without a reason or a span it is the one line. It fails where there is no memory for the text.
+    /// Returns the fault in several lines, with a picture of its span: the line of the source in which it begins, and
+    /// marks under it. Without a reason or a span it is the one line. It fails if there is no memory for the text.
     pub fn pretty(&self, alloc: Global) -> std::result::Result<String, AllocError>
         ensures { IfOk result (λ text. string_bytes text ≡ pretty (fault_of self.now)) }
     {
@@ -209,7 +210,7 @@ impl Error {
         self.details.as_ref()?.excerpt.as_ref()
     }
 
-    /// The writer's error, where that is the fault.
+    /// Returns the writer's error, if that is the fault.
     pub fn io_error(&self) -> Option<&io::Error>
         ensures some { IsSome result ↔ ((fault_of self.now).kind ≡ io) }
         ensures error { option_map (λ e. e.now) result ≡ io_error_in (error_kind self.now) }

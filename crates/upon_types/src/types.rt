@@ -16,7 +16,7 @@ pub struct Span {
 }
 
 impl Span {
-    /// The least span that covers both.
+    /// Returns the least span that covers both.
     pub fn combine(self, other: Span) -> Span
         ensures start { result.m ≡ min self.m other.m }
         ensures end { result.n ≡ max self.n other.n }
@@ -39,7 +39,7 @@ impl From<Range<usize>> for Span {
     }
 }
 
-/// The bytes of a text at an offset, which has to lie in the text, on character boundaries.
+/// Returns the bytes of a text at an offset, which has to lie in the text, on character boundaries.
 pub fn slice(source: &str, span: Span) -> &str
     requires { LiesIn source.now span }
     ensures { result.now ≡ slice source.now span }

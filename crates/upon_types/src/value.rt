@@ -35,7 +35,7 @@ pub enum Value {
 }
 
 impl Value {
-    /// What a message calls this kind of value.
+    /// Returns what a message calls this kind of value.
     pub fn human(&self) -> &'static str
         ensures { result.now ≡ kind_word (view self.now) }
     {

@@ -29,7 +29,7 @@ EndReport limit TooDeep (Err e) = OrMemory (depth_reached limit) (error_of e)
 abbrev pub IsIo : IoError → Error → Type 0
 IsIo error e = (error_of e ≡ fault_of_kind io) × (error_kind e ≡ Io error)
 
--- where the output left something out: its error where one waits, or else that memory is out
+-- if the output left something out: its error if one waits, or else that memory is out
 abbrev pub OutputReport : Mark → Error → Type 0
 OutputReport Clear e = error_of e ≡ out_of_memory
 OutputReport (Waits error) e = IsIo error e
@@ -46,7 +46,7 @@ IsReport limit (Ok end) mark r = EndReport limit end r
 IsReport limit (Err failure) mark (Ok u) = ⊥
 IsReport limit (Err failure) mark (Err e) = FailureReport failure mark e
 
--- the output's mark while a failure is reported: where the output left something out, its error is taken
+-- the output's mark while a failure is reported: if the output left something out, its error is taken
 abbrev pub FailureMarks : Failure → Mark → Mark → Type 0
 FailureMarks (ErrorFailure e) old new = new ≡ old
 FailureMarks OutputFailure old new = new ≡ set_aside old
@@ -66,7 +66,7 @@ IsTaken (Taken error) e = IsIo error e
 abbrev pub IsAnyIo : Error → Type 0
 IsAnyIo e = error_of e ≡ fault_of_kind io
 
--- The output received the whole text, and the fault of the outcome's end is reported where it has one. Or it received a
+-- The output received the whole text, and the fault of the outcome's end is reported if it has one. Or it received a
 -- beginning of the text, and memory is out, or its own error is reported, of which this holds.
 abbrev pub Writes : {Q : Type 0} → ℕ → (Error → Type 0) → Result (Unit {0}) Error → Option (List ℕ)
     → Option (List ℕ) → Outcome Q → Type 0
@@ -75,7 +75,7 @@ Writes limit IsOwn (Err e) old new o =
     ((fault_of_end limit o.end ≡ Some (error_of e)) × Appends old new o.text)
     ⊎ (((error_of e ≡ out_of_memory) ⊎ IsOwn e) × Part old new o.text)
 
--- the same, and where the whole text was received, the sources are in the outcome's next states
+-- the same, and if the whole text was received, the sources are in the outcome's next states
 abbrev pub WritesAndLeaves : {Q : Type 0} → ℕ → (Error → Type 0) → Result (Unit {0}) Error → Option (List ℕ)
     → Option (List ℕ) → Outcome Q → Q → Type 0
 WritesAndLeaves limit IsOwn (Ok u) old new o next = (o.end ≡ good) × Appends old new o.text × (o.next ≡ next)
@@ -83,7 +83,7 @@ WritesAndLeaves limit IsOwn (Err e) old new o next =
     ((fault_of_end limit o.end ≡ Some (error_of e)) × Appends old new o.text × (o.next ≡ next))
     ⊎ (((error_of e ≡ out_of_memory) ⊎ IsOwn e) × Part old new o.text)
 
--- by the kind of the fault: where memory is out, an error of before may be put aside; and but for a fault of a write, the
+-- by the kind of the fault: if memory is out, an error of before may be put aside; and but for a fault of a write, the
 -- mark stays
 abbrev pub FaultMarks : Kind → Mark → Mark → Type 0
 FaultMarks io old new = Unit {0}

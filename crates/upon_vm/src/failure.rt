@@ -23,8 +23,8 @@ pub enum Failure {
     Output,
 }
 
-/// The failure of a template that ran, where it stops so; with no reason, memory is out. Faults have its name, and
-/// pictures of its text.
+/// Returns the failure of a template that ran, if it stops so; with no reason, memory is out. Faults have its name,
+/// and pictures of its text.
 pub(crate) fn stopped(alloc: Global, running: Running, stop: Option<Stop>) -> Failure
     requires { StopLies running.program.source.now (stop_or_memory stop) }
     ensures { FailsBy (active_of running.entry).running (stop_or_memory stop) result }

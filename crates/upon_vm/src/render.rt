@@ -42,15 +42,21 @@ pub fn render<'r, V: ValueSource, T: ProgramSource<'r>, C: Callables, W: Output>
     requires frames { frames_of stack ≡ [] }
     ensures same { W.holds out.new ≡ W.holds out.old }
     ensures mark { RunMarks result.0 (W.mark out.old) (W.mark out.new) }
-    ensures ran { (t : Template) (ask : Source V.State) (q : V.State) → IsProgramOf running.entry.program t → SourceHas V.ask (root_of stack.entry) ask → Ran
+    ensures ran { (t : Template) (ask : Source V.State) (q : V.State) → IsProgramOf running.entry.program t
+        → SourceHas V.ask (root_of stack.entry) ask → Ran
         result.0
         (W.given out.old)
         (W.given out.new)
-        (alone_within (calls_of (C.callables callables.now) (C.default_formatter callables.now) ask) (T.resolve templates) running.entry.left t (option_map (λ name. name.now) running.entry.name) (pure_root (root_of stack.entry)) (states (source_state V.value_state q (root_of stack.entry)) (T.template_state templates)))
+        (alone_within (calls_of (C.callables callables.now) (C.default_formatter callables.now) ask)
+        (T.resolve templates) running.entry.left t (option_map (λ name. name.now) running.entry.name)
+        (pure_root (root_of stack.entry)) (states (source_state V.value_state q (root_of stack.entry))
+        (T.template_state templates)))
         (states (source_state V.value_state q (root_of result.1)) (T.template_state result.2)) }
     ensures root { pure_root (root_of result.1) ≡ pure_root (root_of stack.entry) }
-    ensures asks { (ask : Source V.State) → SourceHas V.ask (root_of stack.entry) ask → SourceHas V.ask (root_of result.1) ask }
-    ensures values_held { (names : List ℕ) → SourceHas V.holds (root_of stack.entry) names → SourceHas V.holds (root_of result.1) names }
+    ensures asks { (ask : Source V.State) → SourceHas V.ask (root_of stack.entry) ask
+        → SourceHas V.ask (root_of result.1) ask }
+    ensures values_held { (names : List ℕ) → SourceHas V.holds (root_of stack.entry) names
+        → SourceHas V.holds (root_of result.1) names }
     ensures resolve { T.resolve result.2 ≡ T.resolve templates }
     ensures templates_held { T.holds result.2 ≡ T.holds templates }
 {

@@ -12,10 +12,10 @@ use std::alloc::{AllocError, Global};
 use upon_fmt::output::Output;
 use upon_types::error::{self, Error, ErrorKind};
 
-/// The result of a rendering, right after it: nothing, or the fault that is reported.
+/// Returns the result of a rendering, right after it: nothing, or the fault that is reported.
 ///
-/// Where includes were too deep, the reason has `limit`, the depth as it was set. Where the output did not receive a text
-/// whole, its error is taken: the kind is `Io`, with this error, or `OutOfMemory` where it has none.
+/// If includes were too deep, the reason has `limit`, the depth as it was set. If the output did not receive a text
+/// whole, its error is taken: the kind is `Io`, with this error, or `OutOfMemory` if it has none.
 pub fn reported<W: Output>(
     alloc: Global,
     ended: Result<Ending, Failure>,

@@ -44,11 +44,15 @@ pub(crate) fn run<'r, V: ValueSource, T: ProgramSource<'r>, C: Callables, W: Out
     machine: &mut Machine<'r, V, T>,
     out: &mut W,
 ) -> Result<Ending, Failure>
-    requires starts { (known : Known V.State T.State) × Starts V.ask V.value_state T.template_state (T.resolve machine.old.templates) (C.callables callables.now) (C.default_formatter callables.now) known machine.old }
+    requires starts { (known : Known V.State T.State)
+        × Starts V.ask V.value_state T.template_state (T.resolve machine.old.templates) (C.callables callables.now)
+        (C.default_formatter callables.now) known machine.old }
     ensures same { W.holds out.new ≡ W.holds out.old }
     ensures mark { RunMarks result (W.mark out.old) (W.mark out.new) }
     ensures kept { Kept V.ask V.holds T.resolve T.holds machine.old machine.new }
-    ensures ran { (known : Known V.State T.State) → Starts V.ask V.value_state T.template_state (T.resolve machine.old.templates) (C.callables callables.now) (C.default_formatter callables.now) known machine.old → Ran
+    ensures ran { (known : Known V.State T.State)
+        → Starts V.ask V.value_state T.template_state (T.resolve machine.old.templates) (C.callables callables.now)
+        (C.default_formatter callables.now) known machine.old → Ran
         result
         (W.given out.old)
         (W.given out.new)

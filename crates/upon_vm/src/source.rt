@@ -32,11 +32,12 @@ pub trait ProgramSource<'r>: Drop {
     /// The spans in the trees of all templates that answer lie in their texts.
     ghost templates_lie: { (s : Self) → TemplatesLie (resolve s) };
 
-    /// The template of this name.
+    /// Returns the template of this name.
     fn program(&mut self, name: &str) -> Result<Program<'r>, SourceError>
         ensures same { holds self.new ≡ holds self.old }
         ensures stays { resolve self.new ≡ resolve self.old }
-        ensures resolved { Resolved result (template_state self.new) (resolve self.old (template_state self.old) name.now) };
+        ensures resolved { Resolved result (template_state self.new)
+            (resolve self.old (template_state self.old) name.now) };
 }
 
 impl<'r, S: ProgramSource<'r>> ProgramSource<'r> for &mut S {

@@ -30,25 +30,28 @@ pub trait Callables {
     // What is written where no formatter is named.
     ghost default_formatter: { Self → PureFormatter };
 
-    /// Whether a name is a formatter's or a function's, or `None`.
+    /// Returns whether a name is a formatter's or a function's, or `None`.
     fn get(&self, name: &str) -> Option<EngineCallable>
         ensures { result ≡ option_map sort_of (callables self.now name.now) };
 
-    /// What the function of this name answers.
+    /// Calls the function of this name, and returns what it answers.
     fn call(&self, alloc: Global, name: &str, args: &[ValueCow]) -> Result<Value, CallError>
-        ensures says { (f : PureFunction) → callables self.now name.now ≡ Some (function f) → Says result (f (arguments_view args.now)) }
-        ensures blames_given { (f : PureFunction) → callables self.now name.now ≡ Some (function f) → BlamesGiven (arguments_view args.now) (f (arguments_view args.now)) };
+        ensures says { (f : PureFunction) → callables self.now name.now ≡ Some (function f)
+            → Says result (f (arguments_view args.now)) }
+        ensures blames_given { (f : PureFunction) → callables self.now name.now ≡ Some (function f)
+            → BlamesGiven (arguments_view args.now) (f (arguments_view args.now)) };
 
     /// Appends what the formatter of this name writes for a value.
     fn format(&self, name: &str, f: &mut Formatter, value: &Value) -> fmt::Result
-        ensures { (g : PureFormatter) → callables self.now name.now ≡ Some (formatter g) → Formats f.old f.new result (g (view value.now)) };
+        ensures { (g : PureFormatter) → callables self.now name.now ≡ Some (formatter g)
+            → Formats f.old f.new result (g (view value.now)) };
 
-    /// Whether the default formatter is the plain one, which writes a text as it is and an integer in decimal. `false`
-    /// says nothing.
+    /// Returns whether the default formatter is the plain one, which writes a text as it is and an integer in decimal.
+    /// `false` says nothing.
     fn is_plain(&self) -> bool
         ensures { IsTrue result → default_formatter self.now ≡ default_format };
 
-    /// Appends what is written for a value where no formatter is named.
+    /// Appends what is written for a value if no formatter is named.
     fn default_format(&self, f: &mut Formatter, value: &Value) -> fmt::Result
         ensures { Formats f.old f.new result (default_formatter self.now (view value.now)) };
 }

@@ -19,8 +19,8 @@ use upon_types::types::Span;
 use upon_types::types::ast::Ident;
 use upon_types::value::{Value, ValueCow};
 
-/// The value that the function of a name gives for operands, or its fault: of an argument at the argument, else at the
-/// whole.
+/// Calls the function of a name on operands, and returns its value or its fault: of an argument at the argument, else
+/// at the whole.
 pub fn call<C: Callables>(
     alloc: Global,
     callables: &C,
@@ -32,7 +32,8 @@ pub fn call<C: Callables>(
     requires { length values.now ≡ length spans.now }
     ensures { Finds
         result
-        (call_value (ident_of name.now) whole (row values.now spans.now) (C.callables callables.now (string_bytes name.now.name))) }
+        (call_value (ident_of name.now) whole (row values.now spans.now)
+        (C.callables callables.now (string_bytes name.now.name))) }
 {
     match callables.get(name.name.as_str()) {
         None => Err(fault::wrong(alloc, "unknown function", name.span)),
@@ -47,7 +48,7 @@ pub fn call<C: Callables>(
     }
 }
 
-/// The same of a name that is a function's.
+/// Does the same for a name that is a function's.
 pub(crate) fn call_function<C: Callables>(
     alloc: Global,
     callables: &C,
@@ -75,7 +76,8 @@ fn report(
     whole: Span,
 ) -> Result<Value, Halt>
     requires { length values.now ≡ length spans.now }
-    ensures { (a : Answer) → Says answer a → Finds result (answer_value (ident_of name.now) whole (row values.now spans.now) a) }
+    ensures { (a : Answer) → Says answer a → Finds result
+        (answer_value (ident_of name.now) whole (row values.now spans.now) a) }
 {
     match answer {
         Ok(value) => Ok(value),
@@ -102,7 +104,8 @@ fn misfit(
     whole: Span,
 ) -> Halt
     requires { length values.now ≡ length spans.now }
-    ensures { IsHalt (misfit_at (ident_of name.now) (misfit_of error) (slice_get (row values.now spans.now) index) whole) result }
+    ensures { IsHalt (misfit_at (ident_of name.now) (misfit_of error) (slice_get (row values.now spans.now) index)
+        whole) result }
 {
     if index < values.len() {
         return argument_misfits(

@@ -37,14 +37,14 @@ pub enum Halt {
     Output,
 }
 
-/// A fault of rendering with this reason, at this span.
+/// Creates a fault of rendering with this reason, at this span.
 pub fn wrong(alloc: Global, reason: &str, span: Span) -> Halt
     ensures { IsHalt (wrong reason.now span) result }
 {
     wrong_owned(String::from_str(alloc, reason), span)
 }
 
-/// The same of a reason that was made for it, if it could be.
+/// Does the same with a reason that was made for it, if it could be.
 pub fn wrong_owned(reason: Result<String, AllocError>, span: Span) -> Halt
     ensures { IsWrong reason span result }
 {
@@ -58,7 +58,7 @@ pub fn wrong_owned(reason: Result<String, AllocError>, span: Span) -> Halt
     }
 }
 
-/// A function is given another number of arguments than it expects.
+/// Returns the halt of a function that is given another number of arguments than it expects.
 pub fn function_expects(alloc: Global, expected: usize, given: usize, span: Span) -> Halt
     ensures { IsHalt (function_expects expected given span) result }
 {
@@ -68,7 +68,7 @@ pub fn function_expects(alloc: Global, expected: usize, given: usize, span: Span
     )
 }
 
-/// A formatter is given another number of values than one.
+/// Returns the halt of a formatter that is given another number of values than one.
 pub fn formatter_expects(alloc: Global, given: usize, span: Span) -> Halt
     ensures { IsHalt (formatter_expects given span) result }
 {
@@ -78,7 +78,7 @@ pub fn formatter_expects(alloc: Global, given: usize, span: Span) -> Halt
     )
 }
 
-/// A function refuses, with this text.
+/// Returns the halt of a function that refuses, with this text.
 pub fn function_declined(text: String, span: Span) -> Halt
     ensures { IsHalt (function_declined (string_bytes text) span) result }
 {

@@ -12,7 +12,8 @@ use upon_types::types::Span;
 use upon_types::types::ast::String as Quoted;
 use upon_types::value::{Value, ValueCow};
 
-/// The operand on top goes to the end of the list below it; `None` where there is no such list. A lent operand is copied.
+/// Moves the operand on top to the end of the list below it; returns `None` if there is no such list. A lent operand is
+/// copied.
 pub fn push_item(operands: &mut Operands) -> Result<Option<()>, AllocError>
     ensures { IfOk result (λ pushed. MatchOption
         pushed
@@ -38,7 +39,8 @@ fn push_into<'a>(
     ensures { IfOk result (λ pushed. MatchOption
         pushed
         (list_with (cow_view list.entry) (cow_view item.entry) span (operands_of operands.old) ≡ None)
-        (λ _. list_with (cow_view list.entry) (cow_view item.entry) span (operands_of operands.old) ≡ Some (operands_of operands.new))) }
+        (λ _. list_with (cow_view list.entry) (cow_view item.entry) span (operands_of operands.old)
+        ≡ Some (operands_of operands.new))) }
 {
     let list = into_value(list)?;
     let item = into_value(item)?;
@@ -53,8 +55,8 @@ fn push_into<'a>(
     }
 }
 
-/// The operand on top goes at this key into the map below it; `None` where there is no such map. A lent operand is
-/// copied.
+/// Moves the operand on top at this key into the map below it; returns `None` if there is no such map. A lent operand
+/// is copied.
 pub fn insert_entry(operands: &mut Operands, key: &Quoted) -> Result<Option<()>, AllocError>
     ensures { IfOk result (λ inserted. MatchOption
         inserted
@@ -80,8 +82,10 @@ fn insert_into<'a>(
 ) -> Result<Option<()>, AllocError>
     ensures { IfOk result (λ inserted. MatchOption
         inserted
-        (map_with (cow_view map.entry) (string_of key.now) (cow_view value.entry) span (operands_of operands.old) ≡ None)
-        (λ _. map_with (cow_view map.entry) (string_of key.now) (cow_view value.entry) span (operands_of operands.old) ≡ Some (operands_of operands.new))) }
+        (map_with (cow_view map.entry) (string_of key.now) (cow_view value.entry) span (operands_of operands.old)
+        ≡ None)
+        (λ _. map_with (cow_view map.entry) (string_of key.now) (cow_view value.entry) span (operands_of operands.old)
+        ≡ Some (operands_of operands.new))) }
 {
     let map = into_value(map)?;
     let value = into_value(value)?;

@@ -31,7 +31,7 @@ impl<'a> Operands<'a> {
         }
     }
 
-    /// Whether there is none.
+    /// Returns whether there is none.
     pub fn is_empty(&self) -> bool
         ensures { result ≡ (length (operands_of self.now) == 0) }
     {
@@ -53,7 +53,7 @@ impl<'a> Operands<'a> {
         }
     }
 
-    /// The operand on top, which is taken.
+    /// Removes the operand on top, and returns it.
     #[inline(always)]
     pub fn pop(&mut self) -> Option<(ValueCow<'a>, Span)>
         ensures { MatchOption
@@ -70,12 +70,13 @@ impl<'a> Operands<'a> {
         }
     }
 
-    /// So many from the top, in the order in which they were left; `None` where there are fewer.
+    /// So many from the top, in the order in which they were left; `None` if there are fewer.
     pub fn top(&self, count: usize) -> Option<(&[ValueCow<'a>], &[Span])>
         ensures { MatchOption
             result
             (taken count (operands_of self.now) ≡ None)
-            (λ both. (rest : List Operand) × (taken count (operands_of self.now) ≡ Some (row both.0.now both.1.now, rest)) × (length both.0.now ≡ length both.1.now)) }
+            (λ both. (rest : List Operand) × (taken count (operands_of self.now)
+            ≡ Some (row both.0.now both.1.now, rest)) × (length both.0.now ≡ length both.1.now)) }
     {
         let len = self.values.len();
         if count > len {
@@ -87,7 +88,8 @@ impl<'a> Operands<'a> {
 
     /// Takes so many from the top.
     pub fn drop_top(&mut self, count: usize)
-        ensures { (os rest : List Operand) → taken count (operands_of self.old) ≡ Some (os, rest) → operands_of self.new ≡ rest }
+        ensures { (os rest : List Operand) → taken count (operands_of self.old) ≡ Some (os, rest)
+            → operands_of self.new ≡ rest }
     {
         let len = self.values.len();
         if count <= len {

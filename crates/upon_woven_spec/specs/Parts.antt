@@ -88,7 +88,7 @@ pub data CanFormat {V T : Type 0} (calls : Calls V) (resolve : Resolver T) (t : 
   by_name : (u : Template) (name : List ℕ) (f : Formatter) → Reached resolve t u → NamesFormatter name u.tree
       → calls.callables name ≡ Some (formatter f) → CanFormat calls resolve t f
 
--- what such a formatter wrote for a value, also where it refused
+-- what such a formatter wrote for a value, also if it refused
 pub record IsWritten {V T : Type 0} (calls : Calls V) (resolve : Resolver T) (t : Template) (text : List ℕ) : Type 0 where
   pub format : Formatter
   pub can : CanFormat calls resolve t format

@@ -8,8 +8,8 @@ ghost use Rattle.upon_woven_spec.specs.Parts.{IsRawPart, IsWritten, WritesOnly};
 ghost use Rattle.upon_woven_spec.specs.Marks.{has, FromRawParts};
 ghost use Rattle.upon_woven_spec.specs.Woven.{WovenOf};
 
-/// The text of a rendering, up to its end, is pieces joined: each is a raw part of the template or of one that it
-/// reaches, or what the default formatter, or one that they name, wrote for a value.
+/// States that the text of a rendering, up to its end, is pieces joined: each is a raw part of the template or of one
+/// that it reaches, or what the default formatter, or one that they name, wrote for a value.
 pub fn woven<V, T>()
     ensures within { (calls : Calls V) (resolve : Resolver T) (left : ℕ) (t : Template) (name : Option (List ℕ))
         (root : Root) (s : States V T)
@@ -22,7 +22,7 @@ pub fn woven<V, T>()
         (alone rendering t name root s).text }
 {}
 
-/// Where each formatter that can be called writes only texts with a property, every piece that isn't a raw part has it.
+/// If each formatter that can be called writes only texts with a property, every piece that isn't a raw part has it.
 pub fn written_only<V, T>()
     ensures { (P : List ℕ → Bool) (rendering : Rendering V T) (t : Template) (name : Option (List ℕ)) (root : Root)
         (s : States V T) → WritesOnly rendering.calls rendering.resolve t (λ text. IsTrue (P text))

@@ -21,7 +21,7 @@ impl Compiler {
     ghost use Rattle.upon_compiler.specs.Compiler.{code_of};
     ghost use Rattle.upon_compiler.specs.Application.{Lacks, LacksBase};
 
-    /// The instructions that leave the value of an expression.
+    /// Appends the instructions that leave the value of an expression.
     #[cycle(expression)]
     pub fn compile_expr(&mut self, expr: Expr) -> Result<(), AllocError>
         ensures { OnOk result (code_of self.new ≡ code_of self.old ++ expression_code (expression_of expr)) }
@@ -35,7 +35,7 @@ impl Compiler {
         }
     }
 
-    /// The instructions that leave the value of an expression without a filter.
+    /// Appends the instructions that leave the value of an expression without a filter.
     #[cycle(expression)]
     fn compile_base_expr(&mut self, base: BaseExpr) -> Result<(), AllocError>
         ensures { OnOk result (code_of self.new ≡ code_of self.old ++ base_code (base_of base)) }
@@ -53,7 +53,7 @@ impl Compiler {
         }
     }
 
-    /// The instructions of a filter, but for the last, which applies it.
+    /// Appends the instructions of a filter, but for the last, which applies it.
     #[cycle(expression)]
     fn compile_filter(&mut self, filter: Filter) -> Result<Application, AllocError>
         ensures { IfOk result (λ applied. Lacks applied (filter_of filter) (code_of self.old) (code_of self.new)) }
@@ -69,7 +69,7 @@ impl Compiler {
         Ok(Application { name, count, span })
     }
 
-    /// The instructions of a call, but for the last, which applies the function.
+    /// Appends the instructions of a call, but for the last, which applies the function.
     #[cycle(expression)]
     fn compile_call(&mut self, call: Call) -> Result<Application, AllocError>
         ensures { IfOk result (λ applied. LacksBase applied (call_of call) (code_of self.old) (code_of self.new)) }
@@ -79,7 +79,7 @@ impl Compiler {
         Ok(Application { name, count, span })
     }
 
-    /// The instructions that leave the values of arguments, and how many these are.
+    /// Appends the instructions that leave the values of arguments, and returns how many these are.
     #[cycle(expression)]
     fn compile_args(&mut self, args: Option<Args>) -> Result<usize, AllocError>
         ensures count { IfOk result (λ n. (n ≡ count (maybe_arguments_of args)) × (n + 1 < 2 ^ 64)) }
@@ -95,7 +95,7 @@ impl Compiler {
         Ok(count)
     }
 
-    /// The instructions that leave a list.
+    /// Appends the instructions that leave a list.
     #[cycle(expression)]
     fn compile_list(&mut self, list: List) -> Result<(), AllocError>
         ensures { OnOk result (code_of self.new ≡ code_of self.old ++ base_code (list_of list)) }
@@ -108,7 +108,7 @@ impl Compiler {
         Ok(())
     }
 
-    /// The instructions that leave a map.
+    /// Appends the instructions that leave a map.
     #[cycle(expression)]
     fn compile_map(&mut self, map: Map) -> Result<(), AllocError>
         ensures { OnOk result (code_of self.new ≡ code_of self.old ++ base_code (map_of map)) }
@@ -121,7 +121,7 @@ impl Compiler {
         Ok(())
     }
 
-    /// The instructions that show an expression: its outermost call or filter is shown where it is applied.
+    /// Appends the instructions that show an expression: its outermost call or filter is shown where it is applied.
     #[cycle(emission)]
     pub fn compile_emission(&mut self, expr: Expr) -> Result<(), AllocError>
         ensures { OnOk result (code_of self.new ≡ code_of self.old ++ emission_code (expression_of expr)) }
@@ -135,7 +135,7 @@ impl Compiler {
         }
     }
 
-    /// The instructions that show an expression without a filter.
+    /// Appends the instructions that show an expression without a filter.
     #[cycle(emission)]
     fn compile_base_emission(&mut self, base: BaseExpr) -> Result<(), AllocError>
         ensures { OnOk result (code_of self.new ≡ code_of self.old ++ base_emission_code (base_of base)) }

@@ -28,7 +28,7 @@ impl Compiler {
     ghost use Rattle.upon_types.specs.Tree.{include};
     ghost use Rattle.upon_compiler.specs.Compiler.{code_of};
 
-    /// The instructions of statements.
+    /// Appends the instructions of statements.
     #[cycle(statement)]
     pub fn compile_scope(&mut self, scope: Scope) -> Result<(), AllocError>
         ensures { OnOk result (code_of self.new
@@ -40,7 +40,7 @@ impl Compiler {
         Ok(())
     }
 
-    /// The instructions of a statement.
+    /// Appends the instructions of a statement.
     #[cycle(statement)]
     fn compile_stmt(&mut self, stmt: Stmt) -> Result<(), AllocError>
         ensures { OnOk result (code_of self.new
@@ -56,7 +56,7 @@ impl Compiler {
         }
     }
 
-    /// The instructions of an include.
+    /// Appends the instructions of an include.
     fn compile_include(&mut self, tag: Include) -> Result<(), AllocError>
         ensures { OnOk result (code_of self.new
             ≡ code_of self.old ++ statement_code (length (code_of self.old))
@@ -72,7 +72,7 @@ impl Compiler {
         }
     }
 
-    /// The instructions of an `if`.
+    /// Appends the instructions of an `if`.
     #[cycle(statement)]
     fn compile_if_else(&mut self, if_else: IfElse) -> Result<(), AllocError>
         ensures { OnOk result (code_of self.new
@@ -103,7 +103,7 @@ impl Compiler {
         Ok(())
     }
 
-    /// The instructions of a loop.
+    /// Appends the instructions of a loop.
     #[cycle(statement)]
     fn compile_for_loop(&mut self, for_loop: ForLoop) -> Result<(), AllocError>
         ensures { OnOk result (code_of self.new
@@ -135,8 +135,8 @@ impl Compiler {
         Ok(())
     }
 
-    /// The turns of a loop: its body, and the way back to the next turn, whose number is answered. Where the loop ends
-    /// is written into that later.
+    /// Appends the turns of a loop: its body, and the way back to the next turn. Returns the number of that. If the
+    /// loop ends is written into that later.
     #[cycle(statement)]
     fn compile_turns(&mut self, body: Scope) -> Result<usize, AllocError>
         ensures { IfOk result (λ next. (next ≡ length (code_of self.old))
@@ -149,7 +149,7 @@ impl Compiler {
         Ok(next)
     }
 
-    /// The instructions of a `with`.
+    /// Appends the instructions of a `with`.
     #[cycle(statement)]
     fn compile_with(&mut self, with: With) -> Result<(), AllocError>
         ensures { OnOk result (code_of self.new

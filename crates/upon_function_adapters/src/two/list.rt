@@ -33,7 +33,7 @@ pub struct Fn2LO<C, A, R> {
 }
 
 impl<C, A, R> Fn2LO<C, A, R> {
-    /// The function that calls this callable.
+    /// Creates the function that calls this callable.
     pub fn new(callable: C) -> Self
         ensures { result.callable ≡ callable }
     {
@@ -78,7 +78,7 @@ pub struct Fn2LS<C, R> {
 }
 
 impl<C, R> Fn2LS<C, R> {
-    /// The function that calls this callable.
+    /// Creates the function that calls this callable.
     pub fn new(callable: C) -> Self
         ensures { result.callable ≡ callable }
     {
@@ -121,7 +121,7 @@ pub struct Fn2LV<C, R> {
 }
 
 impl<C, R> Fn2LV<C, R> {
-    /// The function that calls this callable.
+    /// Creates the function that calls this callable.
     pub fn new(callable: C) -> Self
         ensures { result.callable ≡ callable }
     {

@@ -34,7 +34,7 @@ pub struct Fn2MO<C, A, R> {
 }
 
 impl<C, A, R> Fn2MO<C, A, R> {
-    /// The function that calls this callable.
+    /// Creates the function that calls this callable.
     pub fn new(callable: C) -> Self
         ensures { result.callable ≡ callable }
     {
@@ -79,7 +79,7 @@ pub struct Fn2MS<C, R> {
 }
 
 impl<C, R> Fn2MS<C, R> {
-    /// The function that calls this callable.
+    /// Creates the function that calls this callable.
     pub fn new(callable: C) -> Self
         ensures { result.callable ≡ callable }
     {
@@ -123,7 +123,7 @@ pub struct Fn2MV<C, R> {
 }
 
 impl<C, R> Fn2MV<C, R> {
-    /// The function that calls this callable.
+    /// Creates the function that calls this callable.
     pub fn new(callable: C) -> Self
         ensures { result.callable ≡ callable }
     {

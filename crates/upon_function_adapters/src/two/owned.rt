@@ -32,7 +32,7 @@ pub struct Fn2OS<C, A, R> {
 }
 
 impl<C, A, R> Fn2OS<C, A, R> {
-    /// The function that calls this callable.
+    /// Creates the function that calls this callable.
     pub fn new(callable: C) -> Self
         ensures { result.callable ≡ callable }
     {
@@ -76,7 +76,7 @@ pub struct Fn2OV<C, A, R> {
 }
 
 impl<C, A, R> Fn2OV<C, A, R> {
-    /// The function that calls this callable.
+    /// Creates the function that calls this callable.
     pub fn new(callable: C) -> Self
         ensures { result.callable ≡ callable }
     {

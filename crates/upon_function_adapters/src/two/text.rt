@@ -32,7 +32,7 @@ pub struct Fn2SO<C, A, R> {
 }
 
 impl<C, A, R> Fn2SO<C, A, R> {
-    /// The function that calls this callable.
+    /// Creates the function that calls this callable.
     pub fn new(callable: C) -> Self
         ensures { result.callable ≡ callable }
     {
@@ -76,7 +76,7 @@ pub struct Fn2SS<C, R> {
 }
 
 impl<C, R> Fn2SS<C, R> {
-    /// The function that calls this callable.
+    /// Creates the function that calls this callable.
     pub fn new(callable: C) -> Self
         ensures { result.callable ≡ callable }
     {
@@ -119,7 +119,7 @@ pub struct Fn2SV<C, R> {
 }
 
 impl<C, R> Fn2SV<C, R> {
-    /// The function that calls this callable.
+    /// Creates the function that calls this callable.
     pub fn new(callable: C) -> Self
         ensures { result.callable ≡ callable }
     {

@@ -32,7 +32,7 @@ pub struct Fn2VO<C, A, R> {
 }
 
 impl<C, A, R> Fn2VO<C, A, R> {
-    /// The function that calls this callable.
+    /// Creates the function that calls this callable.
     pub fn new(callable: C) -> Self
         ensures { result.callable ≡ callable }
     {
@@ -75,7 +75,7 @@ pub struct Fn2VS<C, R> {
 }
 
 impl<C, R> Fn2VS<C, R> {
-    /// The function that calls this callable.
+    /// Creates the function that calls this callable.
     pub fn new(callable: C) -> Self
         ensures { result.callable ≡ callable }
     {
@@ -117,7 +117,7 @@ pub struct Fn2VV<C, R> {
 }
 
 impl<C, R> Fn2VV<C, R> {
-    /// The function that calls this callable.
+    /// Creates the function that calls this callable.
     pub fn new(callable: C) -> Self
         ensures { result.callable ≡ callable }
     {

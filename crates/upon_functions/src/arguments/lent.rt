@@ -8,7 +8,7 @@ use crate::function::{ArgError, CallError};
 use std::collections::BTreeMap;
 use upon_types::value::Value;
 
-/// The text that a value is.
+/// Returns the text that a value is.
 pub fn text(index: usize, from: &Value) -> Result<&str, CallError>
     ensures { Lends (λ text. text_val text.now) (str_misfit (view from.now)) index (view from.now) result }
 {
@@ -18,7 +18,7 @@ pub fn text(index: usize, from: &Value) -> Result<&str, CallError>
     }
 }
 
-/// The items of the list that a value is.
+/// Returns the items of the list that a value is.
 pub fn list(index: usize, from: &Value) -> Result<&[Value], CallError>
     ensures { Lends (λ items. list_val (vals_view items.now)) (list_misfit (view from.now)) index
         (view from.now) result }
@@ -29,7 +29,7 @@ pub fn list(index: usize, from: &Value) -> Result<&[Value], CallError>
     }
 }
 
-/// The map that a value is.
+/// Returns the map that a value is.
 pub fn map(index: usize, from: &Value) -> Result<&BTreeMap<String, Value>, CallError>
     ensures { Lends (λ entries. map_val (entries_view entries.now.entries)) (map_misfit (view from.now)) index
         (view from.now) result }

@@ -24,7 +24,7 @@ pub(crate) fn next(source: &str, at: usize) -> usize
     bytes.len()
 }
 
-/// Whether a default delimiter may begin at an offset: with one of five bytes.
+/// Returns whether a default delimiter may begin at an offset: with one of five bytes.
 pub(crate) fn may_begin(bytes: &[u8], at: usize) -> bool
     ensures { result ≡ false → NoneAt default_delimiters bytes.now at }
 {

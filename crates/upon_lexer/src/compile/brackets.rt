@@ -32,7 +32,7 @@ pub enum BracketEffect {
     Nothing,
 }
 
-/// What a token does to the open brackets.
+/// Returns what a token does to the open brackets.
 pub fn effect_of(token: Token) -> BracketEffect
     ensures { HasEffect token result }
 {
@@ -54,7 +54,7 @@ pub struct OpenBracket {
     pub span: Span,
 }
 
-/// The innermost of the open brackets: it is last.
+/// Returns the innermost of the open brackets: it is last.
 pub fn innermost(brackets: &[OpenBracket]) -> Option<OpenBracket>
     ensures value { option_map bracket_lexeme result ≡ innermost (brackets_of brackets.now) }
     ensures listed { IfSome result (λ bracket. Contains brackets.now bracket) }
@@ -62,7 +62,7 @@ pub fn innermost(brackets: &[OpenBracket]) -> Option<OpenBracket>
     brackets.last().copied()
 }
 
-/// Whether a closing bracket of a shape closes the innermost open one.
+/// Returns whether a closing bracket of a shape closes the innermost open one.
 pub fn closes_innermost(brackets: &[OpenBracket], shape: Shape) -> bool
     ensures { result ≡ closes_first (brackets_of brackets.now) (close_token shape) }
 {
@@ -72,7 +72,7 @@ pub fn closes_innermost(brackets: &[OpenBracket], shape: Shape) -> bool
     }
 }
 
-/// Opens or closes a bracket for a token at an offset, where the token does so. An error, where there is no memory for
+/// Opens or closes a bracket for a token at an offset, if the token does so. An error, if there is no memory for
 /// a bracket that opens, leaves the brackets as they were.
 pub fn apply(brackets: &mut Vec<OpenBracket>, token: Token, span: Span) -> Result<(), AllocError>
     ensures turned { IfOk result (λ _. brackets_of brackets.new.items

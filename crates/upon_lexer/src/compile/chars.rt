@@ -21,7 +21,7 @@ pub enum CharClass {
 }
 
 impl CharClass {
-    /// Whether a character is of the class.
+    /// Returns whether a character is of the class.
     pub fn has(self, c: char) -> bool
         ensures { result ≡ class_test self c }
     {
@@ -34,14 +34,14 @@ impl CharClass {
     }
 }
 
-/// Whether a character may begin a name.
+/// Returns whether a character may begin a name.
 pub fn begins_name(c: char) -> bool
     ensures { result ≡ begins_name c }
 {
     c == '_' || unicode_ident::is_xid_start(c)
 }
 
-/// Whether a word is never a name.
+/// Returns whether a word is never a name.
 pub fn is_keyword(word: &str) -> bool
     ensures { result ≡ is_keyword word.now }
 {
@@ -56,7 +56,7 @@ pub fn is_keyword(word: &str) -> bool
     }
 }
 
-/// The character at an offset of a text, in bytes; none is at its end.
+/// Returns the character at an offset of a text, in bytes; none is at its end.
 pub fn char_at(source: &str, at: usize) -> Option<char>
     requires { IsCharBoundary source.now at }
     ensures occurs { MatchOption result (at ≡ length source.now) (λ c. Occurs source.now at (encode_utf8 c)) }
@@ -65,7 +65,7 @@ pub fn char_at(source: &str, at: usize) -> Option<char>
     source[at..].chars().next()
 }
 
-/// Where the run of a class's characters at an offset ends, in bytes; the offset itself, where none is.
+/// Where the run of a class's characters at an offset ends, in bytes; the offset itself, if none is.
 pub fn run_end(class: CharClass, source: &str, at: usize) -> usize
     requires { IsCharBoundary source.now at }
     ensures run { (result ≡ at) ⊎ IsRun (class_test class) source.now at result }

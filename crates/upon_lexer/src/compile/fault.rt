@@ -14,9 +14,9 @@ pub enum SyntaxFault {
     UnexpectedEnd(Sort),
     /// A begin inside a tag or comment of this sort.
     UnclosedTag(Sort),
-    /// The tag's end, where a bracket of this shape is open.
+    /// The tag's end, if a bracket of this shape is open.
     UnclosedBracket(Shape),
-    /// A closing bracket of this shape, where the innermost open one has another, or none is open.
+    /// A closing bracket of this shape, if the innermost open one has another, or none is open.
     UnexpectedClose(Shape),
     /// A character that begins no token.
     UnexpectedCharacter,
@@ -25,7 +25,7 @@ pub enum SyntaxFault {
 }
 
 impl SyntaxFault {
-    /// The words that report the fault.
+    /// Returns the words that report the fault.
     pub fn reason(self) -> &'static str
         ensures { result.now ≡ reason_of self }
     {

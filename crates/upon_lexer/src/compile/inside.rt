@@ -14,8 +14,8 @@ use crate::compile::chars::{CharClass, begins_name, char_at, is_keyword, run_end
 use crate::compile::fault::{SyntaxFault, Wrong};
 use upon_types::types::{Span, Token, slice};
 
-/// The token that a character begins inside a tag, and where it ends, in bytes; or why none begins there: a character
-/// that begins no token, or a quote that begins no string.
+/// Returns the token that a character begins inside a tag, and where it ends, in bytes; or why none begins there: a
+/// character that begins no token, or a quote that begins no string.
 pub fn token_inside(
     source: &str,
     at: usize,

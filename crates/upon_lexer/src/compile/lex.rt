@@ -65,7 +65,7 @@ impl<'a> Lexer<'a> {
     ghost use Rattle.upon_lexer.specs.Spelling.{IsSpelled, LiesBetween};
     ghost use Rattle.upon_lexer.specs.Lexers.{lexer_text, lexer_delimiters, lexer_state, next_lexeme, ReadSoFar, Gives, GivesAfterSpace, Finds, GoesWrong};
 
-    /// A lexer at the start of a text, over the delimiters of a searcher.
+    /// Creates a lexer at the start of a text, over the delimiters of a searcher.
     pub fn new(alloc: Global, searcher: &'a Searcher, source: &'a str) -> Lexer<'a>
         ensures text { lexer_text result ≡ source.now }
         ensures delimiters { lexer_delimiters result ≡ searcher_delimiters searcher.now }
@@ -83,9 +83,9 @@ impl<'a> Lexer<'a> {
         }
     }
 
-    /// The next token and where it is, in bytes; of a raw part outside tags the span that trimming leaves.
-    /// At the end of the text there is none. Where the text can't be cut further, the error reports that fault, which
-    /// is the text's first of its kind; where there is no memory to say it, or to keep a bracket that opens, it says
+    /// Returns the next token and where it is, in bytes; of a raw part outside tags the span that trimming leaves.
+    /// At the end of the text there is none. If the text can't be cut further, the error reports that fault, which
+    /// is the text's first of its kind; if there is no memory to say it, or to keep a bracket that opens, it says
     /// that. After an error there are no more tokens.
     pub fn lex(&mut self) -> Result<Option<(Token, Span)>>
         ensures token { (ls : List Lexeme) → ReadSoFar self.old ls → Gives self.old ls result self.new }
@@ -121,7 +121,7 @@ impl<'a> Lexer<'a> {
         }
     }
 
-    /// The next token that is no whitespace inside a tag, as [`Lexer::lex`] gives it.
+    /// Returns the next token that is no whitespace inside a tag, as [`Lexer::lex`] gives it.
     pub fn next(&mut self) -> Result<Option<(Token, Span)>>
         ensures token { (ls : List Lexeme) → ReadSoFar self.old ls → GivesAfterSpace self.old ls result self.new }
         ensures span { IfOk result (λ found. IfSome found (λ given. LiesIn (lexer_text self.old) given.1)) }

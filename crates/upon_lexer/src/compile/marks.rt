@@ -62,7 +62,7 @@ impl Marks {
         end
     }
 
-    /// Whether a delimiter may begin at an offset.
+    /// Returns whether a delimiter may begin at an offset.
     pub(crate) fn may_begin(&self, bytes: &[u8], at: usize) -> bool
         requires { at < length bytes.now }
         ensures { result ≡ false → (delimiters : List DelimiterText) → HasTexts delimiters

@@ -17,7 +17,7 @@ pub enum Sort {
 }
 
 impl Sort {
-    /// The token of its begin.
+    /// Returns the token of its begin.
     pub fn begin_token(self) -> Token
         ensures { result ≡ begin_token (sort_of self) }
     {
@@ -28,7 +28,7 @@ impl Sort {
         }
     }
 
-    /// The token of its end.
+    /// Returns the token of its end.
     pub fn end_token(self) -> Token
         ensures { result ≡ end_token (sort_of self) }
     {
@@ -49,7 +49,7 @@ pub enum Role {
     End(Sort),
 }
 
-/// What a kind of delimiter does.
+/// Returns what a kind of delimiter does.
 pub fn role_of(kind: Delimiter) -> Role
     ensures { HasRole kind result }
 {
@@ -63,7 +63,7 @@ pub fn role_of(kind: Delimiter) -> Role
     }
 }
 
-/// Whether a kind of delimiter has the hyphen, which trims the raw part beside it.
+/// Returns whether a kind of delimiter has the hyphen, which trims the raw part beside it.
 pub fn has_hyphen(kind: Delimiter) -> bool
     ensures { result ≡ has_hyphen kind }
 {

@@ -36,14 +36,14 @@ enum Way {
 impl Searcher {
     ghost use Rattle.upon_lexer.specs.Searcher.{searcher_delimiters};
 
-    /// A searcher for the default syntax.
+    /// Creates a searcher for the default syntax.
     pub fn new() -> Searcher
         ensures { searcher_delimiters result ≡ default_delimiters }
     {
         Searcher::with_syntax(Syntax::default())
     }
 
-    /// A searcher for a syntax.
+    /// Returns a searcher for a syntax.
     pub fn with_syntax(syntax: Syntax) -> Searcher
         ensures { searcher_delimiters result ≡ syntax_delimiters syntax }
     {
@@ -51,7 +51,7 @@ impl Searcher {
         Searcher { syntax, way }
     }
 
-    /// The syntax whose delimiters it finds.
+    /// Returns the syntax whose delimiters it finds.
     pub fn syntax(&self) -> &Syntax
         ensures { syntax_delimiters result.now ≡ searcher_delimiters self.now }
     {
@@ -66,9 +66,9 @@ impl Searcher {
         syntax
     }
 
-    /// The first delimiter at or after an offset, which is a character boundary of the text: its kind and its span, in
-    /// bytes. At the least offset where one occurs, it is the one with the longest text, and of equal texts the one
-    /// listed first.
+    /// Returns the first delimiter at or after an offset, which is a character boundary of the text: its kind and its
+    /// span, in bytes. At the least offset where one occurs, it is the one with the longest text, and of equal texts
+    /// the one listed first.
     pub fn find_at(&self, source: &str, at: usize) -> Option<(Delimiter, Span)>
         requires { IsCharBoundary source.now at }
         ensures found { MatchOption
@@ -87,7 +87,7 @@ impl Searcher {
         None
     }
 
-    /// The best delimiter at an offset, which is a character boundary of the text, and its span, in bytes.
+    /// Returns the best delimiter at an offset, which is a character boundary of the text, and its span, in bytes.
     pub fn starts_with(&self, source: &str, at: usize) -> Option<(Delimiter, Span)>
         requires { IsCharBoundary source.now at }
         ensures best { MatchOption
@@ -106,8 +106,8 @@ impl Searcher {
         }
     }
 
-    /// The offset where the raw part that begins at an offset ends: at the next delimiter, or at the text's end. It
-    /// begins at a character boundary before the text's end where no delimiter occurs.
+    /// Returns the offset where the raw part that begins at an offset ends: at the next delimiter, or at the text's
+    /// end. It begins at a character boundary before the text's end if no delimiter occurs.
     pub fn raw_end(&self, source: &str, at: usize) -> usize
         requires inside { at < length source.now }
         requires boundary { IsCharBoundary source.now at }

@@ -34,7 +34,7 @@ impl OpenTag {
     }
 }
 
-/// The tag that is open after a token at an offset.
+/// Returns the tag that is open after a token at an offset.
 pub fn tag_after(tag: Option<OpenTag>, token: Token, span: Span) -> Option<OpenTag>
     ensures mode { mode_of result ≡ mode_after (mode_of tag) token }
     ensures begin { begin_of result ≡ begin_after token span (begin_of tag) }
@@ -65,14 +65,14 @@ fn path_after(in_path: bool, token: Token) -> bool
     }
 }
 
-/// Whether a token is whitespace inside a tag.
+/// Returns whether a token is whitespace inside a tag.
 pub fn is_space(token: Token) -> bool
     ensures { result ≡ is_space token }
 {
     matches!(token, Token::Whitespace)
 }
 
-/// Whether a token is an end with the hyphen.
+/// Returns whether a token is an end with the hyphen.
 pub fn end_trims(token: Token, hyphen: bool) -> bool
     ensures { result ≡ (is_end token && hyphen) }
 {

@@ -5,7 +5,7 @@ ghost use Rattle.upon_language_spec.specs.Shown.{trim_end_span, trim_start_span}
 
 use upon_types::types::{Span, slice};
 
-/// The span without the whitespace at its end.
+/// Returns the span without the whitespace at its end.
 pub fn trim_end(source: &str, span: Span) -> Span
     requires { LiesIn source.now span }
     ensures value { result ≡ trim_end_span source.now span }
@@ -17,7 +17,7 @@ pub fn trim_end(source: &str, span: Span) -> Span
     }
 }
 
-/// The span without the whitespace at its start.
+/// Returns the span without the whitespace at its start.
 pub fn trim_start(source: &str, span: Span) -> Span
     requires { LiesIn source.now span }
     ensures value { result ≡ trim_start_span source.now span }

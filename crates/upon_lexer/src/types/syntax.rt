@@ -337,8 +337,8 @@ impl Syntax {
     ghost use Rattle.upon_lexer.specs.Syntax.{syntax_delimiters};
     ghost use Rattle.upon_lexer.specs.Builder.{builder_texts};
 
-    /// The default syntax: `{{ }}`, `{% %}` and `{# #}`, each also with a hyphen inside. It is the same as the syntax
-    /// that is built of these pairs.
+    /// Creates the default syntax: `{{ }}`, `{% %}` and `{# #}`, each also with a hyphen inside. It is the same as the
+    /// syntax that is built of these pairs.
     pub fn default() -> Syntax
         ensures list { syntax_delimiters result ≡ default_delimiters }
         ensures built { syntax_delimiters result ≡ built_delimiters usual_texts }
@@ -350,7 +350,7 @@ impl Syntax {
         }
     }
 
-    /// A builder of a syntax, in which nothing is set.
+    /// Creates a builder of a syntax, in which nothing is set.
     pub fn builder<'a>() -> SyntaxBuilder<'a>
         ensures { builder_texts result ≡ nothing_set }
     {
@@ -368,7 +368,7 @@ impl Syntax {
         })
     }
 
-    /// Whether it is the default syntax itself, and was not built.
+    /// Returns whether it is the default syntax itself, and was not built.
     pub(crate) fn is_default(&self) -> bool
         ensures { result ≡ true → syntax_delimiters self.now ≡ default_delimiters }
     {
@@ -378,14 +378,14 @@ impl Syntax {
         }
     }
 
-    /// How many delimiters it has.
+    /// Returns how many delimiters it has.
     pub(crate) fn len(&self) -> usize
         ensures { result ≡ length (syntax_delimiters self.now) }
     {
         self.entries.len()
     }
 
-    /// The kind and the text of the delimiter at an index.
+    /// Returns the kind and the text of the delimiter at an index.
     pub(crate) fn get(&self, i: usize) -> (Delimiter, &str)
         requires { i < length (syntax_delimiters self.now) }
         ensures kind { result.0 ≡ kind_at (syntax_delimiters self.now) i }
@@ -394,7 +394,7 @@ impl Syntax {
         self.entries.get(i)
     }
 
-    /// The trie of its delimiters.
+    /// Returns the trie of its delimiters.
     pub(crate) fn nodes(&self) -> &[Node]
         ensures { result.now ≡ nodes_of (syntax_delimiters self.now) }
     {

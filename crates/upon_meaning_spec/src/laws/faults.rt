@@ -14,15 +14,15 @@ ghost use Rattle.upon_meaning_spec.specs.Engine.{Template, Table, Calls, Resolve
 ghost use Rattle.upon_meaning_spec.specs.Outcome.{States, fails};
 ghost use Rattle.upon_meaning_spec.specs.RenderFaults.{EndStated, Anywhere, TemplatesLie};
 
-/// A rendering ends well, because includes are nested too deep, or with one of the stated faults of a template that
-/// runs: the template itself, or one that answers the name of an include. It bears that template's name, has a span,
-/// and shows the span in that template's text.
+/// States that a rendering ends well, because includes are nested too deep, or with one of the stated faults of a
+/// template that runs: the template itself, or one that answers the name of an include. It bears that template's name,
+/// has a span, and shows the span in that template's text.
 pub fn faults_are_stated<V, T>()
     ensures { (calls : Calls V) (resolve : Resolver T) (left : ℕ) (t : Template) (name : Option (List ℕ)) (root : Root)
         (s : States V T) → EndStated calls resolve t name Anywhere (alone_within calls resolve left t name root s).end }
 {}
 
-/// Where the spans in the trees of all templates lie in their texts, a fault lies in the text of the template that
+/// If the spans in the trees of all templates lie in their texts, a fault lies in the text of the template that
 /// runs.
 pub fn faults_lie<V, T>()
     ensures { (calls : Calls V) (resolve : Resolver T) (left : ℕ) (t : Template) (name : Option (List ℕ)) (root : Root)
@@ -30,7 +30,8 @@ pub fn faults_lie<V, T>()
         → EndStated calls resolve t name LiesIn (alone_within calls resolve left t name root s).end }
 {}
 
-/// The fault that is reported for a rendering is one of the stated ones, or it names the depth that was set.
+/// States that the fault that is reported for a rendering is one of the stated ones, or it names the depth that was
+/// set.
 pub fn reported_is_stated<V, T>()
     ensures { (rendering : Rendering V T) (t : Template) (name : Option (List ℕ)) (root : Root) (s : States V T)
         (f : Fault)
@@ -39,8 +40,8 @@ pub fn reported_is_stated<V, T>()
         ⊎ (EndStated rendering.calls rendering.resolve t name Anywhere (fails f)) }
 {}
 
-/// The default formatter, where none is set, refuses with the kind of the value that it has no text for; a table of
-/// templates refuses a name that it does not hold as unknown.
+/// States that the default formatter, if none is set, refuses with the kind of the value that it has no text for; a
+/// table of templates refuses a name that it does not hold as unknown.
 pub fn usual_refusals<T>()
     ensures of_formatter { (v : Val) (message : Option (List ℕ)) → (default_format v).end ≡ refused message
         → message ≡ Some (codes "expression evaluated to unformattable type " ++ kind_word v) }

@@ -13,14 +13,14 @@ ghost use Rattle.upon_meaning_spec.specs.Entries.{with_entry};
 ghost use Rattle.upon_meaning_spec.specs.Evaluation.{Operand, evaluate_base, evaluate_bases};
 ghost use Rattle.upon_meaning_spec.specs.MapOrder.{GoesInOrder, item_bases, item_values};
 
-/// A map literal gives a map whose entries are in ascending order of their keys' bytes.
+/// States that a map literal gives a map whose entries are in ascending order of their keys' bytes.
 pub fn map_literal_rises<V>()
     ensures { (calls : Calls V) (items : Items) (span : Span) (env : Environment) (q : V) (o : Operand)
         → (evaluate_base calls (mapping items span) env q).answer ≡ found o
         → (es : Entries) × (o.value ≡ map_val es) × (rises es ≡ true) }
 {}
 
-/// An entry more changes what is at its key alone: of equal keys the last value counts.
+/// States that an entry more changes what is at its key alone: of equal keys the last value counts.
 pub fn last_entry_counts()
     ensures { (key other : List ℕ) (v : Val) (es : Entries)
         → entry_at other (with_entry key v es) ≡ (if bytes_eq other key then Some v else entry_at other es) }
@@ -33,13 +33,13 @@ pub fn entries_in_any_order()
         → with_entry key v (with_entry other w es) ≡ with_entry other w (with_entry key v es) }
 {}
 
-/// A loop over a map goes over its entries as they are.
+/// States that a loop over a map goes over its entries as they are.
 pub fn loop_in_order()
     ensures { (key value : Ident) (both : Span) (es : Entries) (at : Span)
         → items_of (key_value key value both) (map_val es) at ≡ found (map (entry_binds key value) (entry_list es)) }
 {}
 
-/// A loop over a map literal goes over its entries in ascending order of their keys' bytes.
+/// States that a loop over a map literal goes over its entries in ascending order of their keys' bytes.
 pub fn literal_in_order<V>()
     ensures { (calls : Calls V) (items : Items) (span : Span) (env : Environment) (q : V) (o : Operand)
         (key value : Ident) (both : Span) (at : Span)
@@ -58,7 +58,7 @@ pub fn literals_alike<V>()
         → a.value ≡ b.value }
 {}
 
-/// A loop over a map whose keys ascend goes over each entry once, in ascending order of the keys' bytes.
+/// States that a loop over a map whose keys ascend goes over each entry once, in ascending order of the keys' bytes.
 pub fn map_in_order()
     ensures { (key value : Ident) (both : Span) (es : Entries) (at : Span)
         → rises es ≡ true
@@ -66,8 +66,8 @@ pub fn map_in_order()
         × GoesInOrder key value es turns }
 {}
 
-/// A loop over a map literal goes over each entry of its map once, in ascending order of the keys' bytes, whatever
-/// order it was written in.
+/// States that a loop over a map literal goes over each entry of its map once, in ascending order of the keys' bytes,
+/// whatever order it was written in.
 pub fn literal_goes_in_order<V>()
     ensures { (calls : Calls V) (items : Items) (span : Span) (env : Environment) (q : V) (o : Operand)
         (key value : Ident) (both : Span) (at : Span)
@@ -76,7 +76,7 @@ pub fn literal_goes_in_order<V>()
         × (items_of (key_value key value both) o.value at ≡ found turns) × GoesInOrder key value es turns }
 {}
 
-/// At a key a map literal holds the value of the last of its items that has the key, and nothing where none has it. The
+/// At a key a map literal holds the value of the last of its items that has the key, and nothing if none has it. The
 /// items' expressions come to their values from the left, as those of a list do.
 pub fn literal_last_counts<V>()
     ensures { (calls : Calls V) (items : Items) (span : Span) (env : Environment) (q : V) (o : Operand)

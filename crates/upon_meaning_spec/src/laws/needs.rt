@@ -40,10 +40,11 @@ pub fn source_needed<V, T>()
     ensures { (calls : Calls V) (ask : Source V) (table : Table) (limit : ℕ) (template : Template)
         (name : Option (List ℕ)) (states : States V T) → SourcesAgreeForNeeds table template.tree calls.ask ask
         → alone (record { calls = calls; resolve = from_table table; limit = limit }) template name value_source states
-        ≡ alone (record { calls = with_source ask calls; resolve = from_table table; limit = limit }) template name value_source states }
+        ≡ alone (record { calls = with_source ask calls; resolve = from_table table; limit = limit })
+        template name value_source states }
 {}
 
-/// What is needed is read.
+/// States that what is needed is read.
 pub fn needed_is_read()
     ensures { (table : Table) (tree : Statements) (name : List ℕ) → NeedsName table tree name → Reads table tree name }
 {}

@@ -39,8 +39,8 @@ pub fn for_shadows<V, T>()
         (iteration index count item (bind_all between env)) s }
 {}
 
-/// A path that begins with a variable's name is one in what the innermost such variable binds, whatever is bound
-/// further out, and whatever the context or the value source has under that name.
+/// States that a path that begins with a variable's name is one in what the innermost such variable binds, whatever is
+/// bound further out, and whatever the context or the value source has under that name.
 pub fn variable_answers<V>()
     ensures { (ask : Source V) (inside : List Binding) (name : List ℕ) (bound : Bound) (env : Environment)
         (first : Member) (rest : List Member) (q : V)
@@ -57,7 +57,7 @@ pub fn scope_ends<V, T>()
         (λ next. statements_mean calls include_means running ts env next) }
 {}
 
-/// A variable of a `for` that is named `loop` is never seen: the body means the same without it.
+/// States that a variable of a `for` that is named `loop` is never seen: the body means the same without it.
 pub fn loop_variable_unseen<V, T>()
     ensures { (calls : Calls V) (resolve : Resolver T) (left : ℕ) (running : RunningTemplate) (body : Statements)
         (index count : ℕ) (before behind : List Binding) (unseen : Bound) (env : Environment) (s : States V T)
@@ -77,7 +77,7 @@ pub fn loop_is_innermost<V>()
         ≡ reply (state_walk index count rest) q }
 {}
 
-/// Where a `with` inside the loop binds `loop`, a path that begins with it is a walk in the value of that `with`.
+/// If a `with` inside the loop binds `loop`, a path that begins with it is a walk in the value of that `with`.
 pub fn with_outranks_loop<V>()
     ensures { (ask : Source V) (inside : List Binding) (word : Ident) (v : Val) (env : Environment)
         (first : Member) (rest : List Member) (q : V)

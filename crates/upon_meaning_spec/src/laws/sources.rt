@@ -32,7 +32,7 @@ pub fn templates_reached<V, T>()
         ≡ alone (record { calls = calls; resolve = those; limit = limit }) template name root states }
 {}
 
-/// Where a template has the number k, and it and those that it reaches in the table have numbers greater than those of
+/// If a template has the number k, and it and those that it reaches in the table have numbers greater than those of
 /// the templates of the table that they include, it never ends because includes are too deep, at any depth above k. A
 /// refusal of the source is a fault of its own, whatever its words.
 pub fn numbered_depth<V, T>()

@@ -17,8 +17,8 @@ ghost use Rattle.upon_meaning_spec.specs.Names.{IsName, ExpressionReads};
 ghost use Rattle.upon_meaning_spec.specs.Outcome.{States, then_do};
 ghost use Rattle.upon_meaning_spec.specs.Shadowing.{Binds, LoopBinds, items_without, path_shown};
 
-/// A `with` whose expression does not read the name means the same with an outer variable of its name as without it,
-/// however far out that is bound, also in what is plainly included in its body.
+/// States that a `with` whose expression does not read the name means the same with an outer variable of its name as
+/// without it, however far out that is bound, also in what is plainly included in its body.
 pub fn with_hides<V, T>()
     ensures { (calls : Calls V) (resolve : Resolver T) (left : ℕ) (running : RunningTemplate) (e : Expression)
         (word : Ident) (body : Statements) (between : List Binding) (outer : Bound) (env : Environment) (s : States V T)
@@ -28,9 +28,9 @@ pub fn with_hides<V, T>()
         ≡ statement_means calls (included calls resolve left) running (with e word body) (bind_all between env) s }
 {}
 
-/// A `for` whose expression does not read the name means the same with an outer variable as without it, where the name
-/// is that of one of its variables or `loop`, but for its `else` branch, which is outside the loop and sees the outer
-/// variable.
+/// States that a `for` whose expression does not read the name means the same with an outer variable as without it,
+/// if the name is that of one of its variables or `loop`, but for its `else` branch, which is outside the loop and
+/// sees the outer variable.
 pub fn for_hides<V, T>()
     ensures { (calls : Calls V) (resolve : Resolver T) (left : ℕ) (running : RunningTemplate) (names : LoopVars)
         (e : Expression) (body : Statements) (other : Else) (name : List ℕ) (between : List Binding) (outer : Bound)
@@ -45,7 +45,7 @@ pub fn for_hides<V, T>()
 {}
 
 /// In the body of a `with`, after any statement, a path that begins with its name is one in its value. So a variable
-/// that this statement binds is gone after it, and the outer one is found as before; and where the name is `loop`, it
+/// that this statement binds is gone after it, and the outer one is found as before; and if the name is `loop`, it
 /// is found before the state of a loop around the `with`.
 pub fn with_body_finds<V, T>()
     ensures { (calls : Calls V) (include_means : Inclusion V T) (running : RunningTemplate) (e : Expression)
@@ -76,7 +76,7 @@ pub fn body_finds<V, T>()
 {}
 
 /// In a loop's body, after any statement, a path that begins with `loop` is one in that loop's state, as long as
-/// nothing inside the loop binds `loop`; also where a variable around the loop is called `loop`.
+/// nothing inside the loop binds `loop`; also if a variable around the loop is called `loop`.
 pub fn loop_body_finds<V, T>()
     ensures { (calls : Calls V) (include_means : Inclusion V T) (running : RunningTemplate) (inside : List Binding)
         (index count : ℕ) (item : List Binding) (env : Environment) (t : Statement) (first : Member)
@@ -90,7 +90,7 @@ pub fn loop_body_finds<V, T>()
         (statements_mean calls include_means running ts (bind_all inside (iteration index count item env)))) }
 {}
 
-/// A `for` means what it means where no item binds `loop`: a variable of that name is never seen.
+/// States that a `for` means what it means if no item binds `loop`: a variable of that name is never seen.
 pub fn loop_variable_hidden<V, T>()
     ensures { (calls : Calls V) (resolve : Resolver T) (left : ℕ) (running : RunningTemplate) (body : Statements)
         (env : Environment) (names : LoopVars) (e : Expression) (other : Else) (s : States V T)
@@ -101,8 +101,8 @@ pub fn loop_variable_hidden<V, T>()
         (items_without (codes "loop") (items_of names v (expression_span e))) env q) }
 {}
 
-/// An include with a value means the same in all environments in which the value is the same: nothing else around it is
-/// seen.
+/// States that an include with a value means the same in all environments in which the value is the same: nothing else
+/// around it is seen.
 pub fn boundary_hides<V, T>()
     ensures { (calls : Calls V) (include_means : Inclusion V T) (running : RunningTemplate) (word : Ident)
         (e : Expression)

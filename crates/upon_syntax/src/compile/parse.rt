@@ -39,7 +39,7 @@ pub struct Parser<'a> {
 impl<'a> Parser<'a> {
     ghost use Rattle.upon_syntax.specs.Parsed.{source_of, syntax_of};
 
-    /// A parser for a text, over the delimiters of a searcher.
+    /// Creates a parser for a text, over the delimiters of a searcher.
     pub fn new(alloc: Global, searcher: &'a Searcher, source: &'a str) -> Parser<'a>
         ensures source { source_of result ≡ source.now }
         ensures syntax { syntax_of result ≡ searcher_delimiters searcher.now }
@@ -51,8 +51,8 @@ impl<'a> Parser<'a> {
         }
     }
 
-    /// The text's tree. A text that has none is refused: the error reports its first fault, at its span. Where memory
-    /// is out, the error says that.
+    /// Returns the text's tree. A text that has none is refused: the error reports its first fault, at its span. If
+    /// memory is out, the error says that.
     pub fn parse_template(self) -> Result<Template>
         ensures has_tree { IfOk result (λ t. HasTree (syntax_of self.entry) (source_of self.entry) (tree_of t)) }
         ensures only_tree { IfOk result

@@ -19,7 +19,7 @@ pub(crate) struct Excerpt {
 }
 
 impl Excerpt {
-    /// The part of a source that a picture shows.
+    /// Returns the part of a source that a picture shows.
     pub(crate) fn of(alloc: Global, source: &str, span: Span) -> Result<Excerpt, AllocError>
         requires { LiesIn source.now span }
         ensures { IfOk result (λ excerpt. picture_of excerpt ≡ picture source.now span) }
@@ -38,7 +38,7 @@ impl Excerpt {
     }
 }
 
-/// What is before the first line feed, or the whole text.
+/// Returns what is before the first line feed, or the whole text.
 fn first_line(text: &str) -> &str
     ensures { result.now ≡ before_first is_line_feed text.now }
 {
@@ -48,7 +48,7 @@ fn first_line(text: &str) -> &str
     }
 }
 
-/// What is after the last line feed, or the whole text; and the number of that line.
+/// Returns what is after the last line feed, or the whole text; and the number of that line.
 fn last_line(text: &str) -> (usize, &str)
     ensures number { result.0 ≡ 1 + count_by is_line_feed text.now }
     ensures line { result.1.now ≡ line_before text.now }

@@ -25,7 +25,8 @@ struct Pretty<'a> {
 impl fmt::Display for Pretty<'_> {
     ghost output = { λ p. Some
         (picture_lines
-        (kind_text (kind_of p.kind.now)) p.name.now p.reason.now p.number p.column p.line.now p.margin.now p.marks.now) };
+        (kind_text (kind_of p.kind.now)) p.name.now p.reason.now p.number p.column p.line.now p.margin.now
+        p.marks.now) };
 
     fn fmt<W: fmt::Write>(&self, f: &mut fmt::Formatter<W>) -> fmt::Result {
         write!(f, "{}\n\n", self.kind)?;
@@ -45,7 +46,7 @@ impl fmt::Display for Pretty<'_> {
     }
 }
 
-/// The text for a kind of fault, with its reason and what is shown of its span.
+/// Returns the text for a kind of fault, with its reason and what is shown of its span.
 pub(crate) fn with_excerpt(
     alloc: Global,
     kind: &ErrorKind,
@@ -83,7 +84,7 @@ fn margin(alloc: Global, number: usize) -> Result<String, AllocError>
     Ok(text)
 }
 
-/// What is under the line, after the bar.
+/// Returns what is under the line, after the bar.
 fn marks(alloc: Global, excerpt: &Excerpt) -> Result<String, AllocError>
     ensures { IfOk result
         (λ text. let shown = picture_of excerpt.now in

@@ -49,14 +49,14 @@ pub struct InlineExpr {
     pub span: Span,
 }
 
-/// Another template that is shown, by its name, with the values that it sees where they are given.
+/// Another template that is shown, by its name, with the values that it sees if they are given.
 #[derive(Drop)]
 pub struct Include {
     pub name: String,
     pub globals: Option<Expr>,
 }
 
-/// Statements that a condition chooses: the first ones where it holds, or where it does not if `not` is set.
+/// Statements that a condition chooses: the first ones if it holds, or, if `not` is set, if it does not.
 #[cycle(statement)]
 #[derive(Drop)]
 pub struct IfElse {
@@ -66,7 +66,7 @@ pub struct IfElse {
     pub else_branch: Option<Scope>,
 }
 
-/// Statements that are shown for each item of a value, and others that are shown where it has none.
+/// Statements that are shown for each item of a value, and others that are shown if it has none.
 #[cycle(statement)]
 #[derive(Drop)]
 pub struct ForLoop {

@@ -60,7 +60,7 @@ pub enum Token {
 }
 
 impl Token {
-    /// What a message calls this kind of token.
+    /// Returns what a message calls this kind of token.
     pub fn human(self) -> &'static str
         ensures { result.now ≡ token_word self }
     {

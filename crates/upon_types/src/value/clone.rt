@@ -8,7 +8,7 @@ use std::collections::BTreeMap;
 use std::default::Emptied;
 
 impl Value {
-    /// A copy that shares nothing with this value. It fails where there is no memory for the copy.
+    /// Returns a copy that shares nothing with this value. It fails if there is no memory for the copy.
     #[cycle(clone)]
     pub fn try_clone(&self) -> Result<Value, AllocError>
         ensures { IfOk result (λ v. view v ≡ view self.now) }
@@ -24,7 +24,7 @@ impl Value {
     }
 }
 
-/// A copy of the items. It fails where there is no memory for the copy.
+/// Returns a copy of the items. It fails if there is no memory for the copy.
 #[cycle(clone)]
 pub fn clone_items(items: &Vec<Value>) -> Result<Vec<Value>, AllocError>
     ensures { IfOk result (λ copies. vals_view copies.items ≡ vals_view items.now.items) }
@@ -36,7 +36,7 @@ pub fn clone_items(items: &Vec<Value>) -> Result<Vec<Value>, AllocError>
     Ok(copies)
 }
 
-/// A copy of the entries. It fails where there is no memory for the copy.
+/// Returns a copy of the entries. It fails if there is no memory for the copy.
 #[cycle(clone)]
 pub fn clone_entries(
     entries: &BTreeMap<String, Value>,

@@ -30,7 +30,8 @@ impl Deref for ValueCow<'_> {
 }
 
 impl ValueCow<'_> {
-    /// Whether the value counts as true: no value, `false`, 0, the empty text, the empty list and the empty map do not.
+    /// Returns whether the value counts as true: no value, `false`, 0, the empty text, the empty list and the empty map
+    /// do not.
     pub fn as_bool(&self) -> bool
         ensures { result ≡ truth (cow_view self.now) }
     {

@@ -10,7 +10,7 @@ use super::Value;
 use std::alloc::{AllocError, Global};
 
 impl Value {
-    /// The list of what the items become. It fails where there is no memory for the list.
+    /// Creates the list of what the items become. It fails if there is no memory for the list.
     pub fn from_items<V: Into<Value>, I: Iterator<Item = V> + Drop>(
         alloc: Global,
         items: I,
@@ -26,7 +26,7 @@ impl Value {
         Ok(Value::List(values))
     }
 
-    /// The list of what the items become. It fails where there is no memory for the list.
+    /// Creates the list of what the items become. It fails if there is no memory for the list.
     pub fn from_list<V: Into<Value> + Drop>(
         alloc: Global,
         items: Vec<V>,
@@ -36,7 +36,7 @@ impl Value {
         Value::from_items(alloc, items.into_iter())
     }
 
-    /// The list of the values. It fails where there is no memory for the list.
+    /// Creates the list of the values. It fails if there is no memory for the list.
     pub fn from_array<const N: usize>(
         alloc: Global,
         values: [Value; N],

@@ -10,8 +10,8 @@ use std::alloc::{AllocError, Global};
 use std::collections::{BTreeMap, HashMap};
 
 impl Value {
-    /// The map of what the entries become; of equal keys the last counts. It fails where there is no memory for the
-    /// map.
+    /// Creates the map of what the entries become; of equal keys the last counts. It fails if there is no memory for
+    /// the map.
     pub fn from_entries<V: Into<Value>, I: Iterator<Item = (String, V)> + Drop>(
         alloc: Global,
         entries: I,
@@ -27,7 +27,7 @@ impl Value {
         Ok(Value::Map(values))
     }
 
-    /// The map of what the entries become. It fails where there is no memory for the map.
+    /// Creates the map of what the entries become. It fails if there is no memory for the map.
     pub fn from_btree_map<V: Into<Value> + Drop>(
         alloc: Global,
         map: BTreeMap<String, V>,
@@ -37,7 +37,7 @@ impl Value {
         Value::from_entries(alloc, map.into_iter())
     }
 
-    /// The map of what the entries become. It fails where there is no memory for the map.
+    /// Creates the map of what the entries become. It fails if there is no memory for the map.
     pub fn from_hash_map<V: Into<Value> + Drop>(
         alloc: Global,
         table: HashMap<String, V>,
@@ -47,7 +47,7 @@ impl Value {
         Value::from_entries(alloc, table.into_iter())
     }
 
-    /// The map of the pairs; of equal keys the last counts. It fails where there is no memory for the map.
+    /// Creates the map of the pairs; of equal keys the last counts. It fails if there is no memory for the map.
     pub fn from_pairs<const N: usize>(
         alloc: Global,
         pairs: [(String, Value); N],

@@ -10,15 +10,15 @@ use std::alloc::{AllocError, Global};
 use std::borrow::CowStr;
 
 impl Value {
-    /// A text value that holds a copy of the text. It fails where there is no memory for the copy.
+    /// Creates a text value that holds a copy of the text. It fails if there is no memory for the copy.
     pub fn from_text(alloc: Global, text: &str) -> Result<Value, AllocError>
         ensures { IfOk result (λ v. view v ≡ text_val text.now) }
     {
         Ok(Value::String(String::from_str(alloc, text)?))
     }
 
-    /// A text value that keeps the text where it is owned, else holds a copy of it. It fails where there is no memory
-    /// for the copy.
+    /// Creates a text value that keeps the text if it is owned, else holds a copy of it. It fails if there is no
+    /// memory for the copy.
     pub fn from_cow(alloc: Global, text: CowStr) -> Result<Value, AllocError>
         ensures value { IfOk result (λ v. view v ≡ text_val (cow_str_bytes text.entry)) }
         ensures copied { OnErr result (is_borrowed text.entry ≡ true) }

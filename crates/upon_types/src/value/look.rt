@@ -5,7 +5,7 @@ ghost use Rattle.upon_types.specs.View.{view};
 
 use super::Value;
 
-/// The value at a key of a map. Other values have no keys.
+/// Returns the value at a key of a map. Other values have no keys.
 pub fn entry<'a>(value: &'a Value, key: &str) -> Option<&'a Value>
     ensures { option_map (λ v. view v.now) result ≡ key_of key.now (view value.now) }
 {

@@ -68,14 +68,14 @@ fn same_entries(a: &BTreeMap<String, Value>, b: &BTreeMap<String, Value>) -> boo
     true
 }
 
-/// Whether the two are the same value, as `==` says.
+/// Returns whether the two are the same value, as `==` says.
 pub fn is_same(a: &Value, b: &Value) -> bool
     ensures { IsTrue result ↔ (view a.now ≡ view b.now) }
 {
     a == b
 }
 
-/// Whether the same value is at each key of both maps, which is what `==` says of two values that are maps.
+/// Returns whether the same value is at each key of both maps, which is what `==` says of two values that are maps.
 /// The keys of any map ascend.
 pub fn is_same_map(a: &BTreeMap<String, Value>, b: &BTreeMap<String, Value>) -> bool
     ensures by_key { IsTrue result
@@ -96,7 +96,7 @@ pub fn laws_of_equality()
     ensures part_by_part { (v w : Val) → val_agrees v w ≡ val_eq v w }
 {}
 
-/// Nothing runs here: maps whose keys ascend are one map where the same value is at each key.
+/// Nothing runs here: maps whose keys ascend are one map if the same value is at each key.
 pub fn law_of_maps()
     ensures { (a b : Entries)
         → IsTrue (rises a)

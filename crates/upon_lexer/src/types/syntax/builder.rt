@@ -62,7 +62,7 @@ impl<'a> SyntaxBuilder<'a> {
     ghost use Rattle.upon_lexer.specs.Syntax.{syntax_delimiters};
     ghost use Rattle.upon_lexer.specs.Builder.{builder_texts};
 
-    /// A builder in which nothing is set.
+    /// Creates a builder in which nothing is set.
     pub(super) fn new() -> SyntaxBuilder<'a>
         ensures { builder_texts result ≡ nothing_set }
     {
@@ -106,9 +106,9 @@ impl<'a> SyntaxBuilder<'a> {
         self
     }
 
-    /// The syntax of what is set. For expressions, then for blocks, then for comments, it has four delimiters: the
-    /// begin, the end, the begin with a hyphen after it, and the end with a hyphen before it. It fails only where there
-    /// is no memory for them.
+    /// Creates the syntax of what is set. For expressions, then for blocks, then for comments, it has four delimiters:
+    /// the begin, the end, the begin with a hyphen after it, and the end with a hyphen before it. It fails only if
+    /// there is no memory for them.
     pub fn build(&self, alloc: Global) -> Result<Syntax, AllocError>
         ensures { IfOk result (λ syntax. syntax_delimiters syntax ≡ built_delimiters (builder_texts self.now)) }
     {

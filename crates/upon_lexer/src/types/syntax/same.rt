@@ -24,7 +24,7 @@ impl Eq for Syntax {
     ghost laws = { on_equiv syntax_delimiters (decided delimiters_eq delimiters_eq-Decides) };
 }
 
-/// Whether the two have the same delimiters in the same order, as `==` says.
+/// Returns whether the two have the same delimiters in the same order, as `==` says.
 pub fn is_same(a: &Syntax, b: &Syntax) -> bool
     ensures { IsTrue result ↔ (syntax_delimiters a.now ≡ syntax_delimiters b.now) }
 {

@@ -17,7 +17,7 @@ pub(crate) struct Node {
     pub(crate) pair: Option<usize>,
 }
 
-/// The node of the empty text, before any text is put in.
+/// Creates the node of the empty text, before any text is put in.
 pub(crate) fn root() -> Node
     ensures { result ≡ blank }
 {
@@ -29,7 +29,7 @@ pub(crate) fn root() -> Node
     }
 }
 
-/// The child of a node by a byte; 0 where there is none.
+/// Returns the child of a node by a byte; 0 if there is none.
 pub(crate) fn child(nodes: &[Node], of: usize, byte: u8) -> usize
     requires linked { IsLinked nodes.now }
     requires inside { of < length nodes.now }
@@ -46,7 +46,7 @@ pub(crate) fn child(nodes: &[Node], of: usize, byte: u8) -> usize
     0
 }
 
-/// The same, which is made where there is none.
+/// Does the same, and makes a child if there is none.
 pub(crate) fn child_or_new(nodes: &mut Vec<Node>, of: usize, byte: u8) -> Result<usize, AllocError>
     requires linked { IsLinked nodes.old.items }
     requires inside { of < length nodes.old.items }
@@ -85,7 +85,7 @@ fn longer(
     }
 }
 
-/// The index of the best delimiter at an offset, and the offset of its end.
+/// Returns the index of the best delimiter at an offset, and the offset of its end.
 pub(crate) fn longest_at(nodes: &[Node], source: &[u8], at: usize) -> Option<(usize, usize)>
     requires linked { IsLinked nodes.now }
     requires offset { at ≤ length source.now }

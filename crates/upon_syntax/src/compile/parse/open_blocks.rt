@@ -32,7 +32,7 @@ impl Kind {
         }
     }
 
-    /// The reason where the text ends with such a block open.
+    /// Returns the reason if the text ends with such a block open.
     pub fn reason(self, alloc: Global) -> Result<String, AllocError>
         ensures { IfOk result (λ reason. string_bytes reason
             ≡ codes "unclosed " ++ (in_quotes (block_word (kind_of self)) ++ codes " block")) }
@@ -66,7 +66,7 @@ impl Closing {
         }
     }
 
-    /// The reason where no block takes it.
+    /// Returns the reason if no block takes it.
     pub fn reason(self, alloc: Global) -> Result<String, AllocError>
         ensures { IfOk result (λ reason. string_bytes reason
             ≡ codes "unexpected " ++ (in_quotes (closer_words (closer_of self)) ++ codes " block")) }
@@ -87,7 +87,7 @@ pub enum Effect {
     Nothing,
 }
 
-/// What a tag does to the open blocks.
+/// Returns what a tag does to the open blocks.
 pub fn effect_of(tag: &Tag) -> Effect
     ensures { HasEffect (tag_of tag.now) result }
 {
@@ -257,7 +257,7 @@ impl OpenBlocks {
         self.blocks.pop();
     }
 
-    /// The outermost block.
+    /// Returns the outermost block.
     pub fn outermost(&self) -> Option<OpenBlock>
         ensures { option_map block_of result ≡ outermost (stack_of self.now) }
     {

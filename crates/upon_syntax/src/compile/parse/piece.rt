@@ -23,8 +23,8 @@ pub enum Piece {
     Block(Tag),
 }
 
-/// The pieces of a text, over the delimiters of a searcher. Each closing tag is taken by the innermost open block, and
-/// at the end no block is open. A text that has no tree is refused: the error reports its first fault.
+/// Returns the pieces of a text, over the delimiters of a searcher. Each closing tag is taken by the innermost open
+/// block, and at the end no block is open. A text that has no tree is refused: the error reports its first fault.
 pub fn read_pieces(alloc: Global, searcher: &Searcher, source: &str) -> Result<Vec<Piece>>
     ensures pieces { IfOk result (λ pieces.
         HasPieces (searcher_delimiters searcher.now) source.now (pieces_of pieces.items)) }

@@ -40,7 +40,7 @@ pub enum Next {
     OnePiece(Piece),
     /// A comment, which leaves nothing.
     Comment,
-    /// The text's end, where no block is open.
+    /// The text's end, if no block is open.
     End,
 }
 
@@ -60,7 +60,7 @@ pub struct PieceReader<'a> {
 impl<'a> PieceReader<'a> {
     ghost use Rattle.upon_syntax.specs.PieceReading.{pieces_text, pieces_delimiters, pieces_state, pieces_blocks, Pieces, found_pieces, IsBetween, IsGivenTo, GoesOn, HasBegunComment, IsInComment, HasPassedEnd, HasPassedComment, HasFound, Finds, Refuses};
 
-    /// A reader at the start of a text, over the delimiters of a searcher.
+    /// Creates a reader at the start of a text, over the delimiters of a searcher.
     pub fn new(alloc: Global, searcher: &'a Searcher, source: &'a str) -> PieceReader<'a>
         ensures text { pieces_text result ≡ source.now }
         ensures delimiters { pieces_delimiters result ≡ searcher_delimiters searcher.now }
@@ -75,7 +75,8 @@ impl<'a> PieceReader<'a> {
         }
     }
 
-    /// The next piece or comment, or the text's end. The error reports the text's first fault, or that memory is out.
+    /// Returns the next piece or comment, or the text's end. The error reports the text's first fault, or that memory
+    /// is out.
     pub fn next(&mut self) -> Result<Next>
         requires so_far { (found : Pieces) × HasFound self.old found }
         ensures found { IfOk result (λ next. (found : Pieces)

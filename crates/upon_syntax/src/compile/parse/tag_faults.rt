@@ -23,7 +23,7 @@ use upon_tag_parser::compile::parse::want::Want;
 use upon_types::error::Error;
 use upon_types::types::Span;
 
-/// The error where the tokens of a tag go no further, while this is wanted and these tokens are left.
+/// Returns the error if the tokens of a tag go no further, while this is wanted and these tokens are left.
 pub fn refuse(alloc: Global, source: &str, want: Want, left: &[Lexed], ended: Ended) -> Error
     requires left { FirstLies source.now left.now }
     requires ended { EndLies source.now ended }
@@ -36,7 +36,7 @@ pub fn refuse(alloc: Global, source: &str, want: Want, left: &[Lexed], ended: En
     }
 }
 
-/// The same where no token is left.
+/// Does the same if no token is left.
 pub fn refuse_end(alloc: Global, source: &str, want: Want, ended: Ended) -> Error
     requires { EndLies source.now ended }
     ensures { (delimiters : List DelimiterText) → GoesNoFurther delimiters source.now want [] ended

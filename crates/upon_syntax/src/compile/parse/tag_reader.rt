@@ -35,7 +35,7 @@ pub struct TagReader<'a> {
 impl<'a> TagReader<'a> {
     ghost use Rattle.upon_syntax.specs.TagReaders.{reader_text};
 
-    /// A reader of the tags of a text.
+    /// Creates a reader of the tags of a text.
     pub fn new(alloc: Global, source: &'a str) -> TagReader<'a>
         ensures { reader_text result ≡ source.now }
     {
@@ -46,7 +46,8 @@ impl<'a> TagReader<'a> {
         }
     }
 
-    /// The inline tag whose begin was read. The error reports the text's first fault, or that there was no memory.
+    /// Returns the inline tag whose begin was read. The error reports the text's first fault, or that there was no
+    /// memory.
     pub fn read_inline(&mut self, lexer: &mut Lexer, begin: Span) -> Result<InlineExpr>
         requires same { reader_text self.now ≡ lexer_text lexer.now }
         ensures tag { IfOk result (λ tag. (ls : List Lexeme) → AfterBegin lexer.old expression begin ls
@@ -75,8 +76,8 @@ impl<'a> TagReader<'a> {
         }
     }
 
-    /// The tag of a block whose begin was read, and where the whole tag is. The error reports the text's first fault,
-    /// or that there was no memory.
+    /// Returns the tag of a block whose begin was read, and where the whole tag is. The error reports the text's first
+    /// fault, or that there was no memory.
     pub fn read_block(&mut self, lexer: &mut Lexer, begin: Span) -> Result<(Tag, Span)>
         requires same { reader_text self.now ≡ lexer_text lexer.now }
         ensures tag { IfOk result (λ r. (ls : List Lexeme) → AfterBegin lexer.old block begin ls

@@ -31,7 +31,7 @@ use upon_types::types::{Span, Token, slice};
 pub enum Ended {
     /// At the tag's end.
     End(Lexed),
-    /// At the first fault that ends the text's cutting, or where there was no memory.
+    /// At the first fault that ends the text's cutting, or if there was no memory.
     Fault(Error),
     /// At a literal that denotes nothing.
     Literal(Lexed, Refusal),
@@ -40,7 +40,7 @@ pub enum Ended {
 }
 
 impl Ended {
-    /// The tag's end, if it was read.
+    /// Returns the tag's end, if it was read.
     pub fn tag_end(&self) -> Option<Lexed>
         ensures { result ≡ tag_end self.now }
     {

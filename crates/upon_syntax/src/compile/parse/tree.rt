@@ -18,7 +18,7 @@ use std::alloc::{AllocError, Global};
 use upon_tag_parser::compile::parse::tag::{Condition, Tag};
 use upon_types::types::ast::{Expr, ForLoop, Ident, IfElse, LoopVars, Scope, Stmt, With};
 
-/// The statements of a template's pieces, whose closing tags are each taken, and which leave no block open.
+/// Builds the statements of a template's pieces, whose closing tags are each taken, and which leave no block open.
 pub fn tree_of_pieces(alloc: Global, mut pieces: Vec<Piece>) -> Result<Scope, AllocError>
     requires closed { LeaveOpen [] (pieces_of pieces.items) [] }
     ensures statements { IfOk result (λ scope. (s : List ℕ) (before : List Lexeme)
@@ -43,7 +43,7 @@ enum BlockEnd {
 
 /// A block whose end was read, and the statements after it, the last one first.
 #[derive(Drop)]
-struct OpenBlock {
+struct EndedBlock {
     end: BlockEnd,
     after: Vec<Stmt>,
 }
@@ -54,7 +54,7 @@ struct OpenBlock {
 struct TreeBuilder {
     alloc: Global,
     stmts: Vec<Stmt>,
-    blocks: Vec<OpenBlock>,
+    blocks: Vec<EndedBlock>,
 }
 
 impl TreeBuilder {
@@ -164,7 +164,7 @@ impl TreeBuilder {
             stmts,
             mut blocks,
         } = self;
-        blocks.push(OpenBlock { end, after: stmts })?;
+        blocks.push(EndedBlock { end, after: stmts })?;
         Ok(TreeBuilder {
             alloc,
             stmts: Vec::new(alloc),
@@ -185,7 +185,7 @@ impl TreeBuilder {
         let Some(block) = blocks.pop() else {
             unreachable!();
         };
-        let OpenBlock { end, after } = block;
+        let EndedBlock { end, after } = block;
         (
             in_order(stmts),
             end,

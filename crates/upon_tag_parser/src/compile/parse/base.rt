@@ -18,7 +18,7 @@ use upon_types::types::ast::{Args, BaseExpr, Call, Ident, Paren};
 use upon_types::types::{Span, Token};
 
 impl<'a> TagParser<'a> {
-    /// An expression without a filter.
+    /// Parses an expression without a filter.
     #[cycle(parse)]
     pub fn parse_base<'t>(&self, tokens: &'t [Lexed]) -> Parsed<'t, BaseExpr>
         requires tokens { AreTagTokens self.now.source.now tokens.now }

@@ -16,7 +16,7 @@ use upon_types::types::ast::{Args, Expr, Filter};
 use upon_types::types::{Span, Token};
 
 impl<'a> TagParser<'a> {
-    /// An expression.
+    /// Parses an expression.
     #[cycle(parse)]
     pub fn parse_expr<'t>(&self, tokens: &'t [Lexed]) -> Parsed<'t, Expr>
         requires tokens { AreTagTokens self.now.source.now tokens.now }

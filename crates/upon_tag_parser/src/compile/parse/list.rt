@@ -17,7 +17,7 @@ use upon_types::types::ast::{self, BaseExpr};
 use upon_types::types::{Span, Token};
 
 impl<'a> TagParser<'a> {
-    /// A list, whose opening bracket was read.
+    /// Parses a list, whose opening bracket was read.
     #[cycle(parse)]
     pub fn parse_list<'t>(&self, opening: Span, tokens: &'t [Lexed]) -> Parsed<'t, BaseExpr>
         requires tokens { AreTagTokens self.now.source.now tokens.now }
@@ -55,7 +55,7 @@ impl<'a> TagParser<'a> {
         }
     }
 
-    /// A map, whose opening brace was read.
+    /// Parses a map, whose opening brace was read.
     #[cycle(parse)]
     pub fn parse_map<'t>(&self, opening: Span, tokens: &'t [Lexed]) -> Parsed<'t, BaseExpr>
         requires tokens { AreTagTokens self.now.source.now tokens.now }

@@ -32,7 +32,7 @@ pub struct Notation {
     pub start: usize,
 }
 
-/// How a number is written, by its prefix `0b`, `0o` or `0x`; without one in base 10.
+/// Returns how a number is written, by its prefix `0b`, `0o` or `0x`; without one in base 10.
 pub fn notation_of(text: &str) -> Notation
     ensures base { result.base ≡ (base_and_digits text.now).0 }
     ensures digits { drop result.start text.now ≡ (base_and_digits text.now).1 }
@@ -48,7 +48,7 @@ pub fn notation_of(text: &str) -> Notation
     }
 }
 
-/// The integer that a number denotes, after a minus or without one; or what is wrong with its digits.
+/// Returns the integer that a number denotes, after a minus or without one; or what is wrong with its digits.
 pub fn number(text: &str, minus: bool) -> Result<i64, DigitFault>
     ensures ok { IfOk result (λ z. IsInteger minus text.now z) }
     ensures err { IfErr result (λ fault. number_fault minus text.now ≡ Some (fault_of_digits fault)) }
@@ -65,7 +65,8 @@ pub struct Lexed {
     pub span: Span,
 }
 
-/// The integer that the number at an offset denotes, with the sign that the token before it may be; or its fault.
+/// Returns the integer that the number at an offset denotes, with the sign that the token before it may be; or its
+/// fault.
 pub fn number_at(source: &str, before: Option<Lexed>, span: Span) -> Result<i64, Refusal>
     requires span { LiesIn source.now span }
     ensures ok { IfOk result (λ z. IsInteger (minus_before (before_of before)) (slice source.now span) z) }
@@ -99,7 +100,7 @@ pub fn number_at(source: &str, before: Option<Lexed>, span: Span) -> Result<i64,
     }
 }
 
-/// The character of the first escape in a string that is none of the five.
+/// Returns the character of the first escape in a string that is none of the five.
 pub fn strange_escape(source: &str, span: Span) -> Option<Span>
     requires span { LiesIn source.now span }
     requires string { IsQuoted source.now span.m span.n }
@@ -129,7 +130,7 @@ pub fn strange_escape(source: &str, span: Span) -> Option<Span>
     None
 }
 
-/// The text that a string denotes, whose escapes are all of the five.
+/// Returns the text that a string denotes, whose escapes are all of the five.
 pub fn text(alloc: Global, source: &str, span: Span) -> Result<String, AllocError>
     requires span { LiesIn source.now span }
     requires string { IsQuoted source.now span.m span.n }
@@ -211,7 +212,7 @@ fn start_of(before: Option<Lexed>, span: Span) -> usize
     }
 }
 
-/// The number that an index denotes; none where it is too large.
+/// Returns the number that an index denotes; none if it is too large.
 pub fn index(text: &str) -> Option<usize>
     requires { (digits : List ℕ) × (digits_in 10 text.now ≡ Some digits) }
     ensures { MatchOption

@@ -21,7 +21,7 @@ pub enum LiteralFault {
 }
 
 impl LiteralFault {
-    /// The words that report the fault. The error is that memory is out.
+    /// Returns the words that report the fault. The error is that memory is out.
     pub fn reason(self, alloc: Global) -> Result<String, AllocError>
         ensures { IfOk result (λ reason. string_bytes reason ≡ literal_reason self) }
     {

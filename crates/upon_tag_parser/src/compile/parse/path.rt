@@ -55,7 +55,7 @@ impl<'t, T: Drop> From<AllocFailed<T>> for Failure<'t> {
 /// What was read of a tag's tokens and what is left of them, or why it was not read.
 pub type Parsed<'t, T> = Result<(T, &'t [Lexed]), Failure<'t>>;
 
-/// The next token, and what is left after it.
+/// Returns the next token, and what is left after it.
 pub fn next_token(tokens: &[Lexed]) -> Option<(Lexed, &[Lexed])>
     ensures { MatchOption result (tokens.now ≡ []) (λ r. tokens.now ≡ r.0 ∷ r.1.now) }
 {
@@ -141,7 +141,7 @@ impl<'a> TagParser<'a> {
         }
     }
 
-    /// The name at a span.
+    /// Returns the name at a span.
     pub fn ident(&self, span: Span) -> Result<Ident, AllocError>
         requires { LiesIn self.now.source.now span }
         ensures text { IfOk result (λ ident. (ident_of ident).text ≡ slice self.now.source.now span) }
@@ -151,7 +151,7 @@ impl<'a> TagParser<'a> {
         Ok(Ident { name, span })
     }
 
-    /// A name.
+    /// Parses a name.
     pub fn parse_ident<'t>(&self, tokens: &'t [Lexed]) -> Parsed<'t, Ident>
         requires tokens { AreTagTokens self.now.source.now tokens.now }
         ensures name { IfOk result (λ r.
@@ -241,7 +241,7 @@ impl<'a> TagParser<'a> {
         }
     }
 
-    /// A path from a member, whose operator was read.
+    /// Parses a path from a member, whose operator was read.
     pub fn parse_path_from<'t>(
         &self,
         op: AccessOp,
@@ -260,7 +260,7 @@ impl<'a> TagParser<'a> {
         self.parse_members(first, rest)
     }
 
-    /// A path from a name, which was read, and after which no parenthesis opens.
+    /// Parses a path from a name, which was read, and after which no parenthesis opens.
     pub fn parse_path<'t>(&self, name: Ident, tokens: &'t [Lexed]) -> Parsed<'t, Var>
         requires tokens { AreTagTokens self.now.source.now tokens.now }
         ensures path { IfOk result (λ r. (before : List Lexeme)

@@ -45,7 +45,7 @@ pub fn take_sign(tokens: &[Lexed]) -> Option<(Lexed, &[Lexed])>
 }
 
 impl<'a> TagParser<'a> {
-    /// A literal, where one is next.
+    /// Parses a literal, if one is next.
     pub fn parse_literal<'t>(
         &self,
         tokens: &'t [Lexed],
@@ -80,7 +80,7 @@ impl<'a> TagParser<'a> {
         self.parse_number(tokens)
     }
 
-    /// A string in quotes.
+    /// Parses a string in quotes.
     pub fn parse_string<'t>(&self, tokens: &'t [Lexed]) -> Parsed<'t, ast::String>
         requires tokens { AreTagTokens self.now.source.now tokens.now }
         ensures string { IfOk result (λ r.

@@ -42,7 +42,7 @@ pub enum Tag {
 }
 
 impl<'a> TagParser<'a> {
-    /// The expression in an inline tag, whose tokens are these.
+    /// Parses the expression in an inline tag, whose tokens are these.
     pub fn parse_inline_tag<'t>(&self, tokens: &'t [Lexed]) -> Result<Expr, Failure<'t>>
         requires tokens { AreTagTokens self.now.source.now tokens.now }
         ensures tag { IfOk result (λ e. IsInlineTag self.now.source.now (expression_of e) (lexemes_of tokens.now)) }
@@ -59,7 +59,7 @@ impl<'a> TagParser<'a> {
         Ok(expr)
     }
 
-    /// What is in the tag of a block, whose tokens are these.
+    /// Parses what is in the tag of a block, whose tokens are these.
     pub fn parse_block_tag<'t>(&self, tokens: &'t [Lexed]) -> Result<Tag, Failure<'t>>
         requires tokens { AreTagTokens self.now.source.now tokens.now }
         ensures tag { IfOk result (λ tag. IsTagInside self.now.source.now (tag_of tag) (lexemes_of tokens.now)) }

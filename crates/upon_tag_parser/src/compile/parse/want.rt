@@ -45,7 +45,7 @@ pub enum Want {
 }
 
 impl Want {
-    /// The word for it.
+    /// Returns the word for it.
     pub fn word(self) -> &'static str
         ensures { result.now ≡ wanted_word (wanted_of self) }
     {
@@ -65,7 +65,7 @@ impl Want {
         }
     }
 
-    /// Whether a literal may be there.
+    /// Returns whether a literal may be there.
     pub fn takes_literal(self, token: Token) -> bool
         ensures { result ≡ fits_word token (wanted_of self) }
     {
@@ -77,7 +77,7 @@ impl Want {
         }
     }
 
-    /// The reason where the text ends there.
+    /// Returns the reason if the text ends there.
     pub fn reason_at_end(self, alloc: Global) -> Result<String, AllocError>
         ensures { IfOk result (λ reason.
             string_bytes reason ≡ expected_found (wanted_at_end (wanted_of self)) (codes "EOF")) }
@@ -86,7 +86,7 @@ impl Want {
         format!(in alloc; "expected {word}, found EOF")
     }
 
-    /// The reason for a token that may not be there.
+    /// Returns the reason for a token that may not be there.
     pub fn reason(self, alloc: Global, source: &str, found: Lexed) -> Result<String, AllocError>
         requires { LiesIn source.now found.span }
         ensures { IfOk result (λ reason. string_bytes reason

@@ -130,7 +130,7 @@ impl BaseExpr {
 }
 
 impl String {
-    /// What the text says.
+    /// Returns what the text says.
     pub fn as_str(&self) -> &str
         ensures { result.now ≡ (string_of self.now).text }
     {

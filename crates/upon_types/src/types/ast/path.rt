@@ -71,21 +71,21 @@ impl Var {
     ghost use Rattle.upon_types.specs.AstPath.{member_of, first_member, rest_members};
     ghost use Rattle.upon_types.specs.Path.{last_member, path_span};
 
-    /// The variable, which is the first member of the path.
+    /// Returns the variable, which is the first member of the path.
     pub fn first(&self) -> &Member
         ensures { member_of result.now ≡ first_member self.now }
     {
         &self.path[0]
     }
 
-    /// The last member of the path.
+    /// Returns the last member of the path.
     pub fn last(&self) -> &Member
         ensures { member_of result.now ≡ last_member (first_member self.now) (rest_members self.now) }
     {
         &self.path[self.path.len() - 1]
     }
 
-    /// The members after the first.
+    /// Returns the members after the first.
     pub fn rest(&self) -> &[Member]
         ensures { map member_of result.now ≡ rest_members self.now }
     {
