@@ -6,6 +6,7 @@ pub mod fmt;
 pub mod functions;
 pub mod program;
 pub mod render;
+mod sources;
 pub mod types;
 
 pub use program::run;

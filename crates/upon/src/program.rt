@@ -136,8 +136,10 @@ fn render<O: Write>(
 ) -> Result<(), Error> {
     let mut engine = Engine::new(alloc);
     engine.add_template(CowStr::Borrowed(name), CowStr::Owned(source))?;
-    let template = engine.template(name);
-    template.render_from(context).to_writer(out)?;
+    let Some(rendered) = engine.render_template_to(name, context, out) else {
+        unreachable!()
+    };
+    rendered?;
     out.flush()?;
     Ok(())
 }

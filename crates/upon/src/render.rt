@@ -1,6 +1,7 @@
 // Renderings: what they are made on, where they go, and what templates see while they run.
+pub use crate::sources::{CallName, OneTemplate, TemplateFn, TemplateMap};
 pub use upon_engine::renderer::Renderer;
-pub use upon_engine::sources::{CallName, EngineTemplates, TemplateFn, TemplateSource};
+pub use upon_engine::sources::{EngineTemplates, TemplateSource};
 pub use upon_engine::values::{Context, SerdeContext, SourceValues};
 pub use upon_fmt::output::{Mark, Output, Writer};
 pub use upon_render::iter::LoopState;

@@ -130,7 +130,7 @@ impl Format for NoNone {
     }
 }
 
-/// An engine with all of them.
+/// Returns an engine with all of them.
 pub fn engine<'e>(alloc: Global) -> Result<Engine<'e>, AllocError> {
     let mut engine = Engine::new(alloc);
     let double = Box::new(alloc, Fn1::new(Double))?;

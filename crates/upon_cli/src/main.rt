@@ -6,7 +6,7 @@ use std::io::{BufWriter, Write};
 use std::process::ExitCode;
 use std::{env, io};
 
-/// The status where the arguments can't be read.
+/// The status if the arguments can't be read.
 const UNREADABLE_ARGUMENTS: u8 = 2;
 
 /// How many bytes of output are held until they are written.

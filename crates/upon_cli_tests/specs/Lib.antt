@@ -1,3 +1,2 @@
 pub mod Callables
 pub mod Formatters
-pub mod Sources

@@ -4,10 +4,11 @@ ghost use Rattle.upon_cli_tests.specs.Callables.{prefixed};
 
 use std::alloc::{AllocError, Global};
 use std::borrow::CowStr;
+use std::collections::BTreeMap;
 use std::test::Fail;
 use upon::functions::{Call1S, Fn1S};
-use upon::render::{SourceError, TemplateSource};
-use upon::{Engine, Result, Syntax, Template, Value, value};
+use upon::render::{OneTemplate, TemplateMap};
+use upon::{Engine, Result, Syntax, value};
 
 fn page(alloc: Global) -> Result<String> {
     let mut engine = Engine::new(alloc);
@@ -87,60 +88,43 @@ fn generates_code(rt: HostRuntime) -> std::result::Result<(), Fail> {
     Ok(())
 }
 
-/// One template under each name.
-#[derive(Clone, Copy)]
-struct Only<'r> {
-    template: &'r Template<'r>,
-}
-
-impl<'r> TemplateSource<'r> for Only<'r> {
-    ghost use Rattle.std.specs.Prelude.{[]};
-    ghost use Rattle.upon.specs.TemplateSpans.{handed_on_lie};
-    ghost use Rattle.upon_engine.specs.HandsOn.{hands_on};
-    ghost use Rattle.upon_cli_tests.specs.Sources.{one_template};
-
-    ghost State = { Unit {0} };
-
-    ghost template_state = { λ _. tt };
-
-    ghost resolve = { λ s. hands_on (one_template s.template.now) };
-
-    ghost holds = { λ _. [] };
-
-    ghost templates_lie = { λ s. handed_on_lie (one_template s.template.now) };
-
-    fn template(&mut self, _name: &str) -> std::result::Result<&'r Template<'r>, SourceError> {
-        Ok(self.template)
-    }
-}
-
-fn settings(
-    engine: &Engine<'_>,
-    file: &Template<'_>,
-    entry: &Template<'_>,
-    context: &Value,
-) -> Result<String> {
-    let templates = Only {
-        template: entry.lent(),
-    };
-    file.render_from(engine, context)
-        .with_template_fn(templates)
-        .to_string()
-}
-
 fn configuration(alloc: Global) -> Result<String> {
     let engine = Engine::new(alloc);
     let entry = engine.compile(CowStr::Borrowed("{{ key }} = {{ value }}\n"))?;
     let loop_over = "{% for key, value in settings %}{% include \"entry\" %}{% endfor %}";
     let file = engine.compile(CowStr::Borrowed(loop_over))?;
     let context = value! { in alloc; settings: {port: 80, host: "localhost"} }?;
-    settings(&engine, &file, &entry, &context)
+    file.render_from(&engine, &context)
+        .with_template_fn(OneTemplate::new(&entry))
+        .to_string()
 }
 
 #[test]
 fn renders_a_configuration(rt: HostRuntime) -> std::result::Result<(), Fail> {
     let text = configuration(rt.alloc())?;
     assert_eq!(rt; text.as_str(), "host = localhost\nport = 80\n");
+    Ok(())
+}
+
+fn letter(alloc: Global) -> Result<String> {
+    let engine = Engine::new(alloc);
+    let mut parts = BTreeMap::new(alloc);
+    let head = engine.compile(CowStr::Borrowed("Dear {{ name }},\n"))?;
+    parts.insert(String::from_str(alloc, "head")?, head)?;
+    let text = "{% include \"head\" %}thank you.\n";
+    let letter = engine.compile(CowStr::Borrowed(text))?;
+    let context = value! { in alloc; name: "Ann" }?;
+    let templates = TemplateMap::new(alloc, &parts);
+    let letter = letter
+        .render_from(&engine, &context)
+        .with_template_fn(templates);
+    letter.to_string()
+}
+
+#[test]
+fn writes_a_letter(rt: HostRuntime) -> std::result::Result<(), Fail> {
+    let text = letter(rt.alloc())?;
+    assert_eq!(rt; text.as_str(), "Dear Ann,\nthank you.\n");
     Ok(())
 }
 

@@ -1,11 +1,12 @@
 -- The spans in the tree of a template lie in its text, and those of templates that a source hands on.
-use Rattle.std.proofs.Common.{◌≡◌, ℕ, List, subst}
+use Rattle.std.proofs.Common.{◌≡◌, ℕ, List, Option, option_map, subst}
 use Rattle.upon_types.specs.TreeSpans.{TreeLiesIn}
 use Rattle.upon_render.specs.Finding.{Reply}
 use Rattle.upon_render.specs.Source.{SourceAnswer, says, refuses}
-use Rattle.upon_meaning_spec.specs.Engine.{Template as Meant}
+use Rattle.upon_meaning_spec.specs.Engine.{Template as Meant, from_table}
 use Rattle.upon_meaning_spec.specs.RenderFaults.{TemplatesLie}
 use Rattle.upon_compiled_spec.proofs.CompiledTree.{spans}
+use Rattle.upon_compiled_spec.proofs.Templates.{map_lies}
 use Rattle.upon_engine.specs.HandsOn.{shown_answer, hands_on}
 use Rattle.upon_engine.specs.Template.{template_source, template_syntax, template_tree, template_of}
 use Rattle.upon_engine.specs.declared.template.Template.{Template}
@@ -24,3 +25,7 @@ answer_lies shows lies (refuses text) t is = absurd cc
 -- what a source owes whose answers refuse or hand on a template
 pub handed_on_lie : {T : Type 0} (answers : T → List ℕ → Reply T (SourceAnswer Template)) → TemplatesLie (hands_on answers)
 handed_on_lie answers q name t is = answer_lies template_of template_lies (answers q name).answer t is
+
+-- what a source owes that has templates by their names
+pub held_lie : {T : Type 0} (held : List ℕ → Option Template) → TemplatesLie {T = T} (from_table (λ name. option_map template_of (held name)))
+held_lie held = map_lies template_of template_lies held

@@ -7,11 +7,11 @@ use Rattle.upon_before_spec.specs.Grammar.{HasTree as HadTree}
 use Rattle.upon_before_spec.specs.Now.{statements_now}
 use Rattle.upon_before_spec.specs.Tree.{Statements as StatementsBefore}
 
--- where the text had a tree, this is that tree
+-- if the text had a tree, this is that tree
 abbrev pub KeepsOldTree : List DelimiterText → List ℕ → Statements → Type 0
 KeepsOldTree delimiters s now = (tree : StatementsBefore) → HadTree delimiters s tree → now ≡ statements_now tree
 
--- there is a template; where the text had a tree, the template has that tree
+-- there is a template; if the text had a tree, the template has that tree
 abbrev pub KeepsOldTemplate : List DelimiterText → List ℕ → Option Template → Type 0
 KeepsOldTemplate delimiters s None = ⊥
 KeepsOldTemplate delimiters s (Some t) = KeepsOldTree delimiters s t.tree

@@ -48,7 +48,7 @@ templates_in r = r.templates
 abbrev pub template_in : {E V T : Type 0} → Renderer E V T → Template
 template_in r = template_of r.template.now
 
--- its name, where it has one
+-- its name, if it has one
 abbrev pub name_in : {E V T : Type 0} → Renderer E V T → Option (List ℕ)
 name_in r = option_map (λ name. name.now) r.name
 

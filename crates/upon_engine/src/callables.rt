@@ -14,9 +14,12 @@ impl<'r, 'e> Callables for &'r Engine<'e> {
     ghost use Rattle.upon_meaning_spec.specs.DefaultFormat.{formatter_or_default};
     ghost use Rattle.upon_engine.specs.Engine.{engine_of};
 
-    ghost callables = { λ e. (engine_of (λ f. (Format-box f).formats f.value) (λ f. (Function-box f).answers f.value) e.now).callables };
+    ghost callables = { λ e. (engine_of (λ f. (Format-box f).formats f.value) (λ f. (Function-box f).answers f.value)
+        e.now).callables };
 
-    ghost default_formatter = { λ e. formatter_or_default (engine_of (λ f. (Format-box f).formats f.value) (λ f. (Function-box f).answers f.value) e.now).default_formatter };
+    ghost default_formatter = { λ e. formatter_or_default
+        (engine_of (λ f. (Format-box f).formats f.value) (λ f. (Function-box f).answers f.value)
+        e.now).default_formatter };
 
     fn get(&self, name: &str) -> Option<EngineCallable> {
         match self.callable(name) {
@@ -61,7 +64,7 @@ pub trait EngineView {
     // The delimiters that it compiles with.
     ghost syntax_view: { Self → List DelimiterText };
 
-    /// How deep includes may go in renderings that do not set it themselves.
+    /// Returns how deep includes may go in renderings that do not set it themselves.
     fn max_include_depth(&self) -> usize
         ensures { result ≡ (engine_view self.now).depth };
 }
@@ -69,7 +72,8 @@ pub trait EngineView {
 impl<'r, 'e> EngineView for &'r Engine<'e> {
     ghost use Rattle.upon_engine.specs.Engine.{engine_of, engine_syntax};
 
-    ghost engine_view = { λ e. engine_of (λ f. (Format-box f).formats f.value) (λ f. (Function-box f).answers f.value) e.now };
+    ghost engine_view = { λ e. engine_of (λ f. (Format-box f).formats f.value) (λ f. (Function-box f).answers f.value)
+        e.now };
 
     ghost syntax_view = { λ e. engine_syntax e.now };
 

@@ -24,8 +24,8 @@ use upon_syntax::compile::search::Searcher;
 use upon_syntax::types::syntax::Syntax;
 use upon_types::error::{Error, ErrorKind, Result};
 
-/// The template of a text under a syntax. A text that has no tree is refused, with its first fault; out of memory has the
-/// kind `OutOfMemory`. A text that had a tree before `for .. else` has that tree.
+/// Returns the template of a text under a syntax. A text that has no tree is refused, with its first fault; out of
+/// memory has the kind `OutOfMemory`. A text that had a tree before `for .. else` has that tree.
 pub fn template<'s>(alloc: Global, syntax: &Syntax, source: CowStr<'s>) -> Result<Template<'s>>
     ensures source { IfOk result (λ t. template_source t ≡ cow_str_bytes source.entry) }
     ensures syntax { IfOk result (λ t. template_syntax t ≡ syntax_delimiters syntax.now) }
@@ -48,7 +48,7 @@ pub fn template<'s>(alloc: Global, syntax: &Syntax, source: CowStr<'s>) -> Resul
     Ok(Template::from_parts(source, searcher.into_syntax(), instrs))
 }
 
-/// The same over the delimiters of a searcher.
+/// Does the same over the delimiters of a searcher.
 pub(crate) fn with_searcher<'s>(
     alloc: Global,
     searcher: &Searcher,
@@ -86,7 +86,7 @@ fn compiled(alloc: Global, searcher: &Searcher, source: &str) -> Result<Vec<Inst
     Ok(Compiler::new(alloc).compile_template(tree)?)
 }
 
-/// The same for the template of a name, which its fault has.
+/// Does the same for the template of a name, which its fault has.
 pub(crate) fn with_name<'s>(
     alloc: Global,
     searcher: &Searcher,

@@ -69,7 +69,7 @@ impl<'e> Engine<'e> {
         }
     }
 
-    /// The same as [`Engine::new`].
+    /// Does the same as [`Engine::new`].
     pub fn default(alloc: Global) -> Engine<'e>
         ensures templates { (name : List ℕ) → (engine_of (λ f. formats f) (λ f. answers f) result).templates name
             ≡ None }
@@ -111,12 +111,12 @@ impl<'e> Engine<'e> {
         self.default_formatter = Some(formatter);
     }
 
-    /// What takes memory for texts, lists and maps.
+    /// Returns what takes memory for texts, lists and maps.
     pub(crate) fn alloc(&self) -> Global {
         self.alloc
     }
 
-    /// How deep includes may go.
+    /// Returns how deep includes may go.
     pub(crate) fn depth(&self) -> usize
         ensures { result ≡ engine_depth self.now }
     {
@@ -198,7 +198,7 @@ impl<'e> Engine<'e> {
         self.templates.remove(name).is_some()
     }
 
-    /// The template of a name.
+    /// Returns the template of a name.
     pub(crate) fn held(&self, name: &str) -> Option<&Template<'e>>
         ensures { option_map (λ t. template_of t.now) result
             ≡ (engine_of (λ f. formats f) (λ f. answers f) self.now).templates name.now }
@@ -218,7 +218,7 @@ impl<'e> Engine<'e> {
         }
     }
 
-    /// The templates by their names.
+    /// Returns the templates by their names.
     pub(crate) fn templates(&self) -> &BTreeMap<String, Template<'e>>
         ensures { result.now ≡ self.now.templates }
     {
@@ -227,7 +227,7 @@ impl<'e> Engine<'e> {
 }
 
 impl Callable {
-    /// Whether it is a formatter or a function.
+    /// Returns whether it is a formatter or a function.
     pub(crate) fn kind(&self) -> EngineCallable
         ensures { result ≡ sort_of (callable_of (λ f. formats f) (λ f. answers f) self.now) }
     {
@@ -330,14 +330,14 @@ impl<'e> Engine<'e> {
         }
     }
 
-    /// The callable of a name.
+    /// Returns the callable of a name.
     pub(crate) fn callable(&self, name: &str) -> Option<&Callable>
         ensures { option_map (λ c. c.now) result ≡ get_by_text self.now.callables name.now }
     {
         self.callables.get(name)
     }
 
-    /// The default formatter that was set.
+    /// Returns the default formatter that was set.
     pub(crate) fn formatter(&self) -> Option<&Box<dyn Format>>
         ensures { option_map (λ f. f.now) result ≡ self.now.default_formatter }
     {

@@ -11,7 +11,7 @@ ghost use Rattle.upon_engine.specs.Texts.{texts_of};
 
 use crate::engine::Engine;
 
-/// A text without a delimiter renders as itself, on each value and under each name.
+/// States that a text without a delimiter renders as itself, on each value and under each name.
 pub fn plain_text(engine: &Engine<'_>)
     // What a rendering of such a text answers is the text, or that memory is out.
     ensures { let engine = texts_of (λ f. formats f) (λ f. answers f) engine.now in
@@ -19,7 +19,7 @@ pub fn plain_text(engine: &Engine<'_>)
         → IsPlain engine.syntax source → AnswersFor engine name source v result → IsText source result }
 {}
 
-/// What rendering a text answers is what a writer receives that takes all.
+/// States that what rendering a text answers is what a writer receives that takes all.
 pub fn text_is_sent(engine: &Engine<'_>)
     // If the source has a tree, and both renderings of it end well, the writer has received the text of the one.
     ensures { let engine = texts_of (λ f. formats f) (λ f. answers f) engine.now in

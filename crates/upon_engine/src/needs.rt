@@ -54,8 +54,8 @@ impl<'n> Needs<'n> {
         self.templates.as_slice()
     }
 
-    /// Returns the names of includes that no template of the engine has, in the template and in those that it reaches, in
-    /// ascending order, each once.
+    /// Returns the names of includes that no template of the engine has, in the template and in those that it reaches,
+    /// in ascending order, each once.
     pub fn missing(&self) -> &[&'n str]
         ensures { texts result.now ≡ missing_names self.now }
     {
@@ -71,7 +71,7 @@ impl<'n> Needs<'n> {
 }
 
 impl<'s> Template<'s> {
-    /// The names to which links lead.
+    /// Returns the names to which links lead.
     fn linked<'t>(&'t self, by: Links<'_>) -> Result<Vec<&'t str>, AllocError>
         ensures { IfOk result (λ v. (name : List ℕ)
             → Lists (texts v.items) name ↔ link by.entry (template_tree self.now) name) }
@@ -83,7 +83,7 @@ impl<'s> Template<'s> {
     }
 }
 
-/// The template of a name.
+/// Returns the template of a name.
 fn template_named<'t, 'e>(
     templates: &'t BTreeMap<String, Template<'e>>,
     name: &str,
@@ -159,7 +159,7 @@ fn follow<'t, 'e>(
     Ok(())
 }
 
-/// The names to which links lead from a template.
+/// Returns the names to which links lead from a template.
 fn search<'t, 'e>(
     templates: &'t BTreeMap<String, Template<'e>>,
     from: &'t Template<'e>,
@@ -179,7 +179,7 @@ fn search<'t, 'e>(
     Ok(seen)
 }
 
-/// Whether a name has a template that begins such a path.
+/// Returns whether a name has a template that begins such a path.
 fn begins_in(templates: &BTreeMap<String, Template<'_>>, name: &str, start: PathStart<'_>) -> bool
     ensures { (result ≡ true) ↔ HeldBegins (table_in templates.now name.now) (start_of start.entry) }
 {
@@ -189,7 +189,7 @@ fn begins_in(templates: &BTreeMap<String, Template<'_>>, name: &str, start: Path
     }
 }
 
-/// Whether a template of one of the names begins such a path.
+/// Returns whether a template of one of the names begins such a path.
 fn one_begins(
     templates: &BTreeMap<String, Template<'_>>,
     names: BTreeSet<&str>,
@@ -206,7 +206,7 @@ fn one_begins(
     false
 }
 
-/// Whether such a path is asked of the context.
+/// Returns whether such a path is asked of the context.
 fn is_needed<'t, 'e>(
     templates: &'t BTreeMap<String, Template<'e>>,
     from: &'t Template<'e>,
@@ -237,7 +237,7 @@ fn insert_begun<'t, 'e>(
     Ok(())
 }
 
-/// The names that begin paths in a template, outside of what binds them, or in those of some names.
+/// Returns the names that begin paths in a template, outside of what binds them, or in those of some names.
 fn begun<'t, 'e>(
     templates: &'t BTreeMap<String, Template<'e>>,
     from: &'t Template<'e>,
@@ -274,7 +274,7 @@ fn needed<'t, 'e>(
     ascending(alloc, needed)
 }
 
-/// Whether a name has a template, or whether it has none.
+/// Returns whether a name has a template, or whether it has none.
 fn has_template(templates: &BTreeMap<String, Template<'_>>, name: &str, have: bool) -> bool
     ensures { (result ≡ true) ↔ (is_some (table_in templates.now name.now) ≡ have) }
 {
@@ -304,7 +304,7 @@ fn with_template<'t>(
     ascending(alloc, chosen)
 }
 
-/// What a template needs.
+/// Returns what a template needs.
 fn needs_of<'t, 'e>(
     templates: &'t BTreeMap<String, Template<'e>>,
     from: &'t Template<'e>,
@@ -338,10 +338,10 @@ fn needs_of<'t, 'e>(
 }
 
 impl<'e> Engine<'e> {
-    /// Returns what the template of a name needs, or `None` if there is none of this name: the names that it takes from its
-    /// context, itself or through the templates that it includes; these templates; and the names of includes that no template
-    /// of the engine has. Includes may come back to a template. An error comes only when memory is out. It takes time in
-    /// proportion to the names times the instructions of the template and those that it reaches.
+    /// Returns what the template of a name needs, or `None` if there is none of this name: the names that it takes from
+    /// its context, itself or through the templates that it includes; these templates; and the names of includes that
+    /// no template of the engine has. Includes may come back to a template. An error comes only when memory is out. It
+    /// takes time in proportion to the names times the instructions of the template and those that it reaches.
     pub fn needs(&self, name: &str) -> Option<Result<Needs<'_>, AllocError>>
         // A name is among those needed exactly if the template needs it of its context.
         ensures names { let table = (engine_of (λ f. formats f) (λ f. answers f) self.now).templates in

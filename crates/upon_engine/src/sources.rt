@@ -30,11 +30,12 @@ pub trait TemplateSource<'r>: Drop {
     /// The spans in the trees of all templates that answer lie in their texts.
     ghost templates_lie: { (s : Self) → TemplatesLie (resolve s) };
 
-    /// The template of this name.
+    /// Returns the template of this name.
     fn template(&mut self, name: &str) -> Result<&'r Template<'r>, SourceError>
         ensures same { holds self.new ≡ holds self.old }
         ensures stays { resolve self.new ≡ resolve self.old }
-        ensures resolved { Asked (λ t. template_of t.now) result (template_state self.new) (resolve self.old (template_state self.old) name.now) };
+        ensures resolved { Asked (λ t. template_of t.now) result (template_state self.new)
+            (resolve self.old (template_state self.old) name.now) };
 }
 
 impl<'r, S: TemplateSource<'r>> TemplateSource<'r> for &mut S {
@@ -74,11 +75,13 @@ impl<'r, 'e> TemplateSource<'r> for EngineTemplates<'r, 'e> {
 
     ghost template_state = { λ _. tt };
 
-    ghost resolve = { λ s. from_table (engine_of (λ f. (Format-box f).formats f.value) (λ f. (Function-box f).answers f.value) s.engine.now).templates };
+    ghost resolve = { λ s. from_table (engine_of
+        (λ f. (Format-box f).formats f.value) (λ f. (Function-box f).answers f.value) s.engine.now).templates };
 
     ghost holds = { λ _. [] };
 
-    ghost templates_lie = { λ s. map_lies template_of (λ t. spans (template_syntax t) (template_source t) t.instrs.items t.is_compiled)
+    ghost templates_lie = { λ s. map_lies template_of
+        (λ t. spans (template_syntax t) (template_source t) t.instrs.items t.is_compiled)
         (get_by_text s.engine.now.templates) };
 
     fn template(&mut self, name: &str) -> Result<&'r Template<'r>, SourceError> {
@@ -89,59 +92,6 @@ impl<'r, 'e> TemplateSource<'r> for EngineTemplates<'r, 'e> {
                 Err(_) => Err(SourceError::Memory),
             },
         }
-    }
-}
-
-/// A function from names to templates, which may keep a state. It is named by a type, since no field can hold a fact about
-/// a closure.
-pub trait CallName<'r>: Drop {
-    // What its answers depend on, beside the name.
-    ghost State: { Type 0 };
-
-    ghost name_state: { Self → State };
-
-    // The answer and the next state, in each state and for each name.
-    ghost answers_name: { Resolver State };
-
-    // The spans in the trees of all templates that answer lie in their texts.
-    ghost answers_lie: { TemplatesLie answers_name };
-
-    /// The template of this name. The error is `Refused` where the function refuses, and `Memory` where memory is out.
-    fn call(&mut self, name: &str) -> Result<&'r Template<'r>, SourceError>
-        ensures { Asked (λ t. template_of t.now) result (name_state self.new) (answers_name (name_state self.old) name.now) };
-}
-
-/// The source that is a function.
-#[derive(Drop)]
-pub struct TemplateFn<C> {
-    /// The function.
-    pub callable: C,
-}
-
-impl<C> TemplateFn<C> {
-    /// The source that calls this function.
-    pub fn new(callable: C) -> Self
-        ensures { result.callable ≡ callable }
-    {
-        TemplateFn { callable }
-    }
-}
-
-impl<'r, C: CallName<'r>> TemplateSource<'r> for TemplateFn<C> {
-    ghost use Rattle.std.specs.Prelude.{[]};
-
-    ghost State = { C.State };
-
-    ghost template_state = { λ s. C.name_state s.callable };
-
-    ghost resolve = { λ _. C.answers_name };
-
-    ghost holds = { λ _. [] };
-
-    ghost templates_lie = { λ _. C.answers_lie };
-
-    fn template(&mut self, name: &str) -> Result<&'r Template<'r>, SourceError> {
-        self.callable.call(name)
     }
 }
 
@@ -207,7 +157,7 @@ impl<'r, T: TemplateSource<'r>> ProgramSource<'r> for Programs<T> {
     }
 }
 
-/// The program of a template that is lent.
+/// Returns the program of a template that is lent.
 pub(crate) fn program_of<'r>(template: &'r Template<'r>) -> Program<'r>
     ensures { IsProgramOf result (template_of template.entry.now) }
 {

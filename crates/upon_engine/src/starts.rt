@@ -22,7 +22,7 @@ pub(crate) enum PathStart<'n> {
     Index,
 }
 
-/// Whether an instruction's path begins with an index.
+/// Returns whether an instruction's path begins with an index.
 fn has_index(instr: &Instr) -> bool
     ensures { result ≡ has_index (instr_of instr.now) }
 {
@@ -35,7 +35,7 @@ fn has_index(instr: &Instr) -> bool
     }
 }
 
-/// The name of the template that an instruction includes without a value.
+/// Returns the name of the template that an instruction includes without a value.
 fn plain_include(instr: &Instr) -> Option<&str>
     ensures { option_map (λ name. name.now) result ≡ plain_include (instr_of instr.now) }
 {
@@ -46,7 +46,7 @@ fn plain_include(instr: &Instr) -> Option<&str>
 }
 
 impl<'s> Template<'s> {
-    /// Whether a path begins with an index.
+    /// Returns whether a path begins with an index.
     fn begins_by_index(&self) -> bool
         ensures { result ≡ begins_by_index (program_of (template_tree self.now)) }
     {
@@ -59,7 +59,7 @@ impl<'s> Template<'s> {
         false
     }
 
-    /// The names of the templates that are included without a value, in order.
+    /// Returns the names of the templates that are included without a value, in order.
     fn plain_includes(&self) -> Result<Vec<&str>, AllocError>
         ensures { IfOk result (λ v. texts v.items ≡ plain_includes (program_of (template_tree self.now))) }
     {
@@ -73,7 +73,7 @@ impl<'s> Template<'s> {
         Ok(names)
     }
 
-    /// The names of the templates that are included without a value outside of what binds the name, in order.
+    /// Returns the names of the templates that are included without a value outside of what binds the name, in order.
     fn passes<'t>(&'t self, name: &str) -> Result<Vec<&'t str>, AllocError>
         ensures { IfOk result (λ v. texts v.items ≡ passes name.now (program_of (template_tree self.now))) }
     {
@@ -91,7 +91,7 @@ impl<'s> Template<'s> {
         Ok(names)
     }
 
-    /// Whether such a path begins outside of what binds it.
+    /// Returns whether such a path begins outside of what binds it.
     pub(crate) fn begins_by(&self, start: PathStart<'_>) -> bool
         ensures { (result ≡ true) ↔ StatementsBegin (start_of start.entry) (template_tree self.now) }
     {
@@ -101,7 +101,7 @@ impl<'s> Template<'s> {
         }
     }
 
-    /// The names of the templates that are included without a value outside of what binds such a path.
+    /// Returns the names of the templates that are included without a value outside of what binds such a path.
     pub(crate) fn passes_by<'t>(&'t self, start: PathStart<'_>) -> Result<Vec<&'t str>, AllocError>
         ensures { IfOk result (λ v. (name : List ℕ)
             → Lists (texts v.items) name ↔ StatementsPass (start_of start.entry) name (template_tree self.now)) }

@@ -24,7 +24,7 @@ impl<'s> Template<'s> {
     ghost use Rattle.upon_instructions.specs.Program.{program_view};
     ghost use Rattle.upon_engine.specs.Template.{template_source, template_syntax, template_tree};
 
-    /// The template of a text under a syntax, with the program of its only tree.
+    /// Creates the template of a text under a syntax, with the program of its only tree.
     pub(crate) fn from_parts(source: CowStr<'s>, syntax: Syntax, instrs: Vec<Instr>) -> Template<'s>
         requires { HasProgram (syntax_delimiters syntax) (cow_str_bytes source) instrs.items }
         ensures source { template_source result ≡ cow_str_bytes source.entry }
@@ -37,7 +37,7 @@ impl<'s> Template<'s> {
         }
     }
 
-    /// The text that the template was compiled from.
+    /// Returns the text that the template was compiled from.
     pub fn source(&self) -> &str
         ensures source { result.now ≡ template_source self.now }
         ensures has_tree { ∥ HasTree (template_syntax self.now) (template_source self.now) (template_tree self.now) ∥₁ }
@@ -58,12 +58,12 @@ impl<'s> Template<'s> {
         self.instrs.as_slice()
     }
 
-    /// What took memory for its instructions.
+    /// Returns what took memory for its instructions.
     pub(crate) fn alloc(&self) -> Global {
         *self.instrs.allocator()
     }
 
-    /// The same template, lent for a shorter time.
+    /// Returns the same template, lent for a shorter time.
     pub fn lent(&self) -> &Template<'_>
         ensures { result.now ≡ self.now }
     {

@@ -17,7 +17,7 @@ use std::collections::BTreeSet;
 use upon_instructions::types::program::Instr;
 use upon_types::types::ast::{Access, LoopVars};
 
-/// The name that begins an instruction's path.
+/// Returns the name that begins an instruction's path.
 fn path_name(instr: &Instr) -> Option<&str>
     ensures { option_map (λ name. name.now) result ≡ path_name (instr_of instr.now) }
 {
@@ -30,7 +30,7 @@ fn path_name(instr: &Instr) -> Option<&str>
     }
 }
 
-/// The name of the template that an instruction includes.
+/// Returns the name of the template that an instruction includes.
 fn any_include(instr: &Instr) -> Option<&str>
     ensures { option_map (λ name. name.now) result ≡ any_include (instr_of instr.now) }
 {
@@ -41,7 +41,7 @@ fn any_include(instr: &Instr) -> Option<&str>
     }
 }
 
-/// Whether a name is there, and is this one.
+/// Returns whether a name is there, and is this one.
 fn is_this(name: &str, other: Option<&str>) -> bool
     ensures { result ≡ is_this name.now (option_map (λ name. name.now) other.entry) }
 {
@@ -51,7 +51,7 @@ fn is_this(name: &str, other: Option<&str>) -> bool
     }
 }
 
-/// Whether a loop binds the name: by a variable, or as its state.
+/// Returns whether a loop binds the name: by a variable, or as its state.
 fn loop_binds(name: &str, vars: &LoopVars) -> bool
     ensures { result ≡ loop_binds name.now (loop_vars_of vars.now) }
 {
@@ -63,7 +63,8 @@ fn loop_binds(name: &str, vars: &LoopVars) -> bool
     }
 }
 
-/// How many open blocks there are from the outermost on that binds a name, after one more begins, which binds it or not.
+/// Returns how many open blocks there are from the outermost on that binds a name, after one more begins, which binds
+/// it or not.
 fn block_begins(binds: bool, count: usize) -> usize
     requires { count < 2 ^ 64 - 1 }
     ensures { result ≡ count_at_begin binds count }
@@ -111,7 +112,7 @@ pub(crate) fn insert_all<'n>(
     Ok(())
 }
 
-/// Puts a name into a set where it is so.
+/// Puts a name into a set if it is so.
 pub(crate) fn insert_if<'n>(
     names: &mut BTreeSet<&'n str>,
     name: &'n str,
@@ -127,7 +128,7 @@ pub(crate) fn insert_if<'n>(
     Ok(())
 }
 
-/// The names of a set, in ascending order.
+/// Returns the names of a set, in ascending order.
 pub(crate) fn ascending<'n>(
     alloc: Global,
     names: BTreeSet<&'n str>,
@@ -144,7 +145,7 @@ pub(crate) fn ascending<'n>(
 }
 
 impl<'s> Template<'s> {
-    /// Whether the name begins a path outside of what binds it.
+    /// Returns whether the name begins a path outside of what binds it.
     pub(crate) fn begins(&self, name: &str) -> bool
         ensures { result ≡ begins name.now (program_of (template_tree self.now)) }
     {
@@ -160,7 +161,7 @@ impl<'s> Template<'s> {
         false
     }
 
-    /// The names of the templates that are included, in order.
+    /// Returns the names of the templates that are included, in order.
     pub(crate) fn each_include(&self) -> Result<Vec<&str>, AllocError>
         ensures { IfOk result (λ v. texts v.items ≡ includes (program_of (template_tree self.now))) }
     {
@@ -174,7 +175,7 @@ impl<'s> Template<'s> {
         Ok(names)
     }
 
-    /// The names that begin paths, in order, whatever binds them.
+    /// Returns the names that begin paths, in order, whatever binds them.
     pub(crate) fn each_path_name(&self) -> Result<Vec<&str>, AllocError>
         ensures { IfOk result (λ v. texts v.items ≡ path_names (program_of (template_tree self.now))) }
     {
@@ -188,9 +189,9 @@ impl<'s> Template<'s> {
         Ok(names)
     }
 
-    /// Returns the names that the template takes from its context, in ascending order, each once: those that begin a path
-    /// outside of each `with` and `for` that binds them. Included templates are not looked into. An error comes only when
-    /// memory is out. It takes time in proportion to the names of paths times the instructions.
+    /// Returns the names that the template takes from its context, in ascending order, each once: those that begin a
+    /// path outside of each `with` and `for` that binds them. Included templates are not looked into. An error comes
+    /// only when memory is out. It takes time in proportion to the names of paths times the instructions.
     pub fn names_needed(&self) -> Result<Vec<&str>, AllocError>
         ensures needed { IfOk result (λ names. (name : List ℕ)
             → Contains (texts names.items) name ↔ StatementsBegin (a_name name) (template_tree self.now)) }
@@ -206,8 +207,8 @@ impl<'s> Template<'s> {
         ascending(alloc, needed)
     }
 
-    /// Returns the names of the templates that the template includes, in ascending order, each once; what they include is
-    /// not looked into. An error comes only when memory is out.
+    /// Returns the names of the templates that the template includes, in ascending order, each once; what they include
+    /// is not looked into. An error comes only when memory is out.
     pub fn includes(&self) -> Result<Vec<&str>, AllocError>
         ensures included { IfOk result (λ names. (name : List ℕ)
             → Contains (texts names.items) name ↔ Includes name (template_tree self.now)) }

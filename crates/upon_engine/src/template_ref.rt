@@ -63,7 +63,7 @@ impl<'e> Engine<'e> {
 }
 
 impl<'r, 'e> TemplateRef<'r, 'e> {
-    /// The text that the template was compiled from.
+    /// Returns the text that the template was compiled from.
     pub fn source(self) -> &'r str
         ensures { result.now ≡ (ref_template self.entry).source }
     {

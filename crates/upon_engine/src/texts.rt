@@ -11,7 +11,7 @@ pub trait EngineTexts {
     // The texts that it holds by their names, its callables, the default formatter, the depth, and its delimiters.
     ghost texts: { Self → Texts };
 
-    /// How deep includes may go in renderings that do not set it themselves.
+    /// Returns how deep includes may go in renderings that do not set it themselves.
     fn include_depth(&self) -> usize
         ensures { result ≡ (texts self.now).depth };
 }

@@ -89,7 +89,7 @@ impl<'e> Engine<'e> {
     }
 }
 
-/// The texts that an engine holds have exactly one table of trees.
+/// States that the texts that an engine holds have exactly one table of trees.
 pub fn one_table(engine: &Engine<'_>)
     // There is a table whose entries are trees of the texts, and each such table is this one.
     ensures { let texts = (texts_of (λ f. formats f) (λ f. answers f) engine.now).texts in

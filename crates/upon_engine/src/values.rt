@@ -161,7 +161,7 @@ pub struct SourceValues<S> {
 impl<S> SourceValues<S> {
     ghost use Rattle.upon_engine.specs.Sources.{source_in};
 
-    /// The source.
+    /// Returns the source.
     pub fn into_source(self) -> S
         ensures { result ≡ source_in self }
     {

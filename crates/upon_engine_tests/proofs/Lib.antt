@@ -1,1 +1,3 @@
 pub mod Before
+pub mod KeptTexts
+pub mod OnCalls

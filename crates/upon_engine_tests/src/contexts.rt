@@ -5,7 +5,7 @@ use std::borrow::CowStr;
 use std::process::Abort;
 use std::test::Fail;
 use upon::error::ErrorKind;
-use upon::render::{SourceError, TemplateSource};
+use upon::render::OneTemplate;
 use upon::{Engine, Result, Template, value};
 use upon_testing::answers::line_of;
 
@@ -189,35 +189,6 @@ fn depths(rt: HostRuntime) -> std::result::Result<(), Fail> {
     Ok(())
 }
 
-// One template under each name.
-#[derive(Clone, Copy)]
-struct Same<'r> {
-    template: &'r Template<'r>,
-}
-
-impl<'r> TemplateSource<'r> for Same<'r> {
-    ghost use Rattle.std.specs.Prelude.{[]};
-    ghost use Rattle.upon_render.specs.Finding.{reply};
-    ghost use Rattle.upon_render.specs.Source.{says};
-    ghost use Rattle.upon_engine.specs.Template.{template_of};
-    ghost use Rattle.upon_engine.proofs.TemplateSpans.{template_lies};
-    ghost use Rattle.upon_meaning_spec.proofs.FaultsStated.Ends.{one_lies};
-
-    ghost State = { Unit {0} };
-
-    ghost template_state = { λ _. tt };
-
-    ghost resolve = { λ s q _. reply (says (template_of s.template.now)) q };
-
-    ghost holds = { λ _. [] };
-
-    ghost templates_lie = { λ s. one_lies (template_of s.template.now) (template_lies s.template.now) };
-
-    fn template(&mut self, _name: &str) -> std::result::Result<&'r Template<'r>, SourceError> {
-        Ok(self.template)
-    }
-}
-
 // The text of a template on an order, with another template in place of each that it includes.
 fn with_same(
     engine: &Engine<'_>,
@@ -225,12 +196,9 @@ fn with_same(
     included: &Template<'_>,
     order: &Order<'_>,
 ) -> Result<String> {
-    let templates = Same {
-        template: included.lent(),
-    };
     template
         .render(engine, order)
-        .with_template_fn(templates)
+        .with_template_fn(OneTemplate::new(included))
         .to_string()
 }
 

@@ -5,6 +5,7 @@
 mod cached_pages;
 #[cfg(test)]
 mod contexts;
+pub mod kept;
 #[cfg(test)]
 mod needs;
 #[cfg(test)]

@@ -83,8 +83,8 @@ fn names(rt: HostRuntime) -> Result<(), Fail> {
     Ok(())
 }
 
-// What a template of an engine needs, in a line: names, templates, names that no template has, and whether an index begins a
-// path.
+// What a template of an engine needs, in a line: names, templates, names that no template has, and whether an index
+// begins a path.
 fn engine_says(alloc: Global, engine: &Engine<'_>, name: &str, wanted: &str) -> Result<(), Fail> {
     let Some(needs) = engine.needs(name) else {
         return are("none", wanted, name);

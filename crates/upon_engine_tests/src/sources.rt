@@ -2,8 +2,9 @@
 use crate::users::on_source;
 use std::alloc::{AllocError, Global};
 use std::borrow::CowStr;
+use std::collections::BTreeMap;
 use std::test::Fail;
-use upon::render::{CallName, CallPath, SourceError, TemplateFn, ValueFn};
+use upon::render::{CallName, CallPath, SourceError, TemplateFn, TemplateMap, ValueFn};
 use upon::{Engine, Template, Value, ValueMember};
 use upon_testing::answers::line_of;
 
@@ -75,21 +76,15 @@ struct Counted<'r> {
 
 impl<'r> CallName<'r> for Counted<'r> {
     ghost use Rattle.std.specs.Prelude.{ℕ, ◌+◌, ◌%◌, ◌^◌};
-    ghost use Rattle.upon_types.specs.TreeSpans.{TreeLiesIn};
     ghost use Rattle.upon_render.specs.Finding.{reply};
     ghost use Rattle.upon_render.specs.Source.{says};
-    ghost use Rattle.upon_meaning_spec.specs.Engine.{Template};
-    ghost use Rattle.upon_meaning_spec.proofs.FaultsStated.Ends.{one_lies};
-    ghost use Rattle.upon_engine.specs.Template.{template_of};
-    ghost use Rattle.upon_engine.proofs.TemplateSpans.{template_lies};
+    ghost use Rattle.upon_engine.specs.declared.template.Template.{Template};
 
-    ghost State = { (t : Template) × TreeLiesIn t.source t.tree × ℕ };
+    ghost State = { Template × ℕ };
 
-    ghost name_state = { λ s. (template_of s.template.now, template_lies s.template.now, s.asked) };
+    ghost name_state = { λ s. (s.template.now, s.asked) };
 
-    ghost answers_name = { λ q _. reply (says q.0) (q.0, q.1, (q.2 + 1) % 2 ^ 32) };
-
-    ghost answers_lie = { λ q name t e. one_lies q.0 q.1 (tt {0}) name t e };
+    ghost answers_name = { λ q _. reply (says q.0) (q.0, (q.1 + 1) % 2 ^ 32) };
 
     fn call(&mut self, _name: &str) -> std::result::Result<&'r Template<'r>, SourceError> {
         self.asked = self.asked.wrapping_add(1);
@@ -128,6 +123,42 @@ fn templates_that_are_counted(rt: HostRuntime) -> Result<(), Fail> {
     let asked = with_counted(&engine, &template, &included, &mut out)?;
     assert_eq!(&rt; out.as_str(), "x, x");
     assert_eq!(&rt; asked, 2);
+    Ok(())
+}
+
+// Renders a text with the templates of a map in place of the engine's.
+fn by_map(
+    alloc: Global,
+    engine: &Engine<'_>,
+    templates: &BTreeMap<String, Template<'_>>,
+    source: &str,
+) -> upon::Result<String> {
+    let template = engine.compile(CowStr::Borrowed(source))?;
+    template
+        .render_from(engine, &Value::None)
+        .with_template_fn(TemplateMap::new(alloc, templates))
+        .to_string()
+}
+
+#[test]
+fn templates_of_a_map(rt: HostRuntime) -> Result<(), Fail> {
+    let alloc = rt.alloc();
+    let engine = Engine::new(alloc);
+    let mut templates = BTreeMap::new(alloc);
+    for (name, source) in [("a", "x"), ("b", "{% include \"a\" %}y")] {
+        let template = engine.compile(CowStr::Borrowed(source))?;
+        let _ = templates.insert(String::from_str(alloc, name)?, template)?;
+    }
+    for (source, wanted) in [
+        ("{% include \"b\" %}{% include \"a\" %}", "xyx"),
+        (
+            "{% include \"c\" %}",
+            "render error: unknown template at 11..14",
+        ),
+    ] {
+        let text = by_map(alloc, &engine, &templates, source);
+        assert_eq!(&rt; line_of(alloc, text)?.as_str(), wanted);
+    }
     Ok(())
 }
 

@@ -40,13 +40,14 @@ use upon_types::value::Value;
 pub fn on_value(engine: &Engine<'_>, template: &Template<'_>, value: &Value) -> Result<String>
     ensures { AnswersText
         (⟦<&'static Engine<'static> as EngineView>⟧.engine_view engine.entry).depth
-        (alone (rendering_of (⟦<&'static Engine<'static> as EngineView>⟧.engine_view engine.entry) never None) (template_of template.now) None (context (view value.now)) (states (tt {0}) (tt {0})))
+        (alone (rendering_of (⟦<&'static Engine<'static> as EngineView>⟧.engine_view engine.entry) never None)
+        (template_of template.now) None (context (view value.now)) (states (tt {0}) (tt {0})))
         result }
 {
     template.render_from(engine, value).to_string()
 }
 
-/// The text of a template whose text had a tree before `for .. else`: what that tree meant, where each template that it
+/// The text of a template whose text had a tree before `for .. else`: what that tree meant, if each template that it
 /// reaches is one of before too.
 pub fn as_before(engine: &Engine<'_>, template: &Template<'_>, value: &Value) -> Result<String>
     ensures { let e = ⟦<&'static Engine<'static> as EngineView>⟧.engine_view engine.entry in
@@ -69,7 +70,8 @@ pub fn compiled_as_before(engine: &Engine<'_>, source: CowStr<'_>, value: &Value
         → HoldAlike tree before e.templates
         → AnswersText
         e.depth
-        (alone_before (rendering_before e never before) (record { source = s; tree = tree }) None (context (view value.now)) (states (tt {0}) (tt {0})))
+        (alone_before (rendering_before e never before) (record { source = s; tree = tree }) None
+        (context (view value.now)) (states (tt {0}) (tt {0})))
         result }
 {
     let template = engine.compile(source)?;
@@ -84,14 +86,15 @@ pub fn on_data<S: Serialize + Drop>(
 ) -> Result<String>
     ensures { (base : Base) × IsContextOf (λ old new. S.writes context old new) base × AnswersText
         (⟦<&'static Engine<'static> as EngineView>⟧.engine_view engine.entry).depth
-        (outcome_over (rendering_of (⟦<&'static Engine<'static> as EngineView>⟧.engine_view engine.entry) never None) (template_of template.now) None base (states (tt {0}) (tt {0})))
+        (outcome_over (rendering_of (⟦<&'static Engine<'static> as EngineView>⟧.engine_view engine.entry) never None)
+        (template_of template.now) None base (states (tt {0}) (tt {0})))
         result }
 {
     template.render(engine, context).to_string()
 }
 
-/// Writes the text of a template on a source of values that is lent. Where the rendering ended by itself, the source is left
-/// in the next state of the meaning.
+/// Writes the text of a template on a source of values that is lent. If the rendering ended by itself, the source is
+/// left in the next state of the meaning.
 pub fn on_source<S: ValueSource, O: Output>(
     engine: &Engine<'_>,
     template: &Template<'_>,
@@ -105,7 +108,8 @@ pub fn on_source<S: ValueSource, O: Output>(
         result
         (O.given out.old)
         (O.given out.new)
-        (alone (rendering_of (⟦<&'static Engine<'static> as EngineView>⟧.engine_view engine.entry) (S.ask source.old) None) (template_of template.now) None value_source (states (S.value_state source.old) (tt {0})))
+        (alone (rendering_of (⟦<&'static Engine<'static> as EngineView>⟧.engine_view engine.entry) (S.ask source.old)
+        None) (template_of template.now) None value_source (states (S.value_state source.old) (tt {0})))
         (states (S.value_state source.new) (tt {0})) }
 {
     let (result, values, _) = template
@@ -127,7 +131,8 @@ pub fn rendered_twice(engine: &Engine<'_>, source: &str, value: &Value) -> Resul
 
 /// Renders a text. If no delimiter is in it, that is the text itself.
 pub fn rendered_plain(engine: &Engine<'_>, source: &str, value: &Value) -> Result<String>
-    ensures { IsPlain (⟦<&'static Engine<'static> as EngineView>⟧.syntax_view engine.entry) source.now → IsText source.now result }
+    ensures { IsPlain (⟦<&'static Engine<'static> as EngineView>⟧.syntax_view engine.entry) source.now
+        → IsText source.now result }
 {
     plain_text(engine);
     engine.render_text(source, value)
@@ -141,7 +146,8 @@ pub fn needs_of<'n>(
 ) -> Option<std::result::Result<Needs<'n>, AllocError>>
     ensures { let e = ⟦<&'static Engine<'static> as EngineView>⟧.engine_view engine.entry in
         (t : TemplateMeant) → e.templates name.now ≡ Some t → IsSomeAnd result (λ r. IfOk r (λ needs.
-        (these those : Entries) → AgreeOn (Contains (needed_names needs)) (λ n. entry_at n these) (λ n. entry_at n those)
+        (these those : Entries) → AgreeOn (Contains (needed_names needs)) (λ n. entry_at n these)
+        (λ n. entry_at n those)
         → alone (rendering_of e never None) t None (context (map_val these)) (states (tt {0}) (tt {0}))
         ≡ alone (rendering_of e never None) t None (context (map_val those)) (states (tt {0}) (tt {0})))) }
 {

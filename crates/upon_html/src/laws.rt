@@ -11,7 +11,7 @@ ghost use Rattle.upon_html.specs.Escape.{escape, unescape, is_markup, has_markup
 ghost use Rattle.upon_html.specs.Page.{EscapesAll};
 ghost use Rattle.upon_html.specs.Escaped.{escaped};
 
-/// What is written for a value holds none of `<`, `>`, `"` and `'`.
+/// States that what is written for a value holds none of `<`, `>`, `"` and `'`.
 pub fn no_markup()
     ensures { (v : Val) → has_markup (escaped v).text ≡ false }
 {}
@@ -32,7 +32,8 @@ pub fn ampersands()
     ensures { (v : Val) → AmpersandsRefer (escaped v).text }
 {}
 
-/// If each formatter that can be called escapes, a rendering's text is pieces joined of which the raw parts alone hold `<`,
+/// If each formatter that can be called escapes, a rendering's text is pieces joined of which the raw parts alone hold
+/// `<`,
 /// `>`, `"` and `'`: those of the text are those of the raw parts, in their order, whatever the values are.
 pub fn markup_is_raw<V, T>()
     ensures { (rendering : Rendering V T) (t : Template) (name : Option (List ℕ)) (root : Root) (s : States V T)

@@ -36,8 +36,8 @@ pub fn render_text(engine: &Engine<'_>, source: &str, value: &Value) -> Result<S
     page.with_callables(Escaping::new(engine)).to_string()
 }
 
-/// Renders the template of a name on a value, with what each formatter writes escaped, or returns `None` if there is none of
-/// this name.
+/// Renders the template of a name on a value, with what each formatter writes escaped, or returns `None` if there is
+/// none of this name.
 pub fn render_template(engine: &Engine<'_>, name: &str, value: &Value) -> Option<Result<String>>
     // Whatever the template and the value are, the markup of the text is that of raw parts of its templates.
     ensures markup { let texts = ⟦<&'static Engine<'static> as EngineTexts>⟧.texts engine.entry in

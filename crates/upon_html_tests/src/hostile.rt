@@ -38,7 +38,7 @@ pub const ROWS: [Row; 13] = [
     ("a\0<\0\n", "a\0&lt;\0\n"),
 ];
 
-/// A context with this text.
+/// Returns a context with this text.
 pub fn context_of(alloc: Global, text: &str) -> Result<Value> {
     value! { in alloc; x: text }
 }

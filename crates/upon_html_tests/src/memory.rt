@@ -1,5 +1,5 @@
-// Escaped pages where a growth of memory may be refused: the page, or that memory is out. `checks/growths` refuses each in
-// turn.
+// Escaped pages where a growth of memory may be refused: the page, or that memory is out. `checks/growths` refuses each
+// in turn.
 use crate::hostile::{ROWS, context_of};
 use std::alloc::Global;
 use std::borrow::CowStr;

@@ -12,7 +12,8 @@ use upon_html::pages;
 use upon_types::error::Result;
 use upon_types::value::Value;
 
-/// The text of a page on a value. If each formatter that the page can call escapes, its markup is that of raw parts.
+/// Returns the text of a page on a value. If each formatter that the page can call escapes, its markup is that of raw
+/// parts.
 pub fn page(engine: &Engine<'_>, source: &str, value: &Value) -> Result<String>
     ensures { let texts = ⟦<&'static Engine<'static> as EngineTexts>⟧.texts engine.entry in
         (tree : Statements) (table : Table) → HasTree texts.syntax source.now tree → IsTable texts.texts table
@@ -21,7 +22,7 @@ pub fn page(engine: &Engine<'_>, source: &str, value: &Value) -> Result<String>
     engine.render_text(source, value)
 }
 
-/// The same, if the engine's formatters are the escaping one alone.
+/// Returns the same, if the engine's formatters are the escaping one alone.
 pub fn escaped_page(engine: &Engine<'_>, source: &str, value: &Value) -> Result<String>
     ensures { let texts = ⟦<&'static Engine<'static> as EngineTexts>⟧.texts engine.entry in
         (tree : Statements) (table : Table) → HasTree texts.syntax source.now tree → IsTable texts.texts table
@@ -30,7 +31,7 @@ pub fn escaped_page(engine: &Engine<'_>, source: &str, value: &Value) -> Result<
     page(engine, source, value)
 }
 
-/// The text of a page on a value by an engine with any formatters, all of whose texts are escaped.
+/// Returns the text of a page on a value by an engine with any formatters, all of whose texts are escaped.
 pub fn safe_page(engine: &Engine<'_>, source: &str, value: &Value) -> Result<String>
     ensures { let texts = ⟦<&'static Engine<'static> as EngineTexts>⟧.texts engine.entry in
         (tree : Statements) (table : Table) → HasTree texts.syntax source.now tree → IsTable texts.texts table

@@ -11,8 +11,8 @@ pub struct Hoard {
 }
 
 impl Hoard {
-    /// `None` where memory is not used up, as under the checkers of `rt try`: 512 GiB are granted at once, or the pieces
-    /// do not end. An error where the list of pieces finds no memory.
+    /// `None` if memory is not used up, as under the checkers of `rt try`: 512 GiB are granted at once, or the pieces
+    /// do not end. An error if the list of pieces finds no memory.
     pub fn new(alloc: Global) -> Result<Option<Hoard>, AllocError> {
         let pieces = Vec::with_capacity(alloc, PIECES)?;
         let mut hoard = Hoard { pieces };
@@ -31,7 +31,7 @@ impl Hoard {
         Ok(Some(hoard))
     }
 
-    /// The same, with room for so many bytes, and no more.
+    /// Does the same, with room for so many bytes, and no more.
     pub fn with_room(alloc: Global, room: usize) -> Result<Option<Hoard>, AllocError> {
         let mut kept: Vec<Vec<u8>> = Vec::with_capacity(alloc, 1)?;
         kept.push(Vec::with_capacity(alloc, room)?)?;
@@ -54,7 +54,8 @@ impl Hoard {
         }
     }
 
-    // Whether a growth by so many bytes is refused. A piece that is got is kept, so that the compiler leaves the growth in.
+    // Whether a growth by so many bytes is refused. A piece that is got is kept, so that the compiler leaves the growth
+    // in.
     fn refuses(&mut self, alloc: Global, size: usize) -> bool {
         match Vec::with_capacity(alloc, size) {
             Ok(piece) => {
@@ -66,12 +67,12 @@ impl Hoard {
     }
 }
 
-/// Whether each growth is refused, where memory could be used up.
+/// Returns whether each growth is refused, if memory could be used up.
 pub fn is_starved(alloc: Global, hoard: &mut Option<Hoard>) -> bool {
     refuses(alloc, hoard, 1)
 }
 
-/// Whether a growth by so many bytes is refused, where memory could be used up.
+/// Returns whether a growth by so many bytes is refused, if memory could be used up.
 pub fn refuses(alloc: Global, hoard: &mut Option<Hoard>, size: usize) -> bool {
     match hoard {
         Some(hoard) => hoard.refuses(alloc, size),

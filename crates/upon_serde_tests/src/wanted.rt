@@ -7,7 +7,7 @@ use upon_serde::to_value;
 use upon_types::error::{ErrorKind, Result};
 use upon_types::value::Value;
 
-/// The data become this value.
+/// Checks that the data become this value.
 pub fn is<T: Serialize + Drop>(
     rt: &(impl Abort + AllocGlobal),
     data: T,
@@ -17,12 +17,12 @@ pub fn is<T: Serialize + Drop>(
     Ok(())
 }
 
-/// The value is this one.
+/// Checks that the value is this one.
 pub fn is_value(rt: &impl Abort, made: Value, wanted: Value) {
     assert!(rt; made == wanted, "{made:?} where {wanted:?} is wanted");
 }
 
-/// The data are refused for this reason.
+/// Checks that the data are refused for this reason.
 pub fn is_refused<T: Serialize + Drop>(rt: &(impl Abort + AllocGlobal), data: T, reason: &str) {
     match to_value(rt.alloc(), data) {
         Ok(value) => panic!(rt; "{value:?} where {reason} is wanted"),
@@ -35,12 +35,12 @@ pub fn is_refused<T: Serialize + Drop>(rt: &(impl Abort + AllocGlobal), data: T,
     }
 }
 
-/// A text.
+/// Returns a text.
 pub fn text(alloc: Global, text: &str) -> std::result::Result<Value, AllocError> {
     Ok(Value::String(String::from_str(alloc, text)?))
 }
 
-/// A list of integers.
+/// Returns a list of integers.
 pub fn integers(alloc: Global, numbers: &[i64]) -> std::result::Result<Value, AllocError> {
     let mut items = Vec::new(alloc);
     for number in numbers {
@@ -49,19 +49,19 @@ pub fn integers(alloc: Global, numbers: &[i64]) -> std::result::Result<Value, Al
     Ok(Value::List(items))
 }
 
-/// A list of two.
+/// Returns a list of two.
 pub fn two(alloc: Global, first: Value, second: Value) -> std::result::Result<Value, AllocError> {
     Ok(Value::List(vec![in alloc; first, second]?))
 }
 
-/// A map of one entry.
+/// Returns a map of one entry.
 pub fn one(alloc: Global, key: &str, value: Value) -> std::result::Result<Value, AllocError> {
     let mut entries = BTreeMap::new(alloc);
     drop(entries.insert(String::from_str(alloc, key)?, value)?);
     Ok(Value::Map(entries))
 }
 
-/// The same map with one more entry. Another value than a map stays.
+/// Returns the same map with one more entry. Another value than a map stays.
 pub fn with(
     alloc: Global,
     map: Value,

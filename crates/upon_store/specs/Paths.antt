@@ -50,7 +50,7 @@ abbrev pub steps : List (List ℕ) → List (List ℕ) → Option (List (List �
 steps folder [] = Some folder
 steps folder (t ∷ ts) = then_on (step folder t) (λ next. steps next ts)
 
--- on by a name: from the top where it begins with a slash, else from a folder
+-- on by a name: from the top if it begins with a slash, else from a folder
 abbrev pub steps_of : List (List ℕ) → List ℕ → Option (List (List ℕ))
 steps_of folder [] = steps folder (segments [])
 steps_of folder (b ∷ t) = cond (b == 47) (steps [] (segments t)) (steps folder (segments (b ∷ t)))

@@ -54,7 +54,7 @@ answers_in store path q name = reply (store_answer (held store) (resolved path n
 abbrev pub from_store : {T : Type 0} → Store → List ℕ → Resolver T
 from_store store path = hands_on (answers_in store path)
 
--- the template at the path that a name denotes, or none where it denotes none
+-- the template at the path that a name denotes, or none if it denotes none
 abbrev pub stored_at : Store → Option (List ℕ) → Option Template
 stored_at store None = None
 stored_at store (Some path) = stored store path

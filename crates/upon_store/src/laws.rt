@@ -4,7 +4,7 @@ ghost use Rattle.upon_store.specs.Paths.{folder_of, is_path, path_text, resolved
 
 pub mod renderings;
 
-/// A name that is resolved in the folder of a path leads to a path.
+/// States that a name that is resolved in the folder of a path leads to a path.
 pub fn resolved_is_path()
     ensures { (path name p : List ℕ) → is_path path ≡ true → resolved path name ≡ Some p → is_path p ≡ true }
 {}
@@ -20,7 +20,7 @@ pub fn from_top()
     ensures { (path p : List ℕ) → is_path p ≡ true → resolved path (codes "/" ++ p) ≡ Some p }
 {}
 
-/// A name that is a path is the way down from the folder: its segments follow the folder's.
+/// States that a name that is a path is the way down from the folder: its segments follow the folder's.
 pub fn from_folder()
     ensures { (path name : List ℕ) → is_path name ≡ true
         → resolved path name ≡ path_text (folder_of path ++ segments name) }

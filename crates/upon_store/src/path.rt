@@ -19,7 +19,7 @@ pub fn is_path(text: &str) -> bool
     is_segment(rest)
 }
 
-/// Returns the path that a name denotes in the folder of a path; `None` where it denotes none. A leading `/` starts
+/// Returns the path that a name denotes in the folder of a path; `None` if it denotes none. A leading `/` starts
 /// from the top; `.` adds nothing, and `..` takes the last segment away.
 pub fn resolve(alloc: Global, path: &str, name: &str) -> Result<Option<String>, AllocError>
     ensures { IfOk result (λ found. option_map string_bytes found ≡ resolved path.now name.now) }

@@ -94,7 +94,7 @@ impl<'s> Store<'s> {
     }
 
     /// Adds a template under a path: compiles it under the engine's syntax, and puts it in place of one that is there.
-    /// Where it is refused, the store stays as it was.
+    /// If it is refused, the store stays as it was.
     pub fn add(
         &mut self,
         engine: &Engine<'_>,
@@ -161,7 +161,7 @@ impl<'s> Store<'s> {
         Ok(paths)
     }
 
-    /// Writes what the template of a path means on a value, where each include's name is answered by the store: by the
+    /// Writes what the template of a path means on a value, each include's name answered by the store: by the
     /// template at the path that the name denotes in the folder of this path.
     pub fn render<W: io::Write>(
         &self,

@@ -51,7 +51,7 @@ pub fn letters(alloc: Global) -> Result<Syntax, AllocError> {
         .build(alloc)
 }
 
-/// An end that is its begin twice.
+/// Returns an end that is its begin twice.
 pub fn longer_end(alloc: Global) -> Result<Syntax, AllocError> {
     Syntax::builder().expr("<", "<<").build(alloc)
 }
@@ -69,7 +69,7 @@ pub fn equal_blocks(alloc: Global) -> Result<Syntax, AllocError> {
         .build(alloc)
 }
 
-/// A begin that begins with a blank.
+/// Returns a begin that begins with a blank.
 pub fn blank_before(alloc: Global) -> Result<Syntax, AllocError> {
     Syntax::builder().expr(" <", ">").build(alloc)
 }

@@ -7,7 +7,7 @@ use upon_types::types::ast::{
 };
 use upon_types::value::Value;
 
-/// The text of a template's tree. Each node begins with a blank.
+/// Returns the text of a template's tree. Each node begins with a blank.
 pub fn picture(alloc: Global, source: &str, template: &Template) -> Result<String, AllocError> {
     let mut out = String::new(alloc);
     add_scope(&template.scope, source, &mut out)?;

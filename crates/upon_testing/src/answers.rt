@@ -4,7 +4,7 @@ use std::borrow::CowStr;
 use std::test::Fail;
 use upon::{Engine, Error, Value};
 
-/// A fault as one line: `render error: not found in this scope at 3..4 in t`.
+/// Returns a fault as one line: `render error: not found in this scope at 3..4 in t`.
 pub fn describe(alloc: Global, error: &Error) -> Result<String, AllocError> {
     let mut line = format!(in alloc; "{error}")?;
     if let Some(span) = error.place() {
@@ -17,7 +17,7 @@ pub fn describe(alloc: Global, error: &Error) -> Result<String, AllocError> {
     Ok(line)
 }
 
-/// A text, or the line of a fault.
+/// Returns a text, or the line of a fault.
 pub fn line_of(alloc: Global, rendered: upon::Result<String>) -> Result<String, AllocError> {
     match rendered {
         Ok(text) => Ok(text),
@@ -25,7 +25,7 @@ pub fn line_of(alloc: Global, rendered: upon::Result<String>) -> Result<String, 
     }
 }
 
-/// What a source answers that an engine compiles and renders on a context.
+/// Compiles and renders a source on a context, and returns the text.
 pub fn answer(
     alloc: Global,
     engine: &Engine<'_>,

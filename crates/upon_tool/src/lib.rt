@@ -1,5 +1,5 @@
-// The work of the program `upon-tool`: renders templates on JSON, checks them and lists what they need, with the templates
-// of a folder.
+// The work of the program `upon-tool`: renders templates on JSON, checks them and lists what they need, with the
+// templates of a folder.
 #![tactic(auto)]
 
 pub mod check;

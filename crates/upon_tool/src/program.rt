@@ -10,8 +10,8 @@ use std::io::{Read, Write};
 use std::rt::Files;
 use upon_tool_io::arguments::{self, Call, CheckCall, NamesCall, RenderCall};
 
-/// Does what the words ask for, of which the first is the program's name, and returns the status. Templates and contexts
-/// come from files, and from `input` if their name is `-`.
+/// Does what the words ask for, of which the first is the program's name, and returns the status. Templates and
+/// contexts come from files, and from `input` if their name is `-`.
 pub fn run<R: Files + AllocGlobal + Clone + Drop, I: Read, O: Write, E: Write>(
     rt: &R,
     words: &[String],

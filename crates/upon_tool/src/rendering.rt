@@ -121,8 +121,8 @@ pub fn show<O: io::Write, E: io::Write>(
     explain(alloc, engine, library, &failure, err)
 }
 
-/// Says why a run failed, and returns its status. Of a file that it reached and that is no template, it says what is wrong
-/// there.
+/// Says why a run failed, and returns its status. Of a file that it reached and that is no template, it says what is
+/// wrong there.
 pub fn explain<E: io::Write>(
     alloc: Global,
     engine: &Engine<'_>,

@@ -1,5 +1,5 @@
-// What is done with an engine that holds templates. The engine stays in one function: a function that takes `&mut Engine`
-// or returns an engine would have a contract that says nothing of what is behind its `dyn`.
+// What is done with an engine that holds templates. The engine stays in one function: a function that takes `&mut
+// Engine` or returns an engine would have a contract that says nothing of what is behind its `dyn`.
 ghost use Rattle.std.specs.Prelude.{◌≤◌, IfOk};
 
 use crate::check::{check_file, check_text};

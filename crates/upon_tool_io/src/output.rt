@@ -16,8 +16,8 @@ pub struct Replacement {
 const NAMES: usize = 1000;
 
 impl Replacement {
-    /// Opens a new file beside the one of a path, to which a link may lead, with the permissions of that one. What is there
-    /// and is no file, as a terminal, is opened as it is.
+    /// Opens a new file beside the one of a path, to which a link may lead, with the permissions of that one. What is
+    /// there and is no file, as a terminal, is opened as it is.
     pub fn open<R: Files + AllocGlobal>(rt: &R, path: &str) -> io::Result<(Replacement, R::File)> {
         let target = target_of(rt, path)?;
         match fs::metadata(rt, target.as_str()) {

@@ -5,8 +5,8 @@ use upon::Engine;
 use upon_tool::library::{Library, Refusal};
 use upon_tool_io::files::read_text;
 
-/// Adds files to an engine, of which each has its name and its bytes; returns their library, with one more file that can't
-/// be read.
+/// Adds files to an engine, of which each has its name and its bytes; returns their library, with one more file that
+/// can't be read.
 pub fn library(
     alloc: Global,
     engine: &mut Engine<'_>,

@@ -38,7 +38,7 @@ pub fn templates_reached<V, T>()
     sources::templates_reached::<V, T>();
 }
 
-/// Where a template has the number k, and it and those that it reaches in the folder of a path have numbers greater
+/// If a template has the number k, and it and those that it reaches in the folder of a path have numbers greater
 /// than those of the stored templates that they include, it never ends because includes are too deep, at any depth
 /// above k.
 pub fn numbered_depth<V, T>()

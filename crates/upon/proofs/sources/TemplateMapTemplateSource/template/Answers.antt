@@ -1,0 +1,8 @@
+use Rattle.std.proofs.Common.{refl, sym, ap, ◌∙◌}
+use Rattle.upon_render.specs.Source.{says}
+use Rattle.upon_meaning_spec.specs.Engine.{table_answer}
+use Rattle.upon_engine.specs.Template.{template_of}
+use Rattle.upon.proofs.sources.TemplateMapTemplateSource.template.Goals as goal
+
+pub returns-in-Some-clause-resolved : goal.returns-in-Some-clause-resolved
+returns-in-Some-clause-resolved c = (ap table_answer (sym c.in-Some.ensures) ∙ ap (λ t. says (template_of t)) (sym c.lent.ensures), refl)
