@@ -123,7 +123,8 @@ pub fn unasked<'r, E: Callables + Drop, V: Values<'r, T>, T: TemplateSource<'r>>
 ) -> Result<String>
     ensures { let call = call_of E.callables E.default_formatter V.asks V.root V.values_state T.resolve
         T.template_state page.entry in
-        (v : Val) → call.base ≡ on_root (context v) → (outcome call).next.values ≡ V.values_state (values_in page.entry) }
+        (v : Val) → call.base ≡ on_root (context v)
+        → (outcome call).next.values ≡ V.values_state (values_in page.entry) }
 {
     page.to_string()
 }
