@@ -69,7 +69,7 @@ impl<'e> Engine<'e> {
         }
     }
 
-    /// Does the same as [`Engine::new`].
+    /// Creates the same engine as [`Engine::new`].
     pub fn default(alloc: Global) -> Engine<'e>
         ensures templates { (name : List ℕ) → (engine_of (λ f. formats f) (λ f. answers f) result).templates name
             ≡ None }

@@ -121,7 +121,7 @@ impl<'s> Template<'s> {
 }
 
 impl<'r, E: Drop, V: Drop, T: Drop> Renderer<'r, E, V, T> {
-    /// Does the same with a source of templates in place of the engine's.
+    /// Returns the same rendering with a source of templates in place of the engine's.
     pub fn with_template_fn<S: TemplateSource<'r>>(self, source: S) -> Renderer<'r, E, V, S>
         ensures template { template_in result ≡ template_in self.entry }
         ensures name { name_in result ≡ name_in self.entry }
@@ -150,7 +150,7 @@ impl<'r, E: Drop, V: Drop, T: Drop> Renderer<'r, E, V, T> {
         }
     }
 
-    /// Returns the same with other callables in place of the engine's.
+    /// Returns the same rendering with other callables in place of the engine's.
     pub fn with_callables<C>(self, callables: C) -> Renderer<'r, C, V, T>
         ensures template { template_in result ≡ template_in self.entry }
         ensures name { name_in result ≡ name_in self.entry }
@@ -179,7 +179,8 @@ impl<'r, E: Drop, V: Drop, T: Drop> Renderer<'r, E, V, T> {
         }
     }
 
-    /// Does the same with a depth of its own for includes. The template that is rendered counts as one; 0 acts as 1.
+    /// Returns the same rendering with a depth of its own for includes. The template that is rendered counts as one; 0
+    /// acts as 1.
     pub fn with_max_include_depth(self, depth: usize) -> Renderer<'r, E, V, T>
         ensures template { template_in result ≡ template_in self.entry }
         ensures name { name_in result ≡ name_in self.entry }

@@ -33,8 +33,7 @@ pub fn ampersands()
 {}
 
 /// If each formatter that can be called escapes, a rendering's text is pieces joined of which the raw parts alone hold
-/// `<`,
-/// `>`, `"` and `'`: those of the text are those of the raw parts, in their order, whatever the values are.
+/// `<`, `>`, `"` and `'`: those of the text are those of the raw parts, in their order, whatever the values are.
 pub fn markup_is_raw<V, T>()
     ensures { (rendering : Rendering V T) (t : Template) (name : Option (List ℕ)) (root : Root) (s : States V T)
         → EscapesAll rendering.calls rendering.resolve t

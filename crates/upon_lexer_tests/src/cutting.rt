@@ -62,7 +62,7 @@ pub fn ends(rt: &impl Abort, lexer: &mut Lexer, source: &str) -> Result<(), Fail
     Ok(())
 }
 
-/// Returns the error reports that a source is refused, for this reason, at this span.
+/// Checks that the error reports that a source is refused, for this reason, at this span.
 pub fn reports(
     rt: &impl Abort,
     alloc: Global,

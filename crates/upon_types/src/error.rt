@@ -77,7 +77,7 @@ impl Error {
         }
     }
 
-    /// Does the same as [`Error::from_parts`], with a reason that is moved in. An error that says its kind alone
+    /// Creates the same error as [`Error::from_parts`], with a reason that is moved in. An error that says its kind alone
     /// takes no memory.
     pub fn from_owned_parts(
         alloc: Global,

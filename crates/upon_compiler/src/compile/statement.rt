@@ -135,8 +135,8 @@ impl Compiler {
         Ok(())
     }
 
-    /// Appends the turns of a loop: its body, and the way back to the next turn. Returns the number of that. If the
-    /// loop ends is written into that later.
+    /// Appends the turns of a loop: the next turn, whose number is returned, its body, and the way back to that. Where
+    /// the loop ends is written into the next turn later.
     #[cycle(statement)]
     fn compile_turns(&mut self, body: Scope) -> Result<usize, AllocError>
         ensures { IfOk result (λ next. (next ≡ length (code_of self.old))

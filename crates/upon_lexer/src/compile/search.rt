@@ -43,7 +43,7 @@ impl Searcher {
         Searcher::with_syntax(Syntax::default())
     }
 
-    /// Returns a searcher for a syntax.
+    /// Creates a searcher for a syntax.
     pub fn with_syntax(syntax: Syntax) -> Searcher
         ensures { searcher_delimiters result ≡ syntax_delimiters syntax }
     {

@@ -31,7 +31,7 @@ use upon_types::types::{Span, Token, slice};
 pub enum Ended {
     /// At the tag's end.
     End(Lexed),
-    /// At the first fault that ends the text's cutting, or if there was no memory.
+    /// At the first fault that ends the text's cutting, or where there was no memory.
     Fault(Error),
     /// At a literal that denotes nothing.
     Literal(Lexed, Refusal),
