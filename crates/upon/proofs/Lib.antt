@@ -1,1 +1,3 @@
 pub mod HandedOn
+pub mod Shown
+pub mod Ended

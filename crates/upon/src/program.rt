@@ -1,9 +1,13 @@
 // The work of the program `upon-render`: renders a file on the texts of its arguments.
-ghost use Rattle.std.specs.Prelude.{◌≡◌, ◌≤◌, false, IsNone, IsErrAnd};
+ghost use Rattle.std.specs.Prelude.{◌≡◌, ◌≤◌, ◌∷◌, map, false, is_some, option_and_then, IfOk, IfSome, IsNone, IsErrAnd, Result, string_bytes};
 ghost use Rattle.std.specs.List.{list_all};
-ghost use Rattle.upon.specs.Program.{is_call, has_equals, status_of};
+ghost use Rattle.upon_types.specs.Conversions.{HoldsLast};
+ghost use Rattle.upon_types.specs.Val.{text_val};
+ghost use Rattle.upon_types.specs.View.{view};
+ghost use Rattle.upon.specs.Program.{end_status, is_call, has_equals, pair_of, status_of, Ends, Reads, Renders, RendersOn};
+ghost use Rattle.upon.specs.declared.program.Failure.{Failure};
 
-use crate::{Engine, Value};
+use crate::{Engine, Value, theorem};
 use std::alloc::{AllocError, Global};
 use std::borrow::CowStr;
 use std::collections::BTreeMap;
@@ -34,7 +38,9 @@ impl From<Error> for Failure {
 }
 
 impl From<AllocError> for Failure {
-    ghost from_gives = { λ _ failure. status_of failure ≡ 1 };
+    ghost use Rattle.upon.specs.Program.{IsMemory};
+
+    ghost from_gives = { λ _ failure. IsMemory failure };
 
     fn from(error: AllocError) -> Failure {
         Failure::Fault(error.into())
@@ -61,6 +67,9 @@ pub fn run<R: io::Read + Drop, O: io::Write, E: io::Write>(
     ensures range { result ≤ 2 }
     ensures usage { is_call args.now ≡ false → result ≡ 2 }
     ensures no_file { IsNone file → result ≡ 2 }
+    // The work ends in one way of these, and that way has this status.
+    ensures ends { (end : Result (Unit {0}) Failure) × (result ≡ end_status end)
+        × Ends args.now (option_and_then R.remaining file) end (O.contents out.old) (O.contents out.new) }
 {
     let failure = match work(alloc, args, file, out) {
         Ok(()) => return 0,
@@ -116,14 +125,28 @@ fn work<R: Read + Drop, O: Write>(
 ) -> Result<(), Failure>
     ensures usage { is_call args.now ≡ false → IsErrAnd result (λ failure. status_of failure ≡ 2) }
     ensures no_file { IsNone file → IsErrAnd result (λ failure. status_of failure ≡ 2) }
+    ensures ends { Ends args.now (option_and_then R.remaining file) result (O.contents out.old) (O.contents out.new) }
 {
-    if !is_call(args) {
+    let Some((name, words)) = parts(args) else {
         return Err(Failure::Usage);
-    }
+    };
     let source = read_source(alloc, file)?;
-    let context = read_context(alloc, &args[1..])?;
-    render(alloc, args[0].as_str(), source, &context, out)?;
+    render_on(alloc, name.as_str(), words, source, out)?;
     Ok(())
+}
+
+// Writes the text of the template of this name and source, on the map of the words, and flushes.
+fn render_on<O: Write>(
+    alloc: Global,
+    name: &str,
+    words: &[String],
+    source: String,
+    out: &mut O,
+) -> Result<(), Error>
+    ensures { RendersOn name.now words.now (string_bytes source) result (O.contents out.old) (O.contents out.new) }
+{
+    let context = read_context(alloc, words)?;
+    render(alloc, name, source, &context, out)
 }
 
 // Writes the text of the template of this name and source, on a context, and flushes.
@@ -133,9 +156,12 @@ fn render<O: Write>(
     source: String,
     context: &Value,
     out: &mut O,
-) -> Result<(), Error> {
+) -> Result<(), Error>
+    ensures { Renders name.now (string_bytes source) (view context.now) result (O.contents out.old) (O.contents out.new) }
+{
     let mut engine = Engine::new(alloc);
     engine.add_template(CowStr::Borrowed(name), CowStr::Owned(source))?;
+    theorem::held_has_tree(&engine);
     let Some(rendered) = engine.render_template_to(name, context, out) else {
         unreachable!()
     };
@@ -144,13 +170,14 @@ fn render<O: Write>(
     Ok(())
 }
 
-// Whether the words are those of a call: a file's name, and then words with a `=` each.
-fn is_call(args: &[String]) -> bool
-    ensures { result ≡ is_call args.now }
+// The file's name and the other words, if they are those of a call: a file's name, and then words with a `=` each.
+fn parts(args: &[String]) -> Option<(&String, &[String])>
+    ensures call { is_some result ≡ is_call args.now }
+    ensures parts { IfSome result (λ parts. args.now ≡ parts.0.now ∷ parts.1.now) }
 {
     match args.split_first() {
-        Some((_, words)) => each_has_equals(words),
-        None => false,
+        Some((name, words)) if each_has_equals(words) => Some((name, words)),
+        _ => None,
     }
 }
 
@@ -168,7 +195,8 @@ fn has_equals(word: &String) -> bool
 
 // The text of the file.
 fn read_source<R: Read + Drop>(alloc: Global, file: Option<R>) -> Result<String, Failure>
-    ensures { IsNone file → IsErrAnd result (λ failure. status_of failure ≡ 2) }
+    ensures no_file { IsNone file → IsErrAnd result (λ failure. status_of failure ≡ 2) }
+    ensures read { Reads (option_and_then R.remaining file) result }
 {
     let Some(mut file) = file else {
         return Err(Failure::Unreadable);
@@ -181,16 +209,25 @@ fn read_source<R: Read + Drop>(alloc: Global, file: Option<R>) -> Result<String,
     }
 }
 
-// The map of the words `KEY=TEXT`, each split at its first `=`.
-fn read_context(alloc: Global, words: &[String]) -> Result<Value, AllocError> {
+// The map of the words `KEY=TEXT`, each split at its first `=`; of equal keys the last counts.
+fn read_context(alloc: Global, words: &[String]) -> Result<Value, AllocError>
+    ensures { IfOk result (λ v. HoldsLast (map pair_of words.now) (view v)) }
+{
     let mut texts = BTreeMap::new(alloc);
     for word in words {
-        if let Some((key, text)) = word.as_str().split_once('=') {
-            texts.insert(
-                String::from_str(alloc, key)?,
-                Value::from_text(alloc, text)?,
-            )?;
-        }
+        let (key, text) = pair_of(word);
+        let value = Value::from_text(alloc, text)?;
+        drop(texts.insert(String::from_str(alloc, key)?, value)?);
     }
-    Ok(Value::from(texts))
+    Ok(Value::Map(texts))
+}
+
+// The key and the text of a word: what is before its first `=`, and what is after it.
+fn pair_of(word: &String) -> (&str, &str)
+    ensures { (result.0.now, text_val result.1.now) ≡ pair_of word.now }
+{
+    match word.as_str().split_once('=') {
+        Some(pair) => pair,
+        None => (word.as_str(), ""),
+    }
 }

@@ -41,7 +41,7 @@ fn is_out(error: &Error) -> bool {
 // A source, what a writer has received at its end, and the reason of its fault.
 type Row = (&'static str, &'static str, Option<&'static str>);
 
-const ROWS: [Row; 13] = [
+const ROWS: &[Row] = &[
     ("Hello {{ user.name }}!", "Hello John Smith!", None),
     (
         "{% for i in [1, 2] %}{{ i }}{% if not loop.last %},{% endif %}{% endfor %}",
@@ -97,14 +97,16 @@ const ROWS: [Row; 13] = [
     ),
 ];
 
+const TEMPLATES: &[(&str, &str)] = &[
+    ("t", "{{ a }}"),
+    ("hello", "Hello {{ user.name }}!"),
+    ("goodbye", "Goodbye {{ user.name }}!"),
+];
+
 // The callables of the tests, and three templates.
 fn engine_of_rows<'e>(alloc: Global) -> Result<Engine<'e>> {
     let mut engine = engine(alloc)?;
-    for (name, source) in [
-        ("t", "{{ a }}"),
-        ("hello", "Hello {{ user.name }}!"),
-        ("goodbye", "Goodbye {{ user.name }}!"),
-    ] {
+    for (name, source) in TEMPLATES {
         engine.add_template(CowStr::Borrowed(name), CowStr::Borrowed(source))?;
     }
     Ok(engine)
@@ -157,7 +159,7 @@ fn written(rt: &impl Abort, alloc: Global, row: &Row) -> Result<()> {
 #[test]
 fn writers(rt: HostRuntime) -> std::result::Result<(), Fail> {
     let alloc = rt.alloc();
-    for row in &ROWS {
+    for row in ROWS {
         if let Err(error) = written(&rt, alloc, row) {
             assert!(&rt; is_out(&error), "{error}");
         }
@@ -166,7 +168,7 @@ fn writers(rt: HostRuntime) -> std::result::Result<(), Fail> {
 }
 
 // Sources, and the picture of the fault of each.
-const SHOWN: [(&str, &str); 2] = [
+const SHOWN: &[(&str, &str)] = &[
     (
         "\u{e9}\n{{ x }}",
         "render error
@@ -362,25 +364,33 @@ impl CallPath for Asked {
     }
 }
 
+const STARVED: &[&str] = &[
+    "x{{ 1 | swallows }}y",
+    "x{{ starved() }}y",
+    "x{% if starved() %}y{% endif %}",
+];
+
+// Memory is out after the first letter.
+fn starves(rt: &impl Abort, engine: &Engine<'_>, source: &str) -> Result<()> {
+    let template = engine.compile(CowStr::Borrowed(source))?;
+    let mut out = Expects {
+        wanted: b"x".as_slice(),
+        is_other: false,
+    };
+    let end = template
+        .render_from(engine, &Value::None)
+        .to_writer(&mut out);
+    assert!(rt; end.is_err_and(|error| is_out(&error)), "{source}");
+    assert!(rt; !out.is_other, "{source}");
+    Ok(())
+}
+
 fn without_memory(rt: &impl Abort, alloc: Global) -> Result<()> {
     let mut engine = Engine::new(alloc);
     engine.add_formatter(CowStr::Borrowed("swallows"), Box::new(alloc, Swallows)?)?;
     engine.add_function(CowStr::Borrowed("starved"), Box::new(alloc, NoMemory)?)?;
-    for source in [
-        "x{{ 1 | swallows }}y",
-        "x{{ starved() }}y",
-        "x{% if starved() %}y{% endif %}",
-    ] {
-        let template = engine.compile(CowStr::Borrowed(source))?;
-        let mut out = Expects {
-            wanted: b"x".as_slice(),
-            is_other: false,
-        };
-        let end = template
-            .render_from(&engine, &Value::None)
-            .to_writer(&mut out);
-        assert!(rt; end.is_err_and(|error| is_out(&error)), "{source}");
-        assert!(rt; !out.is_other, "{source}");
+    for source in STARVED {
+        starves(rt, &engine, source)?;
     }
     Ok(())
 }

@@ -1,13 +1,15 @@
-// Tests of functions and formatters that a program adds: in templates, to writers that fail, and where memory is out.
+// Tests of functions and formatters that a program adds, and of what takes no memory: where growths are refused.
 #![tactic(auto)]
 
 #[cfg(test)]
 mod callables;
 #[cfg(test)]
-mod calls;
-#[cfg(test)]
 mod growths;
+#[cfg(test)]
+mod lent_loops;
 #[cfg(test)]
 mod memory;
 #[cfg(test)]
-mod writers;
+mod skipped;
+#[cfg(test)]
+mod starved;

@@ -11,31 +11,26 @@ use upon::functions::Fn1;
 use upon::types::Span;
 use upon::{Engine, Error, Result, Syntax, value};
 
-// How a call ends: with a text, or with a fault of this reason at this span.
-#[derive(Drop)]
-enum End<'a> {
-    Text(&'a str),
-    Fault(&'a str, Option<Span>),
-}
-
-fn at(m: usize, n: usize) -> Option<Span> {
-    Some(Span { m, n })
-}
-
 fn is_out(error: &Error) -> bool {
     matches!(error.kind(), ErrorKind::OutOfMemory)
 }
 
-// The result is this end, or memory is out.
-fn ends_so(rt: &impl Abort, rendered: Result<String>, wanted: &End<'_>) {
-    match (rendered, wanted) {
-        (Ok(text), End::Text(wanted)) => assert_eq!(rt; text.as_str(), *wanted),
-        (Ok(text), End::Fault(..)) => panic!(rt; "{text}"),
-        (Err(error), End::Text(_)) => assert!(rt; is_out(&error), "{error}"),
-        (Err(error), End::Fault(reason, span)) => {
+// The result is this text, or memory is out.
+fn text_ends_so(rt: &impl Abort, rendered: Result<String>, wanted: &str) {
+    match rendered {
+        Ok(text) => assert_eq!(rt; text.as_str(), wanted),
+        Err(error) => assert!(rt; is_out(&error), "{error}"),
+    }
+}
+
+// The result is a fault of this reason at this span, or memory is out.
+fn fault_ends_so(rt: &impl Abort, rendered: Result<String>, reason: &str, span: Option<Span>) {
+    match rendered {
+        Ok(text) => panic!(rt; "{text}"),
+        Err(error) => {
             if !is_out(&error) {
-                assert_eq!(rt; error.reason(), Some(*reason));
-                assert!(rt; error.place() == *span, "{error}");
+                assert_eq!(rt; error.reason(), Some(reason));
+                assert!(rt; error.place() == span, "{error}");
             }
         }
     }
@@ -54,136 +49,144 @@ fn text_of(alloc: Global, source: &str) -> Result<String> {
     template.render_from(&engine, &context).to_string()
 }
 
-#[test]
-fn texts(rt: HostRuntime) -> std::result::Result<(), Fail> {
-    let alloc = rt.alloc();
-    for (source, wanted) in [
-        ("Hello {{ user.name }}!", End::Text("Hello John Smith!")),
-        (
-            "{% for i in [1, 2] %}{{ i }}{% if not loop.last %},{% endif %}{% endfor %}",
-            End::Text("1,2"),
-        ),
-        ("{% include \"hello\" %}", End::Text("Hello John Smith!")),
-        (
-            "{% for k, v in {\"b\": 1, \"a\": 2} %}{{ k }}={{ v }};{% endfor %}",
-            End::Text("a=2;b=1;"),
-        ),
-        ("{{ 21 | double }}", End::Text("42")),
-    ] {
-        ends_so(&rt, text_of(alloc, source), &wanted);
+// Each source has the text of its row.
+fn texts_end_so(rt: &impl Abort, alloc: Global, rows: &[(&str, &str)]) {
+    for (source, wanted) in rows {
+        text_ends_so(rt, text_of(alloc, source), wanted);
     }
-    Ok(())
 }
 
-#[test]
-fn faults(rt: HostRuntime) -> std::result::Result<(), Fail> {
-    let alloc = rt.alloc();
-    for (source, wanted) in [
-        (
-            "{{ {\"a\": {\"b\": 1}} }}",
-            End::Fault("unclosed open brace", at(9, 10)),
-        ),
-        (
-            "{{ \"a\\q\" }}",
-            End::Fault("unknown escape character", at(6, 7)),
-        ),
-        (
-            "{% include \"t\" with 5 %}",
-            End::Fault("not found in this scope", at(3, 4)),
-        ),
-        (
-            "{{ 1 | fmt: 2 }}",
-            End::Fault("formatter expects 1 argument, 2 provided", at(7, 10)),
-        ),
-        ("{{ \"a\" | no }}", End::Fault("no", at(9, 11))),
-        ("{{ 1 | half }}", End::Fault("bad", at(7, 11))),
-        (
-            "{{ double() }}",
-            End::Fault("function expects 1 arguments, 0 provided", at(3, 9)),
-        ),
-    ] {
-        ends_so(&rt, text_of(alloc, source), &wanted);
+// Each source ends with the fault of its row.
+fn faults_end_so(rt: &impl Abort, alloc: Global, rows: &[(&str, &str, (usize, usize))]) {
+    for (source, reason, (m, n)) in rows {
+        let span = Some(Span { m: *m, n: *n });
+        fault_ends_so(rt, text_of(alloc, source), reason, span);
     }
-    Ok(())
+}
+
+// Sources, and their texts.
+const TEXTS: &[(&str, &str)] = &[
+    ("Hello {{ user.name }}!", "Hello John Smith!"),
+    (
+        "{% for i in [1, 2] %}{{ i }}{% if not loop.last %},{% endif %}{% endfor %}",
+        "1,2",
+    ),
+    ("{% include \"hello\" %}", "Hello John Smith!"),
+    (
+        "{% for k, v in {\"b\": 1, \"a\": 2} %}{{ k }}={{ v }};{% endfor %}",
+        "a=2;b=1;",
+    ),
+    ("{{ 21 | double }}", "42"),
+];
+
+#[test]
+fn texts(rt: HostRuntime) {
+    texts_end_so(&rt, rt.alloc(), TEXTS);
+}
+
+// Sources, and the reason and span of the fault of each.
+const FAULTS: &[(&str, &str, (usize, usize))] = &[
+    ("{{ {\"a\": {\"b\": 1}} }}", "unclosed open brace", (9, 10)),
+    ("{{ \"a\\q\" }}", "unknown escape character", (6, 7)),
+    (
+        "{% include \"t\" with 5 %}",
+        "not found in this scope",
+        (3, 4),
+    ),
+    (
+        "{{ 1 | fmt: 2 }}",
+        "formatter expects 1 argument, 2 provided",
+        (7, 10),
+    ),
+    ("{{ \"a\" | no }}", "no", (9, 11)),
+    ("{{ 1 | half }}", "bad", (7, 11)),
+    (
+        "{{ double() }}",
+        "function expects 1 arguments, 0 provided",
+        (3, 9),
+    ),
+];
+
+#[test]
+fn faults(rt: HostRuntime) {
+    faults_end_so(&rt, rt.alloc(), FAULTS);
 }
 
 // Texts of which a fault of each kind is reported: of a delimiter, a number, an index, and what may not come next.
+const REFUSED: &[(&str, &str, (usize, usize))] = &[
+    ("a }} b", "unexpected end expression", (2, 4)),
+    ("{{ -0b2 }}", "invalid digit for base 2 literal", (6, 7)),
+    ("{{ 1.5 }}", "invalid float literal", (3, 6)),
+    (
+        "{{ a.18446744073709551616 }}",
+        "base 10 literal out of range for unsigned 64-bit integer",
+        (5, 25),
+    ),
+    (
+        "{{ a b \"c",
+        "expected end expression, found identifier",
+        (5, 6),
+    ),
+    (
+        "{{ {\"a\": {\"b\": 1} } }}",
+        "expression evaluated to unformattable type map",
+        (3, 19),
+    ),
+];
+
 #[test]
-fn refused_texts(rt: HostRuntime) -> std::result::Result<(), Fail> {
-    let alloc = rt.alloc();
-    for (source, reason, start, end) in [
-        ("a }} b", "unexpected end expression", 2, 4),
-        ("{{ -0b2 }}", "invalid digit for base 2 literal", 6, 7),
-        ("{{ 1.5 }}", "invalid float literal", 3, 6),
-        (
-            "{{ a.18446744073709551616 }}",
-            "base 10 literal out of range for unsigned 64-bit integer",
-            5,
-            25,
-        ),
-        (
-            "{{ a b \"c",
-            "expected end expression, found identifier",
-            5,
-            6,
-        ),
-        (
-            "{{ {\"a\": {\"b\": 1} } }}",
-            "expression evaluated to unformattable type map",
-            3,
-            19,
-        ),
-    ] {
-        ends_so(
-            &rt,
-            text_of(alloc, source),
-            &End::Fault(reason, at(start, end)),
-        );
-    }
-    Ok(())
+fn refused_texts(rt: HostRuntime) {
+    faults_end_so(&rt, rt.alloc(), REFUSED);
 }
 
 // Loops with another branch, over a context's empty map and in each other.
+const BRANCHES: &[(&str, &str)] = &[
+    (
+        "{% for k, v in none %}a{% else %}{{ user.name }}{% endfor %}",
+        "John Smith",
+    ),
+    (
+        "{% for x in [1, 2] %}{{ x }}{% else %}{{ y }}{% endfor %}",
+        "12",
+    ),
+    (
+        "{% for x in [7, 8] %}{% for y in [] %}a{% else %}{{ loop.index }}{% endfor %}{% else %}b{% endfor %}",
+        "01",
+    ),
+    (
+        "{% for x in [] %}a{% else %}{% if none %}b{% else %}{% include \"hello\" %}{% endif %}{% endfor %}",
+        "Hello John Smith!",
+    ),
+];
+
+// Such loops with a fault.
+const REFUSED_BRANCHES: &[(&str, &str, (usize, usize))] = &[
+    (
+        "{% for x in none %}a{% else %}b{% endfor %}",
+        "cannot unpack map item into one variable",
+        (7, 8),
+    ),
+    (
+        "{% for x in [] %}a{% else %}b{{ x }}{% endfor %}",
+        "not found in this scope",
+        (32, 33),
+    ),
+    (
+        "{% for x in [] %}{% else if 1 %}{% endfor %}",
+        "unexpected `else if` block",
+        (17, 32),
+    ),
+    (
+        "{% for x in [] %}{% else %}{% else %}{% endfor %}",
+        "unexpected `else` block",
+        (27, 37),
+    ),
+];
+
 #[test]
-fn other_branches(rt: HostRuntime) -> std::result::Result<(), Fail> {
-    let alloc = rt.alloc();
-    for (source, wanted) in [
-        (
-            "{% for k, v in none %}a{% else %}{{ user.name }}{% endfor %}",
-            End::Text("John Smith"),
-        ),
-        (
-            "{% for x in [1, 2] %}{{ x }}{% else %}{{ y }}{% endfor %}",
-            End::Text("12"),
-        ),
-        (
-            "{% for x in [7, 8] %}{% for y in [] %}a{% else %}{{ loop.index }}{% endfor %}{% else %}b{% endfor %}",
-            End::Text("01"),
-        ),
-        (
-            "{% for x in [] %}a{% else %}{% if none %}b{% else %}{% include \"hello\" %}{% endif %}{% endfor %}",
-            End::Text("Hello John Smith!"),
-        ),
-        (
-            "{% for x in none %}a{% else %}b{% endfor %}",
-            End::Fault("cannot unpack map item into one variable", at(7, 8)),
-        ),
-        (
-            "{% for x in [] %}a{% else %}b{{ x }}{% endfor %}",
-            End::Fault("not found in this scope", at(32, 33)),
-        ),
-        (
-            "{% for x in [] %}{% else if 1 %}{% endfor %}",
-            End::Fault("unexpected `else if` block", at(17, 32)),
-        ),
-        (
-            "{% for x in [] %}{% else %}{% else %}{% endfor %}",
-            End::Fault("unexpected `else` block", at(27, 37)),
-        ),
-    ] {
-        ends_so(&rt, text_of(alloc, source), &wanted);
-    }
-    Ok(())
+fn other_branches(rt: HostRuntime) {
+    texts_end_so(&rt, rt.alloc(), BRANCHES);
+    faults_end_so(&rt, rt.alloc(), REFUSED_BRANCHES);
 }
 
 #[derive(Drop, Serialize)]
@@ -207,9 +210,9 @@ fn contexts(rt: HostRuntime) -> std::result::Result<(), Fail> {
         name: "Ann",
         friends: [Some("John"), None],
     };
-    ends_so(&rt, text_on(alloc, user), &End::Text("Ann: John "));
-    let refusal = End::Fault("floating point numbers are not supported", None);
-    ends_so(&rt, text_on(alloc, [0.5f64]), &refusal);
+    text_ends_so(&rt, text_on(alloc, user), "Ann: John ");
+    let reason = "floating point numbers are not supported";
+    fault_ends_so(&rt, text_on(alloc, [0.5f64]), reason, None);
     Ok(())
 }
 
@@ -293,24 +296,28 @@ fn copies_of_values(rt: HostRuntime) -> std::result::Result<(), Fail> {
     Ok(())
 }
 
-#[test]
-fn needs(rt: HostRuntime) -> std::result::Result<(), Fail> {
-    let alloc = rt.alloc();
+// Two templates that include each other, and one that is not there.
+const RING: &[(&str, &str)] = &[
+    (
+        "page",
+        "{{ a }}{% include \"part\" %}{% include \"gone\" %}",
+    ),
+    ("part", "{{ b }}{% include \"page\" %}"),
+];
+
+fn ring<'e>(alloc: Global) -> Result<Engine<'e>> {
     let mut engine = Engine::new(alloc);
-    for (name, source) in [
-        (
-            "page",
-            "{{ a }}{% include \"part\" %}{% include \"gone\" %}",
-        ),
-        ("part", "{{ b }}{% include \"page\" %}"),
-    ] {
-        if engine
-            .add_template(CowStr::Borrowed(name), CowStr::Borrowed(source))
-            .is_err()
-        {
-            return Ok(());
-        }
+    for (name, source) in RING {
+        engine.add_template(CowStr::Borrowed(name), CowStr::Borrowed(source))?;
     }
+    Ok(engine)
+}
+
+#[test]
+fn needs(rt: HostRuntime) {
+    let Ok(engine) = ring(rt.alloc()) else {
+        return;
+    };
     let Some(needs) = engine.needs("page") else {
         panic!(&rt; "there is such a template");
     };
@@ -319,5 +326,4 @@ fn needs(rt: HostRuntime) -> std::result::Result<(), Fail> {
         assert!(&rt; needs.templates() == ["page", "part"].as_slice());
         assert!(&rt; needs.missing() == ["gone"].as_slice());
     }
-    Ok(())
 }

@@ -1,13 +1,19 @@
 -- What the formatters of the examples write.
 use Rattle.std.specs.Prelude.{[], ◌++◌, Some, codes}
+use Rattle.std.specs.Fmt.{signed_decimal}
 use Rattle.upon_types.specs.Answers.{Formatted, well, refused}
-use Rattle.upon_types.specs.Val.{Val, none_val, text_val}
+use Rattle.upon_types.specs.Val.{Val, none_val, int_val, text_val}
 use Rattle.upon_meaning_spec.specs.DefaultFormat.{default_format}
 
 -- a text in quotation marks, all else as by default
 abbrev pub quoted : Val → Formatted
 quoted (text_val bytes) = record { text = codes "\"" ++ bytes ++ codes "\""; end = well }
 quoted v = default_format v
+
+-- an integer in decimal after `No. `, all else as by default
+abbrev pub numbered : Val → Formatted
+numbered (int_val z) = record { text = codes "No. " ++ signed_decimal z; end = well }
+numbered v = default_format v
 
 -- a hyphen for no value, all else as by default
 abbrev pub dashed : Val → Formatted

@@ -2,7 +2,7 @@
 ghost use Rattle.std.specs.Prelude.{◌≡◌, Some, codes, false};
 ghost use Rattle.upon_fmt.specs.Error.{message_of};
 ghost use Rattle.upon_fmt.specs.Formatter.{is_marked, text_of};
-ghost use Rattle.upon_cli_tests.specs.Formatters.{dashed, demanded, quoted};
+ghost use Rattle.upon_cli_tests.specs.Formatters.{dashed, demanded, numbered, quoted};
 
 use std::alloc::Global;
 use std::borrow::CowStr;
@@ -38,6 +38,39 @@ fn quotation(alloc: Global) -> Result<String> {
 fn quotes_a_text(rt: HostRuntime) -> std::result::Result<(), Fail> {
     let text = quotation(rt.alloc())?;
     assert_eq!(rt; text.as_str(), "\"Hamlet\", 1603");
+    Ok(())
+}
+
+/// Writes an integer after `No. `, and other values as the default formatter does.
+#[derive(Drop)]
+struct Numbered;
+
+impl Format for Numbered {
+    ghost formats = { λ _. numbered };
+
+    fn format(&self, f: &mut Formatter, value: &Value) -> fmt::Result {
+        let Value::Integer(number) = value else {
+            return fmt::default(f, value);
+        };
+        let Ok(text) = format!(in f.allocator(); "No. {number}") else {
+            f.out_of_memory();
+            return Err(fmt::Error::from(std::fmt::Error));
+        };
+        f.write_str(&text)
+    }
+}
+
+fn entry(alloc: Global) -> Result<String> {
+    let mut engine = Engine::new(alloc);
+    engine.add_formatter(CowStr::Borrowed("numbered"), Box::new(alloc, Numbered)?)?;
+    let context = value! { in alloc; number: 7, title: "Hamlet" }?;
+    engine.render_text("{{ number | numbered }}, {{ title | numbered }}", &context)
+}
+
+#[test]
+fn numbers_an_integer(rt: HostRuntime) -> std::result::Result<(), Fail> {
+    let text = entry(rt.alloc())?;
+    assert_eq!(rt; text.as_str(), "No. 7, Hamlet");
     Ok(())
 }
 

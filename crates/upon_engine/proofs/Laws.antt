@@ -14,9 +14,7 @@ use Rattle.upon_meaning_spec.proofs.NamesRead.{names_read, templates_reached}
 use Rattle.upon_meaning_spec.proofs.NotTooDeep.{is_not_too_deep}
 use Rattle.upon_meaning_spec.proofs.NumberedDepth.{numbered_over_table}
 use Rattle.upon_meaning_spec.proofs.UnaskedMeaning.{values_stay}
-use Rattle.upon_woven_spec.specs.Parts.{IsRawPart, IsWritten}
-use Rattle.upon_woven_spec.proofs.Weaving.{nothing}
-use Rattle.upon_woven_spec.proofs.WovenTemplates.{alone_woven}
+use Rattle.upon_woven_spec.proofs.PiecesOf.{within_woven}
 use Rattle.upon_engine.specs.Base.{Base, on_root, no_value}
 use Rattle.upon_engine.specs.Calls.{Call, outcome, at_depth, answered_by, on_base}
 use Rattle.upon_engine.specs.KeepsLaws.{DepthsAgree, NumbersSuffice, IncludesAlone, NamesSuffice, TemplatesSuffice, SourceStays, IsWoven, KeepsLaws}
@@ -65,8 +63,8 @@ module _ {V T : Type 0} (c : Call V T) where
       values_stay c.rendering.calls c.rendering.resolve (includes_left c.rendering.limit) c.template c.name v c.from
 
   woven_over : (base : Base) → IsWoven (on_base base c)
-  woven_over (on_root root) = alone_woven c.rendering.calls c.rendering.resolve c.template (includes_left c.rendering.limit) c.name root c.from
-  woven_over (no_value f) = nothing (IsRawPart c.rendering.resolve c.template) (IsWritten c.rendering.calls c.rendering.resolve c.template)
+  woven_over (on_root root) = within_woven c.rendering.calls c.rendering.resolve c.template (includes_left c.rendering.limit) c.name root c.from
+  woven_over (no_value f) = record { joins = refl; parts = tt }
 
   pub kept : KeepsLaws c
   kept = record { depths = depths_agree; numbered = numbers_suffice; isolated = includes_alone; names_read = names_suffice; reached = templates_suffice; source_stays = source_stays; woven = woven_over c.base }

@@ -7,17 +7,23 @@ use Rattle.upon_types.specs.Val.{Val}
 use Rattle.upon_render.specs.Asked.{never}
 use Rattle.upon_render.specs.Environment.{context, value_source}
 use Rattle.upon_render.specs.Source.{Source}
-use Rattle.upon_meaning_spec.specs.Engine.{Template, Resolver, calls_of, from_table}
+use Rattle.upon_meaning_spec.specs.Engine.{Engine, Template, Resolver, calls_of, from_table}
 use Rattle.upon_meaning_spec.specs.Outcome.{Outcome, States, states}
 use Rattle.upon_engine.specs.Base.{Base, on_root, outcome_over}
 use Rattle.upon_engine.specs.Calls.{engine_in, values_in, templates_in, template_in, name_in, limit_in}
-use Rattle.upon_engine.specs.Engine.{engine_of}
+use Rattle.upon_engine.specs.Engine.{engine_templates}
+use Rattle.upon_engine.specs.Texts.{texts_of}
+use Rattle.upon_engine.specs.Theorem.{engine_meant}
 use Rattle.upon_engine.specs.Sources.{engine_of_templates, source_in, value_in}
 use Rattle.upon_engine.specs.declared.engine.Engine.{Engine as Held}
 use Rattle.upon_engine.specs.declared.renderer.Renderer.{Renderer}
 use Rattle.upon_engine.specs.declared.sources.EngineTemplates.{EngineTemplates}
 use Rattle.upon_engine.specs.declared.values.Context.{Context}
 use Rattle.upon_engine.specs.declared.values.SourceValues.{SourceValues}
+
+-- an engine, as templates see it
+abbrev pub engine_of : {X Y : Type 0} {P : X → Type 0} {Q : Y → Type 0} → (DynBox X Global P → Formatter) → (DynBox Y Global Q → Function) → Held X Y P Q → Engine
+engine_of formats answers e = engine_meant (texts_of formats answers e) (engine_templates e)
 
 -- whatever is said of the outcome, with the depth
 module _ {X Y : Type 0} {P : X → Type 0} {Q : Y → Type 0} (formats : DynBox X Global P → Formatter) (answers : DynBox Y Global Q → Function) {S : Type 0} (Says : ℕ → Outcome (States S (Unit {0})) → Type 0) where

@@ -24,7 +24,7 @@ use Rattle.upon_vm.specs.Reports.{IsAnyIo, Writes}
 use Rattle.upon_syntax.specs.TagReading.{IsSyntaxError}
 use Rattle.upon_compiled_spec.proofs.CompiledTree.{only, had_tree}
 use Rattle.upon_engine.specs.Answers.{AnswersText}
-use Rattle.upon_engine.specs.Engine.{HoldsTemplate, engine_of}
+use Rattle.upon_engine.specs.Engine.{engine_templates}
 use Rattle.upon_engine.specs.Template.{template_of, template_source, template_syntax, template_tree}
 use Rattle.upon_engine.specs.Texts.{Stored, stored, texts_of}
 use Rattle.upon_engine.specs.Theorem.{IsTemplateOf, IsTable, rendering, meaning, Answers, Sends}
@@ -50,20 +50,29 @@ pub held_is : (o : Option HeldTemplate) → IsTemplateOf (option_map stored o) (
 held_is None = tt
 held_is (Some h) = (refl, had_tree (template_syntax h) (template_source h) h.instrs.items h.is_compiled)
 
-pub held_named : (o : Option HeldTemplate) (r : Template) (s : Stored) (tree : Statements)
-    → option_map template_of o ≡ Some r → option_map stored o ≡ Some s → HasTree s.syntax s.text tree → r ≡ made s.text tree
-held_named None r s tree ir iss has = absurd cc
-held_named (Some h) r s tree ir iss has =
-    let a : template_of h ≡ r = cc in
-    let b : stored h ≡ s = cc in
-    let F : Stored → Type 0 = λ s. HasTree s.syntax s.text tree → template_of h ≡ made s.text tree in
-    sym a ∙ subst F b (λ k. ap (made (template_source h)) (sym (only_held h tree k))) has
+-- a text that is held has the tree of its template
+pub tree_held : (o : Option HeldTemplate) (s : Stored) → option_map stored o ≡ Some s → (tree : Statements) × ∥ HasTree s.syntax s.text tree ∥₁
+tree_held None s is = absurd cc
+tree_held (Some h) s is =
+    let same : stored h ≡ s = cc in
+    subst (λ z. (tree : Statements) × ∥ HasTree z.syntax z.text tree ∥₁) same (template_tree h, had_tree (template_syntax h) (template_source h) h.instrs.items h.is_compiled)
 
--- a template that is held is there as a text
-pub holds_text : (delimiters : List DelimiterText) (s : List ℕ) (o : Option HeldTemplate)
-    → HoldsTemplate delimiters s (option_map template_of o) → option_map stored o ≡ None → ⊥
-holds_text delimiters s None holds is = holds
-holds_text delimiters s (Some h) holds is = absurd cc
+-- the template of a name, by a tree that its text is known to have
+pub template_held : (o : Option HeldTemplate) (s : Stored) (tree : Statements)
+    → option_map stored o ≡ Some s → ∥ HasTree s.syntax s.text tree ∥₁ → option_map template_of o ≡ Some (made s.text tree)
+template_held None s tree is has = absurd cc
+template_held (Some h) s tree is has =
+    let same : stored h ≡ s = cc in
+    let F : Stored → Type 0 = λ s. ∥ HasTree s.syntax s.text tree ∥₁ → Some (template_of h) ≡ Some (made s.text tree) in
+    let only : ∥ HasTree (template_syntax h) (template_source h) tree ∥₁ → tree ≡ template_tree h = λ k. ∥∥₁_elim k (Statements-one_path tree (template_tree h)) (only_held h tree) in
+    subst F same (λ k. ap (λ t. Some (made (template_source h) t)) (sym (only k))) has
+
+-- the same, where a template is known to be there
+pub held_named : (o : Option HeldTemplate) (r : Template) (s : Stored) (tree : Statements)
+    → option_map template_of o ≡ Some r → option_map stored o ≡ Some s → ∥ HasTree s.syntax s.text tree ∥₁ → r ≡ made s.text tree
+held_named o r s tree here is has =
+    let both : Some r ≡ Some (made s.text tree) = sym here ∙ template_held o s tree is has in
+    cc
 
 module _ (held : List ℕ → Option HeldTemplate) where
   abbrev pub table_held : Table
@@ -98,17 +107,17 @@ handed error (Err x) same = ap Err same
 module _ {X Y : Type 0} {P : X → Type 0} {Q : Y → Type 0} (formats : DynBox X Global P → Formatter) (answers : DynBox Y Global Q → Function) (e : Held X Y P Q) where
   pub answers_by : (name : Option (List ℕ)) (t : Template) (source : List ℕ) (tree : Statements) (v : Val) (result : Result (String Global) Error)
       → t ≡ made source tree
-      → AnswersText e.depth (alone (rendering (texts_of formats answers e) (engine_of formats answers e).templates) t name (context v) (states tt tt)) result
+      → AnswersText e.depth (alone (rendering (texts_of formats answers e) (engine_templates e)) t name (context v) (states tt tt)) result
       → Answers (texts_of formats answers e) name source tree v result
   answers_by name t source tree v result is said table it =
       subst (λ z. AnswersText e.depth (meaning (texts_of formats answers e) z name source tree v) result) (sym (only_table (get_by_text e.templates) table it))
-      (subst (λ z. AnswersText e.depth (alone (rendering (texts_of formats answers e) (engine_of formats answers e).templates) z name (context v) (states tt tt)) result) is said)
+      (subst (λ z. AnswersText e.depth (alone (rendering (texts_of formats answers e) (engine_templates e)) z name (context v) (states tt tt)) result) is said)
 
   -- the same of what a writer receives
   pub sends_by : (name : Option (List ℕ)) (t : Template) (source : List ℕ) (tree : Statements) (v : Val) (result : Result (Unit {0}) Error) (old new : Option (List ℕ))
       → t ≡ made source tree
-      → Writes e.depth IsAnyIo result old new (alone (rendering (texts_of formats answers e) (engine_of formats answers e).templates) t name (context v) (states tt tt))
+      → Writes e.depth IsAnyIo result old new (alone (rendering (texts_of formats answers e) (engine_templates e)) t name (context v) (states tt tt))
       → Sends (texts_of formats answers e) name source tree v result old new
   sends_by name t source tree v result old new is said table it =
       subst (λ z. Writes e.depth IsAnyIo result old new (meaning (texts_of formats answers e) z name source tree v)) (sym (only_table (get_by_text e.templates) table it))
-      (subst (λ z. Writes e.depth IsAnyIo result old new (alone (rendering (texts_of formats answers e) (engine_of formats answers e).templates) z name (context v) (states tt tt))) is said)
+      (subst (λ z. Writes e.depth IsAnyIo result old new (alone (rendering (texts_of formats answers e) (engine_templates e)) z name (context v) (states tt tt))) is said)

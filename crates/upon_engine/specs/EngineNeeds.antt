@@ -15,7 +15,7 @@ use Rattle.upon_engine.specs.declared.starts.PathStart.{PathStart}
 use Rattle.upon_engine.specs.declared.starts.PathStart.TheVariants.{Name, Index}
 use Rattle.upon_engine.specs.declared.template.Template.{Template as Held}
 
--- the names that the context must have, in the order in which they are answered
+-- the names of the context that can count, in the order in which they are answered
 abbrev pub needed_names : Needs → List (List ℕ)
 needed_names needs = texts needs.names.items
 

@@ -14,10 +14,10 @@ use Rattle.upon_meaning_spec.specs.Includes.{Reaches, IsNumbered}
 use Rattle.upon_meaning_spec.specs.Meaning.{RunningTemplate, statement_means}
 use Rattle.upon_meaning_spec.specs.Names.{Reads, AgreeOn}
 use Rattle.upon_meaning_spec.specs.Outcome.{States, too_deep}
-use Rattle.upon_woven_spec.specs.Parts.{IsRawPart, IsWritten}
-use Rattle.upon_woven_spec.specs.Woven.{WovenOf}
+use Rattle.upon_woven_spec.specs.Parts.{WovenOf}
 use Rattle.upon_engine.specs.Base.{on_root}
 use Rattle.upon_engine.specs.Calls.{Call, outcome, at_depth, on_base, answered_by}
+use Rattle.upon_engine.specs.Pieces.{pieces}
 
 -- a greater depth changes nothing but where includes were too deep
 abbrev pub DepthsAgree : {V T : Type 0} → Call V T → Type 0
@@ -59,12 +59,10 @@ TemplatesSuffice c =
 abbrev pub SourceStays : {V T : Type 0} → Call V T → Type 0
 SourceStays c = (v : Val) → c.base ≡ on_root (context v) → (outcome c).next.values ≡ c.from.values
 
--- the text, up to its end, is pieces joined: each is a raw part of the template or of one that it reaches, or what the
--- default formatter, or one that they name, wrote for a value
+-- the text, up to its end, is the call's pieces joined, in their order: each is a raw part of the template or of one
+-- that it reaches, or what the default formatter, or one that they name, wrote for a value
 abbrev pub IsWoven : {V T : Type 0} → Call V T → Type 0
-IsWoven c =
-    WovenOf (IsRawPart c.rendering.resolve c.template) (IsWritten c.rendering.calls c.rendering.resolve c.template)
-    (outcome c).text
+IsWoven c = WovenOf c.rendering.calls c.rendering.resolve c.template (pieces c) (outcome c).text
 
 -- all of these
 pub record KeepsLaws {V T : Type 0} (c : Call V T) : Type 0 where

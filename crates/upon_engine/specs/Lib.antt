@@ -8,9 +8,11 @@ pub mod Sources
 pub mod HandsOn
 pub mod TemplateRef
 pub mod Calls
+pub mod Pieces
 pub mod KeepsLaws
 pub mod Answers
 pub mod Texts
+pub mod Changes
 pub mod Theorem
 pub mod Names
 pub mod IndexStarts

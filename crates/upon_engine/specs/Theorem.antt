@@ -8,8 +8,7 @@ use Rattle.upon_language_spec.specs.Grammar.{HasTree}
 use Rattle.upon_render.specs.Asked.{never}
 use Rattle.upon_render.specs.Environment.{context}
 use Rattle.upon_meaning_spec.specs.Alone.{alone}
-use Rattle.upon_meaning_spec.specs.DefaultFormat.{formatter_or_default}
-use Rattle.upon_meaning_spec.specs.Engine.{Table, Template, Rendering, from_table}
+use Rattle.upon_meaning_spec.specs.Engine.{Engine, Table, Template, Rendering, rendering_of}
 use Rattle.upon_meaning_spec.specs.Outcome.{Outcome, States, states}
 use Rattle.upon_vm.specs.Reports.{IsAnyIo, Writes}
 use Rattle.upon_engine.specs.Answers.{AnswersText}
@@ -26,17 +25,18 @@ IsTemplateOf (Some s) None = ⊥
 abbrev pub IsTable : (List ℕ → Option Stored) → Table → Type 0
 IsTable texts table = (name : List ℕ) → IsTemplateOf (texts name) (table name)
 
--- a rendering on a value: callables, the depth, and the templates of a table for includes
-abbrev pub rendering : Texts → Table → Rendering (Unit {0}) (Unit {0})
-rendering e table = record {
-  calls = record {
-    callables = e.callables;
-    default_formatter = formatter_or_default e.default_formatter;
-    ask = never;
-  };
-  resolve = from_table table;
-  limit = e.depth;
+-- an engine as the meaning of templates sees it: what is held as texts, and a table for includes
+abbrev pub engine_meant : Texts → Table → Engine
+engine_meant e table = record {
+  templates = table;
+  callables = e.callables;
+  default_formatter = e.default_formatter;
+  depth = e.depth;
 }
+
+-- a rendering on a value, with the engine's callables and depth, and the templates of a table for includes
+abbrev pub rendering : Texts → Table → Rendering (Unit {0}) (Unit {0})
+rendering e table = rendering_of (engine_meant e table) never None
 
 -- what a tree of a text means on a value, under a name or none
 abbrev pub meaning : Texts → Table → Option (List ℕ) → List ℕ → Statements → Val

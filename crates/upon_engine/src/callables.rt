@@ -1,8 +1,4 @@
 // What an engine's names call while a template is rendered.
-ghost use Rattle.std.specs.Prelude.{◌≡◌, List};
-ghost use Rattle.upon_language_spec.specs.Search.{DelimiterText};
-ghost use Rattle.upon_meaning_spec.specs.Engine.{Engine as Meaning};
-
 use crate::engine::{Callable, Engine};
 use std::alloc::Global;
 use upon_fmt::fmt::{self, Formatter};
@@ -12,13 +8,13 @@ use upon_vm_calls::callables::{Callables, EngineCallable};
 
 impl<'r, 'e> Callables for &'r Engine<'e> {
     ghost use Rattle.upon_meaning_spec.specs.DefaultFormat.{formatter_or_default};
-    ghost use Rattle.upon_engine.specs.Engine.{engine_of};
+    ghost use Rattle.upon_engine.specs.Texts.{texts_of};
 
-    ghost callables = { λ e. (engine_of (λ f. (Format-box f).formats f.value) (λ f. (Function-box f).answers f.value)
+    ghost callables = { λ e. (texts_of (λ f. (Format-box f).formats f.value) (λ f. (Function-box f).answers f.value)
         e.now).callables };
 
     ghost default_formatter = { λ e. formatter_or_default
-        (engine_of (λ f. (Format-box f).formats f.value) (λ f. (Function-box f).answers f.value)
+        (texts_of (λ f. (Format-box f).formats f.value) (λ f. (Function-box f).answers f.value)
         e.now).default_formatter };
 
     fn get(&self, name: &str) -> Option<EngineCallable> {
@@ -53,31 +49,5 @@ impl<'r, 'e> Callables for &'r Engine<'e> {
             Some(formatter) => formatter.format(f, value),
             None => fmt::default(f, value),
         }
-    }
-}
-
-/// What an engine denotes, for clauses of other crates: those can't cite the boxes that it holds.
-pub trait EngineView {
-    // Its templates and callables by their names, the default formatter that was set, and the depth.
-    ghost engine_view: { Self → Meaning };
-
-    // The delimiters that it compiles with.
-    ghost syntax_view: { Self → List DelimiterText };
-
-    /// Returns how deep includes may go in renderings that do not set it themselves.
-    fn max_include_depth(&self) -> usize
-        ensures { result ≡ (engine_view self.now).depth };
-}
-
-impl<'r, 'e> EngineView for &'r Engine<'e> {
-    ghost use Rattle.upon_engine.specs.Engine.{engine_of, engine_syntax};
-
-    ghost engine_view = { λ e. engine_of (λ f. (Format-box f).formats f.value) (λ f. (Function-box f).answers f.value)
-        e.now };
-
-    ghost syntax_view = { λ e. engine_syntax e.now };
-
-    fn max_include_depth(&self) -> usize {
-        (**self).depth()
     }
 }

@@ -94,6 +94,7 @@ pub(crate) fn with_name<'s>(
     source: CowStr<'s>,
 ) -> Result<Template<'s>>
     ensures source { IfOk result (λ t. template_source t ≡ cow_str_bytes source.entry) }
+    ensures syntax { IfOk result (λ t. template_syntax t ≡ searcher_delimiters searcher.now) }
     ensures has_tree { IfOk result
         (λ t. HasTree (searcher_delimiters searcher.now) (cow_str_bytes source.entry) (template_tree t)) }
     ensures only_tree { IfOk result

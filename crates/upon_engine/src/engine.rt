@@ -1,21 +1,22 @@
 // An engine: templates and callables by their names.
-ghost use Rattle.std.specs.Prelude.{◌≡◌, ℕ, List, Some, None, IsSome, IfSome, IfOk, IfErr, OnOk, OnErr, is_some, option_map};
+ghost use Rattle.std.specs.Prelude.{◌≡◌, IfSome, IfOk, IfErr, IsSome, OnOk, is_some, option_map};
 ghost use Rattle.std.specs.BTreeMap.{get_by_text};
 ghost use Rattle.std.specs.Cow.{cow_str_bytes};
 ghost use Rattle.upon_types.specs.Answers.{formatter, function};
 ghost use Rattle.upon_types.specs.Error.{fault_of};
 ghost use Rattle.upon_types.specs.Fault.{syntax};
 ghost use Rattle.upon_types.specs.Tree.{Statements};
-ghost use Rattle.upon_language_spec.specs.DefaultDelimiters.{default_delimiters};
 ghost use Rattle.upon_language_spec.specs.Grammar.{HasTree};
 ghost use Rattle.upon_lexer.specs.Syntax.{syntax_delimiters};
 ghost use Rattle.upon_syntax.specs.TagReading.{IsSyntaxError};
 ghost use Rattle.upon_vm_calls.specs.Calls.{sort_of};
-ghost use Rattle.upon_engine.specs.Before.{KeepsOldTree, KeepsOldTemplate, HadNoTree};
+ghost use Rattle.upon_engine.specs.Before.{KeepsOldTree, HadNoTree};
 ghost use Rattle.upon_engine.specs.Callables.{callable_of};
 ghost use Rattle.upon_engine.specs.Faults.{IsSyntaxErrorOf};
 ghost use Rattle.upon_engine.specs.Template.{template_of, template_source, template_syntax, template_tree};
-ghost use Rattle.upon_engine.specs.Engine.{engine_depth, engine_of, engine_syntax, OthersStay, AllStay, HoldsTemplate};
+ghost use Rattle.upon_engine.specs.Engine.{engine_depth, engine_syntax, engine_templates};
+ghost use Rattle.upon_engine.specs.Changes.{empty_engine, unless_refused, with_text, without_text, with_callable, without_callable, with_default_formatter, with_depth, with_syntax};
+ghost use Rattle.upon_engine.specs.Texts.{texts_of};
 
 use crate::compile;
 use crate::template::Template;
@@ -51,13 +52,7 @@ impl<'e> Engine<'e> {
     /// Creates an engine without templates and callables, with the default syntax, the default formatter, and 64 as the
     /// depth of includes. It keeps the allocator.
     pub fn new(alloc: Global) -> Engine<'e>
-        ensures templates { (name : List ℕ) → (engine_of (λ f. formats f) (λ f. answers f) result).templates name
-            ≡ None }
-        ensures callables { (name : List ℕ) → (engine_of (λ f. formats f) (λ f. answers f) result).callables name
-            ≡ None }
-        ensures default_formatter { (engine_of (λ f. formats f) (λ f. answers f) result).default_formatter ≡ None }
-        ensures depth { (engine_of (λ f. formats f) (λ f. answers f) result).depth ≡ 64 }
-        ensures syntax { engine_syntax result ≡ default_delimiters }
+        ensures { texts_of formats answers result ≡ empty_engine }
     {
         Engine {
             alloc,
@@ -71,13 +66,7 @@ impl<'e> Engine<'e> {
 
     /// Creates the same engine as [`Engine::new`].
     pub fn default(alloc: Global) -> Engine<'e>
-        ensures templates { (name : List ℕ) → (engine_of (λ f. formats f) (λ f. answers f) result).templates name
-            ≡ None }
-        ensures callables { (name : List ℕ) → (engine_of (λ f. formats f) (λ f. answers f) result).callables name
-            ≡ None }
-        ensures default_formatter { (engine_of (λ f. formats f) (λ f. answers f) result).default_formatter ≡ None }
-        ensures depth { (engine_of (λ f. formats f) (λ f. answers f) result).depth ≡ 64 }
-        ensures syntax { engine_syntax result ≡ default_delimiters }
+        ensures { texts_of formats answers result ≡ empty_engine }
     {
         Engine::new(alloc)
     }
@@ -85,28 +74,23 @@ impl<'e> Engine<'e> {
     /// Sets how deep includes may go in renderings that do not set it themselves. The template that is rendered counts
     /// as one; 0 acts as 1.
     pub fn set_max_include_depth(&mut self, depth: usize)
-        ensures engine { engine_of (λ f. formats f) (λ f. answers f) self.new
-            ≡ record (engine_of (λ f. formats f) (λ f. answers f) self.old) { depth = depth } }
-        ensures syntax { engine_syntax self.new ≡ engine_syntax self.old }
+        ensures { texts_of formats answers self.new ≡ with_depth depth (texts_of formats answers self.old) }
     {
         self.depth = depth;
     }
 
     /// Sets the syntax for templates that are compiled from now on.
     pub fn set_syntax(&mut self, syntax: Syntax)
-        ensures engine { engine_of (λ f. formats f) (λ f. answers f) self.new
-            ≡ engine_of (λ f. formats f) (λ f. answers f) self.old }
-        ensures syntax { engine_syntax self.new ≡ syntax_delimiters syntax }
+        ensures { texts_of formats answers self.new
+            ≡ with_syntax (syntax_delimiters syntax) (texts_of formats answers self.old) }
     {
         self.searcher = Searcher::with_syntax(syntax);
     }
 
     /// Sets what writes the values that are shown without a formatter's name.
     pub fn set_default_formatter(&mut self, formatter: Box<dyn Format>)
-        ensures engine { let old = engine_of (λ f. formats f) (λ f. answers f) self.old in
-            engine_of (λ f. formats f) (λ f. answers f) self.new
-            ≡ record old { default_formatter = Some (formats formatter) } }
-        ensures syntax { engine_syntax self.new ≡ engine_syntax self.old }
+        ensures { texts_of formats answers self.new
+            ≡ with_default_formatter (formats formatter) (texts_of formats answers self.old) }
     {
         self.default_formatter = Some(formatter);
     }
@@ -151,26 +135,17 @@ impl<'e> Engine<'e> {
     /// is out, the engine stays as it was; the fault is as for [`Engine::compile`], with the template's name. A text
     /// that had a tree before `for .. else` has that tree.
     pub fn add_template(&mut self, name: CowStr<'_>, source: CowStr<'e>) -> Result<()>
-        ensures added { OnOk result
-            (HoldsTemplate (engine_syntax self.old) (cow_str_bytes source.entry)
-            ((engine_of (λ f. formats f) (λ f. answers f) self.new).templates (cow_str_bytes name.entry))) }
-        ensures others { OthersStay (cow_str_bytes name.entry)
-            (engine_of (λ f. formats f) (λ f. answers f) self.old).templates
-            (engine_of (λ f. formats f) (λ f. answers f) self.new).templates }
-        ensures refused { OnErr result (AllStay (engine_of (λ f. formats f) (λ f. answers f) self.old).templates
-            (engine_of (λ f. formats f) (λ f. answers f) self.new).templates) }
+        ensures engine { texts_of formats answers self.new
+            ≡ unless_refused result (with_text (cow_str_bytes name.entry) (cow_str_bytes source.entry))
+            (texts_of formats answers self.old) }
+        // So under the name there is a text, as `Engine::template` asks.
+        ensures held { OnOk result (IsSome ((texts_of formats answers self.new).texts (cow_str_bytes name.entry))) }
         ensures fault { IfErr result
             (IsSyntaxErrorOf (cow_str_bytes name.entry) (engine_syntax self.old) (cow_str_bytes source.entry)) }
         ensures no_tree { IfErr result (λ e. (fault_of e).kind ≡ syntax
             → (tree : Statements) → HasTree (engine_syntax self.old) (cow_str_bytes source.entry) tree → ⊥) }
-        ensures kept { OnOk result
-            (KeepsOldTemplate (engine_syntax self.old) (cow_str_bytes source.entry)
-            ((engine_of (λ f. formats f) (λ f. answers f) self.new).templates (cow_str_bytes name.entry))) }
         ensures accepted { IfErr result
             (λ e. (fault_of e).kind ≡ syntax → HadNoTree (engine_syntax self.old) (cow_str_bytes source.entry)) }
-        ensures beside { let old = engine_of (λ f. formats f) (λ f. answers f) self.old in
-            record (engine_of (λ f. formats f) (λ f. answers f) self.new) { templates = old.templates } ≡ old }
-        ensures syntax { engine_syntax self.new ≡ engine_syntax self.old }
     {
         let template = compile::with_name(self.alloc, &self.searcher, name.as_str(), source)?;
         let name = name.into_owned(self.alloc)?;
@@ -185,31 +160,23 @@ impl<'e> Engine<'e> {
 
     /// Removes a template. Returns whether there was one of this name.
     pub fn remove_template(&mut self, name: &str) -> bool
-        ensures removed { (engine_of (λ f. formats f) (λ f. answers f) self.new).templates name.now ≡ None }
-        ensures was_there { result
-            ≡ is_some ((engine_of (λ f. formats f) (λ f. answers f) self.old).templates name.now) }
-        ensures others { OthersStay name.now
-            (engine_of (λ f. formats f) (λ f. answers f) self.old).templates
-            (engine_of (λ f. formats f) (λ f. answers f) self.new).templates }
-        ensures beside { let old = engine_of (λ f. formats f) (λ f. answers f) self.old in
-            record (engine_of (λ f. formats f) (λ f. answers f) self.new) { templates = old.templates } ≡ old }
-        ensures syntax { engine_syntax self.new ≡ engine_syntax self.old }
+        ensures engine { texts_of formats answers self.new
+            ≡ without_text name.now (texts_of formats answers self.old) }
+        ensures was_there { result ≡ is_some ((texts_of formats answers self.old).texts name.now) }
     {
         self.templates.remove(name).is_some()
     }
 
     /// Returns the template of a name.
     pub(crate) fn held(&self, name: &str) -> Option<&Template<'e>>
-        ensures { option_map (λ t. template_of t.now) result
-            ≡ (engine_of (λ f. formats f) (λ f. answers f) self.now).templates name.now }
+        ensures { option_map (λ t. template_of t.now) result ≡ engine_templates self.now name.now }
     {
         self.templates.get(name)
     }
 
     /// Returns the template of a name, with the name as the engine keeps it.
     pub(crate) fn held_with_name(&self, name: &str) -> Option<(&str, &Template<'e>)>
-        ensures template { option_map (λ p. template_of p.1.now) result
-            ≡ (engine_of (λ f. formats f) (λ f. answers f) self.now).templates name.now }
+        ensures template { option_map (λ p. template_of p.1.now) result ≡ engine_templates self.now name.now }
         ensures name { IfSome result (λ p. p.0.now ≡ name.now) }
     {
         match self.templates.get_key_value(name) {
@@ -229,7 +196,7 @@ impl<'e> Engine<'e> {
 impl Callable {
     /// Returns whether it is a formatter or a function.
     pub(crate) fn kind(&self) -> EngineCallable
-        ensures { result ≡ sort_of (callable_of (λ f. formats f) (λ f. answers f) self.now) }
+        ensures { result ≡ sort_of (callable_of formats answers self.now) }
     {
         match self {
             Callable::Formatter(_) => EngineCallable::Formatter,
@@ -246,19 +213,11 @@ impl<'e> Engine<'e> {
         name: CowStr<'_>,
         added: Box<dyn Format>,
     ) -> std::result::Result<Option<EngineCallable>, AllocError>
-        ensures added { OnOk result
-            ((engine_of (λ f. formats f) (λ f. answers f) self.new).callables (cow_str_bytes name.entry)
-            ≡ Some (formatter (formats added))) }
-        ensures replaced { IfOk result (λ old. old ≡ option_map sort_of
-            ((engine_of (λ f. formats f) (λ f. answers f) self.old).callables (cow_str_bytes name.entry))) }
-        ensures others { OthersStay (cow_str_bytes name.entry)
-            (engine_of (λ f. formats f) (λ f. answers f) self.old).callables
-            (engine_of (λ f. formats f) (λ f. answers f) self.new).callables }
-        ensures refused { OnErr result (AllStay (engine_of (λ f. formats f) (λ f. answers f) self.old).callables
-            (engine_of (λ f. formats f) (λ f. answers f) self.new).callables) }
-        ensures beside { let old = engine_of (λ f. formats f) (λ f. answers f) self.old in
-            record (engine_of (λ f. formats f) (λ f. answers f) self.new) { callables = old.callables } ≡ old }
-        ensures syntax { engine_syntax self.new ≡ engine_syntax self.old }
+        ensures engine { texts_of formats answers self.new
+            ≡ unless_refused result (with_callable (cow_str_bytes name.entry) (formatter (formats added)))
+            (texts_of formats answers self.old) }
+        ensures replaced { IfOk result (λ was. was
+            ≡ option_map sort_of ((texts_of formats answers self.old).callables (cow_str_bytes name.entry))) }
     {
         self.put(name, Callable::Formatter(added))
     }
@@ -270,34 +229,21 @@ impl<'e> Engine<'e> {
         name: CowStr<'_>,
         added: Box<dyn Function>,
     ) -> std::result::Result<Option<EngineCallable>, AllocError>
-        ensures added { OnOk result
-            ((engine_of (λ f. formats f) (λ f. answers f) self.new).callables (cow_str_bytes name.entry)
-            ≡ Some (function (answers added))) }
-        ensures replaced { IfOk result (λ old. old ≡ option_map sort_of
-            ((engine_of (λ f. formats f) (λ f. answers f) self.old).callables (cow_str_bytes name.entry))) }
-        ensures others { OthersStay (cow_str_bytes name.entry)
-            (engine_of (λ f. formats f) (λ f. answers f) self.old).callables
-            (engine_of (λ f. formats f) (λ f. answers f) self.new).callables }
-        ensures refused { OnErr result (AllStay (engine_of (λ f. formats f) (λ f. answers f) self.old).callables
-            (engine_of (λ f. formats f) (λ f. answers f) self.new).callables) }
-        ensures beside { let old = engine_of (λ f. formats f) (λ f. answers f) self.old in
-            record (engine_of (λ f. formats f) (λ f. answers f) self.new) { callables = old.callables } ≡ old }
-        ensures syntax { engine_syntax self.new ≡ engine_syntax self.old }
+        ensures engine { texts_of formats answers self.new
+            ≡ unless_refused result (with_callable (cow_str_bytes name.entry) (function (answers added)))
+            (texts_of formats answers self.old) }
+        ensures replaced { IfOk result (λ was. was
+            ≡ option_map sort_of ((texts_of formats answers self.old).callables (cow_str_bytes name.entry))) }
     {
         self.put(name, Callable::Function(added))
     }
 
     /// Removes a formatter or a function. Returns which of both was there, or `None`.
     pub fn remove_callable(&mut self, name: &str) -> Option<EngineCallable>
-        ensures removed { (engine_of (λ f. formats f) (λ f. answers f) self.new).callables name.now ≡ None }
+        ensures engine { texts_of formats answers self.new
+            ≡ without_callable name.now (texts_of formats answers self.old) }
         ensures was_there { result
-            ≡ option_map sort_of ((engine_of (λ f. formats f) (λ f. answers f) self.old).callables name.now) }
-        ensures others { OthersStay name.now
-            (engine_of (λ f. formats f) (λ f. answers f) self.old).callables
-            (engine_of (λ f. formats f) (λ f. answers f) self.new).callables }
-        ensures beside { let old = engine_of (λ f. formats f) (λ f. answers f) self.old in
-            record (engine_of (λ f. formats f) (λ f. answers f) self.new) { callables = old.callables } ≡ old }
-        ensures syntax { engine_syntax self.new ≡ engine_syntax self.old }
+            ≡ option_map sort_of ((texts_of formats answers self.old).callables name.now) }
     {
         let old = self.callables.remove(name);
         kind_of_old(old)
@@ -309,19 +255,11 @@ impl<'e> Engine<'e> {
         name: CowStr<'_>,
         callable: Callable,
     ) -> std::result::Result<Option<EngineCallable>, AllocError>
-        ensures added { OnOk result
-            ((engine_of (λ f. formats f) (λ f. answers f) self.new).callables (cow_str_bytes name.entry)
-            ≡ Some (callable_of (λ f. formats f) (λ f. answers f) callable)) }
-        ensures replaced { IfOk result (λ old. old ≡ option_map sort_of
-            ((engine_of (λ f. formats f) (λ f. answers f) self.old).callables (cow_str_bytes name.entry))) }
-        ensures others { OthersStay (cow_str_bytes name.entry)
-            (engine_of (λ f. formats f) (λ f. answers f) self.old).callables
-            (engine_of (λ f. formats f) (λ f. answers f) self.new).callables }
-        ensures refused { OnErr result (AllStay (engine_of (λ f. formats f) (λ f. answers f) self.old).callables
-            (engine_of (λ f. formats f) (λ f. answers f) self.new).callables) }
-        ensures beside { let old = engine_of (λ f. formats f) (λ f. answers f) self.old in
-            record (engine_of (λ f. formats f) (λ f. answers f) self.new) { callables = old.callables } ≡ old }
-        ensures syntax { engine_syntax self.new ≡ engine_syntax self.old }
+        ensures engine { texts_of formats answers self.new
+            ≡ unless_refused result (with_callable (cow_str_bytes name.entry) (callable_of formats answers callable))
+            (texts_of formats answers self.old) }
+        ensures replaced { IfOk result (λ was. was
+            ≡ option_map sort_of ((texts_of formats answers self.old).callables (cow_str_bytes name.entry))) }
     {
         let name = name.into_owned(self.alloc)?;
         match self.callables.insert(name, callable) {
@@ -347,7 +285,7 @@ impl<'e> Engine<'e> {
 
 // What a callable was that another one replaced.
 fn kind_of_old(old: Option<Callable>) -> Option<EngineCallable>
-    ensures { result ≡ option_map (λ c. sort_of (callable_of (λ f. formats f) (λ f. answers f) c)) old }
+    ensures { result ≡ option_map (λ c. sort_of (callable_of formats answers c)) old }
 {
     match old {
         Some(callable) => Some(callable.kind()),

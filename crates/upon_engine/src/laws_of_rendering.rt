@@ -14,7 +14,7 @@ use crate::engine::Engine;
 /// States that a text without a delimiter renders as itself, on each value and under each name.
 pub fn plain_text(engine: &Engine<'_>)
     // What a rendering of such a text answers is the text, or that memory is out.
-    ensures { let engine = texts_of (λ f. formats f) (λ f. answers f) engine.now in
+    ensures { let engine = texts_of formats answers engine.now in
         (name : Option (List ℕ)) (source : List ℕ) (v : Val) (result : Result (String Global) Error)
         → IsPlain engine.syntax source → AnswersFor engine name source v result → IsText source result }
 {}
@@ -22,7 +22,7 @@ pub fn plain_text(engine: &Engine<'_>)
 /// States that what rendering a text answers is what a writer receives that takes all.
 pub fn text_is_sent(engine: &Engine<'_>)
     // If the source has a tree, and both renderings of it end well, the writer has received the text of the one.
-    ensures { let engine = texts_of (λ f. formats f) (λ f. answers f) engine.now in
+    ensures { let engine = texts_of formats answers engine.now in
         (name : Option (List ℕ)) (source : List ℕ) (v : Val) (text : String Global) (old new : Option (List ℕ))
         → (((tree : Statements) → HasTree engine.syntax source tree → ⊥) → ⊥)
         → AnswersFor engine name source v (Ok text) → SendsFor engine name source v (Ok tt) old new

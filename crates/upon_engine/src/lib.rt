@@ -5,6 +5,7 @@ pub mod callables;
 pub mod compile;
 pub mod engine;
 pub mod laws_of_rendering;
+pub mod laws_of_templates;
 pub mod needs;
 pub mod renderer;
 pub mod sources;

@@ -7,7 +7,7 @@ ghost use Rattle.upon_meaning_spec.specs.Includes.{Reaches};
 ghost use Rattle.upon_meaning_spec.specs.Missing.{Missing};
 ghost use Rattle.upon_meaning_spec.specs.Needs.{a_name, Needs as NeedsStart, NeedsAll, NeedsName, StatementsBegin};
 ghost use Rattle.upon_machine_spec.specs.ProgramNames.{Lists};
-ghost use Rattle.upon_engine.specs.Engine.{engine_of};
+ghost use Rattle.upon_engine.specs.Engine.{engine_templates};
 ghost use Rattle.upon_engine.specs.EngineNeeds.{needed_names, reached_templates, missing_names, needs_whole, table_in, start_of, link, Linked, HeldBegins, OneBegins, Searched, Marked};
 ghost use Rattle.upon_engine.specs.Names.{texts, has, Rise};
 ghost use Rattle.upon_engine.specs.Template.{template_of, template_tree};
@@ -39,7 +39,7 @@ pub(crate) enum Links<'n> {
 }
 
 impl<'n> Needs<'n> {
-    /// Returns the names that the context must have, in ascending order, each once.
+    /// Returns the names of the context that can count, in ascending order, each once.
     pub fn names(&self) -> &[&'n str]
         ensures { texts result.now ≡ needed_names self.now }
     {
@@ -344,28 +344,27 @@ impl<'e> Engine<'e> {
     /// takes time in proportion to the names times the instructions of the template and those that it reaches.
     pub fn needs(&self, name: &str) -> Option<Result<Needs<'_>, AllocError>>
         // A name is among those needed exactly if the template needs it of its context.
-        ensures names { let table = (engine_of (λ f. formats f) (λ f. answers f) self.now).templates in
+        ensures names { let table = engine_templates self.now in
             (t : TemplateMeant) → table name.now ≡ Some t → IsSomeAnd result (λ r. IfOk r (λ needs. (word : List ℕ)
             → Contains (needed_names needs) word ↔ NeedsName table t.tree word)) }
         // A name is among the templates exactly if the template reaches it, and the engine has a template of it.
-        ensures templates { let table = (engine_of (λ f. formats f) (λ f. answers f) self.now).templates in
+        ensures templates { let table = engine_templates self.now in
             (t : TemplateMeant) → table name.now ≡ Some t → IsSomeAnd result (λ r. IfOk r (λ needs. (word : List ℕ)
             → Contains (reached_templates needs) word ↔ (Reaches table t.tree word × (is_some (table word) ≡ true)))) }
         // A name is among the missing exactly if the template reaches it, and the engine has no template of it.
-        ensures missing { let table = (engine_of (λ f. formats f) (λ f. answers f) self.now).templates in
+        ensures missing { let table = engine_templates self.now in
             (t : TemplateMeant) → table name.now ≡ Some t → IsSomeAnd result (λ r. IfOk r (λ needs. (word : List ℕ)
             → Contains (missing_names needs) word ↔ Missing table t.tree word)) }
         // The whole context counts exactly if an index begins a path.
-        ensures whole { let table = (engine_of (λ f. formats f) (λ f. answers f) self.now).templates in
+        ensures whole { let table = engine_templates self.now in
             (t : TemplateMeant) → table name.now ≡ Some t → IsSomeAnd result (λ r. IfOk r (λ needs.
             (needs_whole needs ≡ true) ↔ NeedsAll table t.tree)) }
         // Each list is in ascending order.
-        ensures rise { let table = (engine_of (λ f. formats f) (λ f. answers f) self.now).templates in
+        ensures rise { let table = engine_templates self.now in
             (t : TemplateMeant) → table name.now ≡ Some t → IsSomeAnd result (λ r. IfOk r (λ needs.
             Rise (needed_names needs) × Rise (reached_templates needs) × Rise (missing_names needs))) }
         // There is no answer exactly if the engine has no template of the name.
-        ensures absent { IsNone result
-            ↔ ((engine_of (λ f. formats f) (λ f. answers f) self.now).templates name.now ≡ None) }
+        ensures absent { IsNone result ↔ (engine_templates self.now name.now ≡ None) }
     {
         match self.held(name) {
             Some(template) => Some(needs_of(self.templates(), template)),

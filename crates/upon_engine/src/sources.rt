@@ -64,7 +64,7 @@ pub struct EngineTemplates<'r, 'e> {
 
 impl<'r, 'e> TemplateSource<'r> for EngineTemplates<'r, 'e> {
     ghost use Rattle.upon_meaning_spec.specs.Engine.{from_table};
-    ghost use Rattle.upon_engine.specs.Engine.{engine_of};
+    ghost use Rattle.upon_engine.specs.Engine.{engine_templates};
     ghost use Rattle.std.specs.BTreeMap.{get_by_text};
     ghost use Rattle.std.specs.Prelude.{[]};
     ghost use Rattle.upon_compiled_spec.proofs.CompiledTree.{spans};
@@ -75,8 +75,7 @@ impl<'r, 'e> TemplateSource<'r> for EngineTemplates<'r, 'e> {
 
     ghost template_state = { λ _. tt };
 
-    ghost resolve = { λ s. from_table (engine_of
-        (λ f. (Format-box f).formats f.value) (λ f. (Function-box f).answers f.value) s.engine.now).templates };
+    ghost resolve = { λ s. from_table (engine_templates s.engine.now) };
 
     ghost holds = { λ _. [] };
 

@@ -3,9 +3,10 @@ ghost use Rattle.std.specs.Prelude.{◌≡◌, Some, IfSome, IsSome, option_map}
 ghost use Rattle.upon_types.specs.View.{view};
 ghost use Rattle.upon_engine.specs.Base.{IsContextOf};
 ghost use Rattle.upon_engine.specs.Calls.{engine_in, values_in, templates_in, template_in, name_in, limit_in};
-ghost use Rattle.upon_engine.specs.Engine.{engine_depth, engine_of};
+ghost use Rattle.upon_engine.specs.Engine.{engine_depth, engine_templates};
 ghost use Rattle.upon_engine.specs.Sources.{base_in, engine_of_templates, source_in, value_in};
 ghost use Rattle.upon_engine.specs.Template.{template_of};
+ghost use Rattle.upon_engine.specs.Texts.{texts_of};
 ghost use Rattle.upon_engine.specs.TemplateRef.{ref_engine, ref_name, ref_template};
 
 use crate::engine::Engine;
@@ -28,8 +29,7 @@ pub struct TemplateRef<'r, 'e> {
 impl<'e> Engine<'e> {
     /// Returns the template of a name, or `None` if there is none. The name need not live as long as the template does.
     pub fn get_template<'r>(&'r self, name: &str) -> Option<TemplateRef<'r, 'e>>
-        ensures template { option_map ref_template result
-            ≡ (engine_of (λ f. formats f) (λ f. answers f) self.now).templates name.now }
+        ensures template { option_map ref_template result ≡ engine_templates self.now name.now }
         ensures engine { IfSome result (λ t. ref_engine t ≡ self.now) }
         ensures name { IfSome result (λ t. ref_name t ≡ name.now) }
     {
@@ -45,9 +45,8 @@ impl<'e> Engine<'e> {
 
     /// Returns the template of a name that is there. The name need not live as long as the template does.
     pub fn template<'r>(&'r self, name: &str) -> TemplateRef<'r, 'e>
-        requires { IsSome ((engine_of (λ f. formats f) (λ f. answers f) self.now).templates name.now) }
-        ensures template { Some (ref_template result)
-            ≡ (engine_of (λ f. formats f) (λ f. answers f) self.now).templates name.now }
+        requires { IsSome ((texts_of formats answers self.now).texts name.now) }
+        ensures template { Some (ref_template result) ≡ engine_templates self.now name.now }
         ensures engine { ref_engine result ≡ self.now }
         ensures name { ref_name result ≡ name.now }
     {

@@ -24,7 +24,7 @@ use Rattle.upon_before_spec.specs.Tree.{Statements as StatementsBefore}
 use Rattle.upon_before_spec.proofs.RenderingKept.{rendering_kept}
 use Rattle.upon_engine.specs.Answers.{AnswersText}
 use Rattle.upon_engine.specs.Before.{HadNoTree}
-use Rattle.upon_engine.specs.Engine.{engine_of}
+use Rattle.upon_engine.proofs.Renderings.{engine_of}
 use Rattle.upon_engine.specs.declared.engine.Engine.{Engine as Held}
 
 -- a template with a source and the tree of before is the one of before

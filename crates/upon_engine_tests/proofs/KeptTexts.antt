@@ -8,12 +8,12 @@ use Rattle.upon_meaning_spec.specs.Engine.{Table, from_table}
 use Rattle.upon_meaning_spec.specs.GreaterDepth.{GoesOn}
 use Rattle.upon_meaning_spec.specs.Names.{AgreeOn, Reads}
 use Rattle.upon_meaning_spec.specs.Outcome.{Outcome, End, good, too_deep}
-use Rattle.upon_woven_spec.specs.Parts.{IsRawPart, IsWritten}
-use Rattle.upon_woven_spec.specs.Woven.{WovenOf}
+use Rattle.upon_woven_spec.specs.Parts.{WovenOf}
 use Rattle.upon_engine.specs.Answers.{AnswersText}
 use Rattle.upon_engine.specs.Base.{on_root}
 use Rattle.upon_engine.specs.Calls.{Call, outcome, on_base}
 use Rattle.upon_engine.specs.KeepsLaws.{KeepsLaws}
+use Rattle.upon_engine.specs.Pieces.{pieces}
 
 -- an end that is good is not that includes are too deep
 not_deep : (e : End) → e ≡ good → e ≡ too_deep → ⊥
@@ -42,11 +42,9 @@ on_maps call table v w these those a b laws by root one other is are agree =
     let others = ap (λ x. outcome (on_base (on_root (context x)) call)) (sym are) in
     one ∙ ap (λ o. o.text) (outcomes ∙ others) ∙ sym other
 
--- a text that is there is raw parts of templates, and what formatters wrote, joined
+-- a text that is there is the call's pieces joined
 pub woven_text : {V T : Type 0} (call : Call V T) (limit : ℕ) (r : Result (String Global) Error)
     → AnswersText limit (outcome call) r → KeepsLaws call
-    → IfOk r (λ text. WovenOf (IsRawPart call.rendering.resolve call.template)
-    (IsWritten call.rendering.calls call.rendering.resolve call.template) (string_bytes text))
-woven_text call limit (Ok text) said laws = subst (λ x. WovenOf (IsRawPart call.rendering.resolve call.template)
-    (IsWritten call.rendering.calls call.rendering.resolve call.template) x) (sym said.1) laws.woven
+    → IfOk r (λ text. WovenOf call.rendering.calls call.rendering.resolve call.template (pieces call) (string_bytes text))
+woven_text call limit (Ok text) said laws = subst (λ x. WovenOf call.rendering.calls call.rendering.resolve call.template (pieces call) x) (sym said.1) laws.woven
 woven_text call limit (Err e) said laws = tt

@@ -10,7 +10,7 @@ use Rattle.upon_meaning_spec.specs.Engine.{Template, calls_of, from_table}
 use Rattle.upon_meaning_spec.specs.Outcome.{states}
 use Rattle.upon_engine.specs.Base.{on_root}
 use Rattle.upon_engine.specs.Calls.{Call, engine_in, values_in, templates_in, template_in, name_in, limit_in}
-use Rattle.upon_engine.specs.Engine.{engine_of}
+use Rattle.upon_engine.proofs.Renderings.{engine_of}
 use Rattle.upon_engine.specs.Sources.{engine_of_templates, value_in}
 use Rattle.upon_engine.specs.declared.engine.Engine.{Engine as Held}
 use Rattle.upon_engine.specs.declared.renderer.Renderer.{Renderer}

@@ -1,1 +1,3 @@
 pub mod OnValue
+pub mod Greeting
+pub mod Page

@@ -14,20 +14,22 @@ ghost use Rattle.upon_meaning_spec.specs.Includes.{IsNumbered, Reaches};
 ghost use Rattle.upon_meaning_spec.specs.Meaning.{RunningTemplate, statement_means};
 ghost use Rattle.upon_meaning_spec.specs.Names.{AgreeOn, Reads};
 ghost use Rattle.upon_meaning_spec.specs.Outcome.{States, too_deep};
-ghost use Rattle.upon_woven_spec.specs.Parts.{IsRawPart, IsWritten};
-ghost use Rattle.upon_woven_spec.specs.Woven.{WovenOf};
+ghost use Rattle.upon_woven_spec.specs.Parts.{WovenOf};
 ghost use Rattle.upon_engine.specs.Answers.{AnswersText};
 ghost use Rattle.upon_engine.specs.Base.{on_root};
 ghost use Rattle.upon_engine.specs.Calls.{at_depth, call_of, outcome, values_in};
 ghost use Rattle.upon_engine.specs.KeepsLaws.{KeepsLaws};
+ghost use Rattle.upon_engine.specs.Engine.{engine_templates};
+ghost use Rattle.upon_engine.specs.Pieces.{pieces};
 ghost use Rattle.upon_engine.specs.Template.{template_of};
+ghost use Rattle.upon_engine.specs.Theorem.{engine_meant};
 ghost use Rattle.upon_engine_tests.specs.OnValue.{call_on};
 
-use upon_engine::callables::EngineView;
 use upon_engine::engine::Engine;
 use upon_engine::renderer::Renderer;
 use upon_engine::sources::TemplateSource;
 use upon_engine::template::Template;
+use upon_engine::texts::{AnyEngine, EngineTexts};
 use upon_engine::values::Values;
 use upon_types::error::Result;
 use upon_types::value::Value;
@@ -35,9 +37,9 @@ use upon_vm_calls::callables::Callables;
 
 /// Renders a template on a value, with all that a rendering keeps.
 pub fn rendered(engine: &Engine<'_>, template: &Template<'_>, value: &Value) -> Result<String>
-    ensures means { let e = ⟦<&'static Engine<'static> as EngineView>⟧.engine_view engine.entry in
+    ensures means { let e = engine_meant (⟦<AnyEngine as EngineTexts>⟧.texts engine.now) (engine_templates engine.now) in
         AnswersText e.depth (outcome (call_on e (template_of template.now) (view value.now))) result }
-    ensures laws { let e = ⟦<&'static Engine<'static> as EngineView>⟧.engine_view engine.entry in
+    ensures laws { let e = engine_meant (⟦<AnyEngine as EngineTexts>⟧.texts engine.now) (engine_templates engine.now) in
         KeepsLaws (call_on e (template_of template.now) (view value.now)) }
 {
     template.render_from(engine, value).to_string()
@@ -45,7 +47,7 @@ pub fn rendered(engine: &Engine<'_>, template: &Template<'_>, value: &Value) -> 
 
 /// Renders a template. If the text is there, it is the same at each greater depth.
 pub fn deep_enough(engine: &Engine<'_>, template: &Template<'_>, value: &Value) -> Result<String>
-    ensures { let e = ⟦<&'static Engine<'static> as EngineView>⟧.engine_view engine.entry in
+    ensures { let e = engine_meant (⟦<AnyEngine as EngineTexts>⟧.texts engine.now) (engine_templates engine.now) in
         let call = call_on e (template_of template.now) (view value.now) in
         (depth : ℕ) → e.depth ≤ depth
         → IfOk result (λ text. AnswersText depth (outcome (at_depth depth call)) (Ok text)) }
@@ -55,7 +57,7 @@ pub fn deep_enough(engine: &Engine<'_>, template: &Template<'_>, value: &Value) 
 
 /// Renders a template. If its includes have numbers that fall, from one below the depth, they are never too deep.
 pub fn numbered(engine: &Engine<'_>, template: &Template<'_>, value: &Value) -> Result<String>
-    ensures { let e = ⟦<&'static Engine<'static> as EngineView>⟧.engine_view engine.entry in
+    ensures { let e = engine_meant (⟦<AnyEngine as EngineTexts>⟧.texts engine.now) (engine_templates engine.now) in
         let call = call_on e (template_of template.now) (view value.now) in
         (number : List ℕ → ℕ) (k : ℕ) → IsNumbered e.templates number (template_of template.now).tree k → k < e.depth
         → (outcome call).end ≢ too_deep }
@@ -65,7 +67,7 @@ pub fn numbered(engine: &Engine<'_>, template: &Template<'_>, value: &Value) -> 
 
 /// Renders a template. An include with a value in it means the same, whatever is bound around it.
 pub fn of_others(engine: &Engine<'_>, template: &Template<'_>, value: &Value) -> Result<String>
-    ensures { let e = ⟦<&'static Engine<'static> as EngineView>⟧.engine_view engine.entry in
+    ensures { let e = engine_meant (⟦<AnyEngine as EngineTexts>⟧.texts engine.now) (engine_templates engine.now) in
         let calls = calls_of e never in
         let resolve = from_table e.templates in
         (running : RunningTemplate) (left : ℕ) (word : Ident) (given : Expression) (one other : Environment)
@@ -85,7 +87,7 @@ pub fn on_both(
     one: &Value,
     other: &Value,
 ) -> Result<bool>
-    ensures { let e = ⟦<&'static Engine<'static> as EngineView>⟧.engine_view engine.entry in
+    ensures { let e = engine_meant (⟦<AnyEngine as EngineTexts>⟧.texts engine.now) (engine_templates engine.now) in
         (these those : Entries) → view one.now ≡ map_val these → view other.now ≡ map_val those
         → AgreeOn (Reads e.templates (template_of template.now).tree) (λ n. entry_at n these) (λ n. entry_at n those)
         → IfOk result (λ same. same ≡ true) }
@@ -97,7 +99,7 @@ pub fn on_both(
 
 /// Renders a template. The answer is also that with other templates that agree on those reached.
 pub fn with_others(engine: &Engine<'_>, template: &Template<'_>, value: &Value) -> Result<String>
-    ensures { let e = ⟦<&'static Engine<'static> as EngineView>⟧.engine_view engine.entry in
+    ensures { let e = engine_meant (⟦<AnyEngine as EngineTexts>⟧.texts engine.now) (engine_templates engine.now) in
         (others : Table) → AgreeOn (Reaches e.templates (template_of template.now).tree) e.templates others
         → AnswersText e.depth
         (outcome (call_on (record e { templates = others }) (template_of template.now) (view value.now))) result }
@@ -105,13 +107,12 @@ pub fn with_others(engine: &Engine<'_>, template: &Template<'_>, value: &Value) 
     rendered(engine, template, value)
 }
 
-/// Renders a template. Its text is raw parts of templates, and what formatters wrote for values, joined.
+/// Renders a template. Its text is the rendering's pieces joined, in their order: raw parts of templates, and what
+/// formatters wrote for values.
 pub fn woven(engine: &Engine<'_>, template: &Template<'_>, value: &Value) -> Result<String>
-    ensures { let e = ⟦<&'static Engine<'static> as EngineView>⟧.engine_view engine.entry in
-        let t = template_of template.now in
-        IfOk result (λ text. WovenOf
-        (IsRawPart (from_table {T = Unit {0}} e.templates) t)
-        (IsWritten {V = Unit {0}} (calls_of e never) (from_table {T = Unit {0}} e.templates) t)
+    ensures { let e = engine_meant (⟦<AnyEngine as EngineTexts>⟧.texts engine.now) (engine_templates engine.now) in
+        let call = call_on e (template_of template.now) (view value.now) in
+        IfOk result (λ text. WovenOf call.rendering.calls call.rendering.resolve call.template (pieces call)
         (string_bytes text)) }
 {
     rendered(engine, template, value)

@@ -1,13 +1,14 @@
-// Tests of what an engine renders templates on: contexts, and sources of values and templates.
+// Tests of what an engine renders templates on: values, and sources of values and templates; and callers of the engine.
 #![tactic(auto)]
 
+pub mod built;
 #[cfg(test)]
 mod cached_pages;
 #[cfg(test)]
-mod contexts;
+mod greetings;
 pub mod kept;
 #[cfg(test)]
-mod needs;
+mod named;
 #[cfg(test)]
 mod profile;
 #[cfg(test)]

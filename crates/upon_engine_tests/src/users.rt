@@ -17,18 +17,20 @@ ghost use Rattle.upon_before_spec.specs.Tree.{Statements as StatementsBefore};
 ghost use Rattle.upon_vm.specs.Reports.{IsTaken, WriteMarks, WritesAndLeaves};
 ghost use Rattle.upon_engine.specs.Answers.{AnswersText};
 ghost use Rattle.upon_engine.specs.Base.{Base, IsContextOf, outcome_over};
+ghost use Rattle.upon_engine.specs.Engine.{engine_depth, engine_syntax, engine_templates};
 ghost use Rattle.upon_engine.specs.EngineNeeds.{needed_names};
 ghost use Rattle.upon_engine.specs.RenderingLaws.{IsPlain, IsText};
 ghost use Rattle.upon_engine.specs.Template.{template_of};
+ghost use Rattle.upon_engine.specs.Theorem.{engine_meant, rendering};
 
 use serde::Serialize;
 use std::alloc::AllocError;
 use std::borrow::CowStr;
-use upon_engine::callables::EngineView;
 use upon_engine::engine::Engine;
 use upon_engine::laws_of_rendering::plain_text;
 use upon_engine::needs::Needs;
 use upon_engine::template::Template;
+use upon_engine::texts::{AnyEngine, EngineTexts};
 use upon_engine::theorem::one_table;
 use upon_fmt::output::Output;
 use upon_meaning_spec::laws::needs::names_needed;
@@ -39,8 +41,8 @@ use upon_types::value::Value;
 /// The text of a template on a value.
 pub fn on_value(engine: &Engine<'_>, template: &Template<'_>, value: &Value) -> Result<String>
     ensures { AnswersText
-        (⟦<&'static Engine<'static> as EngineView>⟧.engine_view engine.entry).depth
-        (alone (rendering_of (⟦<&'static Engine<'static> as EngineView>⟧.engine_view engine.entry) never None)
+        (engine_depth engine.now)
+        (alone (rendering (⟦<AnyEngine as EngineTexts>⟧.texts engine.now) (engine_templates engine.now))
         (template_of template.now) None (context (view value.now)) (states (tt {0}) (tt {0})))
         result }
 {
@@ -50,7 +52,7 @@ pub fn on_value(engine: &Engine<'_>, template: &Template<'_>, value: &Value) -> 
 /// The text of a template whose text had a tree before `for .. else`: what that tree meant, if each template that it
 /// reaches is one of before too.
 pub fn as_before(engine: &Engine<'_>, template: &Template<'_>, value: &Value) -> Result<String>
-    ensures { let e = ⟦<&'static Engine<'static> as EngineView>⟧.engine_view engine.entry in
+    ensures { let e = engine_meant (⟦<AnyEngine as EngineTexts>⟧.texts engine.now) (engine_templates engine.now) in
         (before : TableBefore) (t : TemplateBefore) → template_of template.now ≡ template_now t
         → HoldAlike t.tree before e.templates
         → AnswersText
@@ -63,8 +65,8 @@ pub fn as_before(engine: &Engine<'_>, template: &Template<'_>, value: &Value) ->
 
 /// The text of a text that had a tree before `for .. else`: what that tree meant.
 pub fn compiled_as_before(engine: &Engine<'_>, source: CowStr<'_>, value: &Value) -> Result<String>
-    ensures { let e = ⟦<&'static Engine<'static> as EngineView>⟧.engine_view engine.entry in
-        let delimiters = ⟦<&'static Engine<'static> as EngineView>⟧.syntax_view engine.entry in
+    ensures { let e = engine_meant (⟦<AnyEngine as EngineTexts>⟧.texts engine.now) (engine_templates engine.now) in
+        let delimiters = engine_syntax engine.now in
         let s = cow_str_bytes source.entry in
         (before : TableBefore) (tree : StatementsBefore) → HadTree delimiters s tree
         → HoldAlike tree before e.templates
@@ -85,8 +87,8 @@ pub fn on_data<S: Serialize + Drop>(
     context: S,
 ) -> Result<String>
     ensures { (base : Base) × IsContextOf (λ old new. S.writes context old new) base × AnswersText
-        (⟦<&'static Engine<'static> as EngineView>⟧.engine_view engine.entry).depth
-        (outcome_over (rendering_of (⟦<&'static Engine<'static> as EngineView>⟧.engine_view engine.entry) never None)
+        (engine_depth engine.now)
+        (outcome_over (rendering (⟦<AnyEngine as EngineTexts>⟧.texts engine.now) (engine_templates engine.now))
         (template_of template.now) None base (states (tt {0}) (tt {0})))
         result }
 {
@@ -103,12 +105,13 @@ pub fn on_source<S: ValueSource, O: Output>(
 ) -> Result<()>
     ensures mark { WriteMarks result (O.mark out.old) (O.mark out.new) }
     ensures means { WritesAndLeaves
-        (⟦<&'static Engine<'static> as EngineView>⟧.engine_view engine.entry).depth
+        (engine_depth engine.now)
         (IsTaken (O.mark out.new))
         result
         (O.given out.old)
         (O.given out.new)
-        (alone (rendering_of (⟦<&'static Engine<'static> as EngineView>⟧.engine_view engine.entry) (S.ask source.old)
+        (alone (rendering_of
+        (engine_meant (⟦<AnyEngine as EngineTexts>⟧.texts engine.now) (engine_templates engine.now)) (S.ask source.old)
         None) (template_of template.now) None value_source (states (S.value_state source.old) (tt {0})))
         (states (S.value_state source.new) (tt {0})) }
 {
@@ -131,7 +134,7 @@ pub fn rendered_twice(engine: &Engine<'_>, source: &str, value: &Value) -> Resul
 
 /// Renders a text. If no delimiter is in it, that is the text itself.
 pub fn rendered_plain(engine: &Engine<'_>, source: &str, value: &Value) -> Result<String>
-    ensures { IsPlain (⟦<&'static Engine<'static> as EngineView>⟧.syntax_view engine.entry) source.now
+    ensures { IsPlain (engine_syntax engine.now) source.now
         → IsText source.now result }
 {
     plain_text(engine);
@@ -144,7 +147,7 @@ pub fn needs_of<'n>(
     engine: &'n Engine<'_>,
     name: &str,
 ) -> Option<std::result::Result<Needs<'n>, AllocError>>
-    ensures { let e = ⟦<&'static Engine<'static> as EngineView>⟧.engine_view engine.entry in
+    ensures { let e = engine_meant (⟦<AnyEngine as EngineTexts>⟧.texts engine.now) (engine_templates engine.now) in
         (t : TemplateMeant) → e.templates name.now ≡ Some t → IsSomeAnd result (λ r. IfOk r (λ needs.
         (these those : Entries) → AgreeOn (Contains (needed_names needs)) (λ n. entry_at n these)
         (λ n. entry_at n those)

@@ -1,10 +1,8 @@
-// Tests of functions: every adapter, argument, return and refusal once, with its value or its fault.
+// Tests of functions: every adapter, return and refusal once, with its value or its fault, and the examples of docs/FUNCTIONS.md.
 #![tactic(auto)]
 
 #[cfg(test)]
 mod adapters;
-#[cfg(test)]
-mod arguments;
 #[cfg(test)]
 mod callables;
 #[cfg(test)]

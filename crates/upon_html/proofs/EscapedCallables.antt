@@ -1,5 +1,5 @@
 -- What callables call whose formatters escape.
-use Rattle.std.proofs.Common.{◌≡◌, ℕ, List, [], ◌++◌, Bool, false, Option, Some, None, option_map, refl, sym, subst, ap, ◌∙◌}
+use Rattle.std.proofs.Common.{◌≡◌, Option, Some, None, option_map, refl}
 use Rattle.upon_types.specs.Answers.{Callable, Formatter, Function, formatter, function}
 use Rattle.upon_vm_calls.specs.Calls.{sort_of}
 use Rattle.upon_html.specs.Escaped.{escaping, escaping_callable}

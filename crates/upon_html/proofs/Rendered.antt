@@ -1,10 +1,10 @@
 -- What a rendering answers whose formatters escape.
-use Rattle.std.proofs.Common.{◌≡◌, ℕ, List, Option, Some, None, Bool, false, ◌||◌, Result, Ok, Err, option_map, refl, sym, subst, ap, ◌∙◌}
+use Rattle.std.proofs.Common.{◌≡◌, ℕ, List, Option, false, Result, Ok, Err, option_map, sym, subst, ap, ◌∙◌}
 use Rattle.std.specs.Prelude.{String}
 use Rattle.std.specs.BTreeMap.{get_by_text}
 use Rattle.std.specs.declared.alloc.Global.{Global}
 use Rattle.std.specs.declared.dyn_box.DynBox.{DynBox}
-use Rattle.upon_types.specs.Answers.{Formatter, Function, formatter}
+use Rattle.upon_types.specs.Answers.{Formatter, Function}
 use Rattle.upon_types.specs.Tree.{Statements}
 use Rattle.upon_types.specs.Val.{Val}
 use Rattle.upon_types.specs.declared.error.Error.{Error}
@@ -15,13 +15,11 @@ use Rattle.upon_meaning_spec.specs.DefaultFormat.{formatter_or_default}
 use Rattle.upon_meaning_spec.specs.Engine.{Table, Template, from_table}
 use Rattle.upon_meaning_spec.specs.Outcome.{states}
 use Rattle.upon_woven_spec.specs.Marks.{has, FromRawParts}
-use Rattle.upon_woven_spec.specs.Parts.{CanFormat, by_default, by_name, IsRawPart, WritesOnly}
-use Rattle.upon_woven_spec.proofs.RawMarks.{from_raw_parts}
-use Rattle.upon_woven_spec.proofs.WovenTemplates.{only_woven}
+use Rattle.upon_woven_spec.specs.Parts.{by_default, by_name, WritesOnly}
+use Rattle.upon_woven_spec.proofs.RawMarks.{raw_marks}
 use Rattle.upon_engine.specs.Answers.{AnswersText}
 use Rattle.upon_engine.specs.Base.{on_root, outcome_over}
 use Rattle.upon_engine.specs.Calls.{engine_in, values_in, templates_in, template_in, name_in, limit_in}
-use Rattle.upon_engine.specs.Engine.{engine_of}
 use Rattle.upon_engine.specs.Sources.{engine_of_templates, value_in}
 use Rattle.upon_engine.specs.Texts.{Texts, texts_of}
 use Rattle.upon_engine.specs.Theorem.{IsTable, rendering, meaning, Answers}
@@ -31,9 +29,10 @@ use Rattle.upon_engine.specs.declared.sources.EngineTemplates.{EngineTemplates}
 use Rattle.upon_engine.specs.declared.values.Context.{Context}
 use Rattle.upon_engine.proofs.Tables.{made, only_table}
 use Rattle.upon_html.specs.Callables.{callables_in}
+use Rattle.upon_engine.proofs.Renderings.{engine_of}
 use Rattle.upon_html.specs.Escape.{escape, is_markup}
 use Rattle.upon_html.specs.Escaped.{escaping, escaping_callable}
-use Rattle.upon_html.specs.EscapedPage.{page, escaping_all, MarkupIsRaw}
+use Rattle.upon_html.specs.EscapedPage.{page, page_pieces, escaping_all, MarkupIsRaw}
 use Rattle.upon_html.specs.declared.callables.Escaping.{Escaping}
 use Rattle.upon_html.proofs.EscapeLaws.{no_markup}
 use Rattle.upon_html.proofs.EscapedCallables.{was_formatter}
@@ -51,13 +50,12 @@ all_unmarked e table t f (by_name u name g reached names is) v =
     subst (λ h. has is_markup (h v).text ≡ false) was.2 (escaped_unmarked was.0 v)
 
 -- so the markup of the text is raw
-pub raw_answer : (e : Texts) (table : Table) (name : Option (List ℕ)) (source : List ℕ) (tree : Statements) (v : Val) (r : Result (String Global) Error) → AnswersText e.depth (meaning (escaping_all e) table name source tree v) r → MarkupIsRaw table source tree r
+pub raw_answer : (e : Texts) (table : Table) (name : Option (List ℕ)) (source : List ℕ) (tree : Statements) (v : Val) (r : Result (String Global) Error) → AnswersText e.depth (meaning (escaping_all e) table name source tree v) r → MarkupIsRaw (escaping_all e) table name source tree v r
 raw_answer e table name source tree v (Ok text) h =
     let t = page source tree in
     let all = rendering (escaping_all e) table in
-    subst (FromRawParts (IsRawPart {T = Unit {0}} (from_table table) t) is_markup) (sym h.1)
-    (from_raw_parts is_markup (IsRawPart all.resolve t) (alone all t name (context v) (states tt tt)).text
-    (only_woven (λ text. has is_markup text ≡ false) all t name (context v) (states tt tt) (all_unmarked e table t)))
+    subst (FromRawParts is_markup (page_pieces (escaping_all e) table name source tree v)) (sym h.1)
+    (raw_marks is_markup all t name (context v) (states tt tt) (all_unmarked e table t))
 raw_answer e table name source tree v (Err x) h = tt
 
 -- the engine whose callables are escaped
@@ -100,5 +98,5 @@ module _ {X Y : Type 0} {P : X → Type 0} {Q : Y → Type 0} (formats : DynBox 
         (subst (λ z. AnswersText e.depth (alone (rendering (escaping_all (texts_of formats answers e)) (engine_of formats answers e).templates) z name (context v) (states tt tt)) result) is said)
 
     pub markup_of : (name : Option (List ℕ)) (source : List ℕ) (tree : Statements) (v : Val) (result : Result (String Global) Error)
-        → Answers (escaping_all (texts_of formats answers e)) name source tree v result → (table : Table) → IsTable (texts_of formats answers e).texts table → MarkupIsRaw table source tree result
+        → Answers (escaping_all (texts_of formats answers e)) name source tree v result → (table : Table) → IsTable (texts_of formats answers e).texts table → MarkupIsRaw (escaping_all (texts_of formats answers e)) table name source tree v result
     markup_of name source tree v result said table it = raw_answer (texts_of formats answers e) table name source tree v result (said table it)

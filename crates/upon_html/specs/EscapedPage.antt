@@ -1,13 +1,17 @@
 -- Pages of an engine, with the text of each formatter escaped.
-use Rattle.std.specs.Prelude.{◌≡◌, ℕ, List, Some, Result, Ok, Err, String, string_bytes, option_map}
+use Rattle.std.specs.Prelude.{ℕ, List, Option, Some, Result, Ok, Err, String, string_bytes, option_map}
 use Rattle.std.specs.declared.alloc.Global.{Global}
 use Rattle.upon_types.specs.Tree.{Statements}
+use Rattle.upon_types.specs.Val.{Val}
 use Rattle.upon_types.specs.declared.error.Error.{Error}
+use Rattle.upon_render.specs.Environment.{context}
 use Rattle.upon_meaning_spec.specs.DefaultFormat.{formatter_or_default}
-use Rattle.upon_meaning_spec.specs.Engine.{Template, Table, from_table}
+use Rattle.upon_meaning_spec.specs.Engine.{Template, Table}
+use Rattle.upon_meaning_spec.specs.Outcome.{states}
 use Rattle.upon_woven_spec.specs.Marks.{FromRawParts}
-use Rattle.upon_woven_spec.specs.Parts.{IsRawPart}
+use Rattle.upon_woven_spec.specs.Pieces.{Piece, pieces_of}
 use Rattle.upon_engine.specs.Texts.{Texts}
+use Rattle.upon_engine.specs.Theorem.{rendering}
 use Rattle.upon_html.specs.Escape.{is_markup}
 use Rattle.upon_html.specs.Escaped.{escaping, escaping_callable}
 
@@ -22,9 +26,15 @@ escaping_all e = record e {
 abbrev pub page : List ℕ → Statements → Template
 page source tree = record { source = source; tree = tree }
 
--- The text that is answered is pieces joined, of which the raw parts of the page, and of the templates that it reaches,
--- alone hold `<`, `>`, `"` and `'`: those of the text are those of the raw parts, in their order.
-abbrev pub MarkupIsRaw : Table → List ℕ → Statements → Result (String Global) Error → Type 0
-MarkupIsRaw table source tree (Ok text) =
-    FromRawParts (IsRawPart {T = Unit {0}} (from_table table) (page source tree)) is_markup (string_bytes text)
-MarkupIsRaw table source tree (Err e) = Unit {0}
+-- of which pieces the text of a page on a value is made, under a name or none
+abbrev pub page_pieces : Texts → Table → Option (List ℕ) → List ℕ → Statements → Val → List Piece
+page_pieces e table name source tree v =
+    pieces_of (rendering e table) (page source tree) name (context v) (states tt tt)
+
+-- The text that is answered is the page's pieces joined, in their order, of which the raw parts alone hold `<`, `>`,
+-- `"` and `'`: those of the text are those of these raw parts, in their order.
+abbrev pub MarkupIsRaw : Texts → Table → Option (List ℕ) → List ℕ → Statements → Val → Result (String Global) Error
+    → Type 0
+MarkupIsRaw e table name source tree v (Ok text) =
+    FromRawParts is_markup (page_pieces e table name source tree v) (string_bytes text)
+MarkupIsRaw e table name source tree v (Err x) = Unit {0}

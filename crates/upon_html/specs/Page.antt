@@ -1,5 +1,5 @@
 -- Renderings in which each formatter escapes.
-use Rattle.std.specs.Prelude.{◌≡◌, ℕ, List}
+use Rattle.std.specs.Prelude.{◌≡◌}
 use Rattle.upon_types.specs.Answers.{Formatter}
 use Rattle.upon_types.specs.Val.{Val}
 use Rattle.upon_meaning_spec.specs.Engine.{Template, Calls, Resolver}

@@ -6,7 +6,7 @@ ghost use Rattle.upon_meaning_spec.specs.Alone.{alone};
 ghost use Rattle.upon_meaning_spec.specs.Engine.{Template, Rendering};
 ghost use Rattle.upon_meaning_spec.specs.Outcome.{States};
 ghost use Rattle.upon_woven_spec.specs.Marks.{FromRawParts};
-ghost use Rattle.upon_woven_spec.specs.Parts.{IsRawPart};
+ghost use Rattle.upon_woven_spec.specs.Pieces.{pieces_of};
 ghost use Rattle.upon_html.specs.Escape.{escape, unescape, is_markup, has_markup, AmpersandsRefer};
 ghost use Rattle.upon_html.specs.Page.{EscapesAll};
 ghost use Rattle.upon_html.specs.Escaped.{escaped};
@@ -32,10 +32,10 @@ pub fn ampersands()
     ensures { (v : Val) → AmpersandsRefer (escaped v).text }
 {}
 
-/// If each formatter that can be called escapes, a rendering's text is pieces joined of which the raw parts alone hold
-/// `<`, `>`, `"` and `'`: those of the text are those of the raw parts, in their order, whatever the values are.
+/// If each formatter that can be called escapes, a rendering's text is its pieces joined, of which the raw parts alone
+/// hold `<`, `>`, `"` and `'`: those of the text are those of these raw parts, in their order, whatever the values are.
 pub fn markup_is_raw<V, T>()
     ensures { (rendering : Rendering V T) (t : Template) (name : Option (List ℕ)) (root : Root) (s : States V T)
         → EscapesAll rendering.calls rendering.resolve t
-        → FromRawParts (IsRawPart rendering.resolve t) is_markup (alone rendering t name root s).text }
+        → FromRawParts is_markup (pieces_of rendering t name root s) (alone rendering t name root s).text }
 {}

@@ -12,22 +12,23 @@ ghost use Rattle.upon_html.specs.EscapedPage.{MarkupIsRaw, escaping_all};
 use crate::callables::Escaping;
 use std::borrow::CowStr;
 use upon_engine::engine::Engine;
-use upon_engine::texts::EngineTexts;
+use upon_engine::texts::{AnyEngine, EngineTexts};
 use upon_types::error::Result;
 use upon_types::value::Value;
 
 /// Renders the text of a template on a value, with what each formatter writes escaped, or says why there is no text.
 pub fn render_text(engine: &Engine<'_>, source: &str, value: &Value) -> Result<String>
-    // Whatever the template and the value are, the markup of the text is that of raw parts of its templates.
-    ensures markup { let texts = ⟦<&'static Engine<'static> as EngineTexts>⟧.texts engine.entry in
+    // Whatever the template and the value are, the markup of the text is that of the raw parts that this rendering
+    // shows, in their order.
+    ensures markup { let texts = ⟦<AnyEngine as EngineTexts>⟧.texts engine.now in
         (tree : Statements) (table : Table) → HasTree texts.syntax source.now tree → IsTable texts.texts table
-        → MarkupIsRaw table source.now tree result }
+        → MarkupIsRaw (escaping_all texts) table None source.now tree (view value.now) result }
     // If the source has a tree, the answer is what that tree means on the value, where each formatter escapes.
-    ensures means { let texts = ⟦<&'static Engine<'static> as EngineTexts>⟧.texts engine.entry in
+    ensures means { let texts = ⟦<AnyEngine as EngineTexts>⟧.texts engine.now in
         (tree : Statements) → HasTree texts.syntax source.now tree
         → Answers (escaping_all texts) None source.now tree (view value.now) result }
     // If it has none, the answer is its first fault, or that memory is out.
-    ensures refused { let texts = ⟦<&'static Engine<'static> as EngineTexts>⟧.texts engine.entry in
+    ensures refused { let texts = ⟦<AnyEngine as EngineTexts>⟧.texts engine.now in
         ((tree : Statements) → HasTree texts.syntax source.now tree → ⊥)
         → IsErr result × IfErr result (IsSyntaxError texts.syntax source.now) }
 {
@@ -39,17 +40,18 @@ pub fn render_text(engine: &Engine<'_>, source: &str, value: &Value) -> Result<S
 /// Renders the template of a name on a value, with what each formatter writes escaped, or returns `None` if there is
 /// none of this name.
 pub fn render_template(engine: &Engine<'_>, name: &str, value: &Value) -> Option<Result<String>>
-    // Whatever the template and the value are, the markup of the text is that of raw parts of its templates.
-    ensures markup { let texts = ⟦<&'static Engine<'static> as EngineTexts>⟧.texts engine.entry in
+    // Whatever the template and the value are, the markup of the text is that of the raw parts that this rendering
+    // shows, in their order.
+    ensures markup { let texts = ⟦<AnyEngine as EngineTexts>⟧.texts engine.now in
         (held : Stored) (tree : Statements) (table : Table) → texts.texts name.now ≡ Some held
         → HasTree held.syntax held.text tree → IsTable texts.texts table
-        → IsSomeAnd result (MarkupIsRaw table held.text tree) }
+        → IsSomeAnd result (MarkupIsRaw (escaping_all texts) table (Some name.now) held.text tree (view value.now)) }
     // If a text is held under the name, the answer is what its tree means on the value, where each formatter escapes.
-    ensures means { let texts = ⟦<&'static Engine<'static> as EngineTexts>⟧.texts engine.entry in
-        (held : Stored) (tree : Statements) → texts.texts name.now ≡ Some held → HasTree held.syntax held.text tree
+    ensures means { let texts = ⟦<AnyEngine as EngineTexts>⟧.texts engine.now in
+        (held : Stored) (tree : Statements) → texts.texts name.now ≡ Some held → ∥ HasTree held.syntax held.text tree ∥₁
         → IsSomeAnd result (Answers (escaping_all texts) (Some name.now) held.text tree (view value.now)) }
     // If none is, there is no answer.
-    ensures absent { (⟦<&'static Engine<'static> as EngineTexts>⟧.texts engine.entry).texts name.now ≡ None
+    ensures absent { (⟦<AnyEngine as EngineTexts>⟧.texts engine.now).texts name.now ≡ None
         → IsNone result }
 {
     let template = engine.get_template(name)?;

@@ -3,6 +3,7 @@ use Rattle.std.specs.Prelude.{◌≡◌, ℕ, List, Some, None}
 use Rattle.upon_types.specs.Answers.{Formatter, formatter}
 use Rattle.upon_types.specs.Tree.{Statements}
 use Rattle.upon_meaning_spec.specs.Engine.{Table}
+use Rattle.upon_engine.specs.Changes.{empty_engine, with_default_formatter}
 use Rattle.upon_engine.specs.Texts.{Texts}
 use Rattle.upon_engine.specs.Theorem.{rendering}
 use Rattle.upon_html.specs.EscapedPage.{page}
@@ -22,3 +23,7 @@ OnlyEscapes e = (e.default_formatter ≡ Some escaped)
 -- an engine without templates
 abbrev pub no_templates : Table
 no_templates name = None
+
+-- an engine that holds nothing, and whose default formatter escapes
+abbrev pub escaping_alone : Texts
+escaping_alone = with_default_formatter escaped empty_engine

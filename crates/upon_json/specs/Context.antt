@@ -1,7 +1,7 @@
 -- The context of a text of JSON, or of none, with texts set over it.
-use Rattle.std.specs.Prelude.{◌≡◌, ℕ, List, map, Bool, true, false, Option, Some, None, IsTrue}
+use Rattle.std.specs.Prelude.{◌≡◌, ◌⊎◌, ℕ, List, map, Bool, true, false, Option, Some, None, IsTrue}
 use Rattle.std.specs.Borrow.{Bor}
-use Rattle.serde_json.specs.Data.{Data}
+use Rattle.serde_json.specs.Data.{Data, null, boolean, number, string, array, object}
 use Rattle.serde_json.specs.Read.{read}
 use Rattle.upon_types.specs.Conversions.{last_at, or_else}
 use Rattle.upon_types.specs.Val.{Val, text_val, map_val, Entries, no_entries, entry_at, rises}
@@ -35,7 +35,42 @@ is_memory NotInteger = false
 is_memory NotObject = false
 is_memory OutOfMemory = true
 
--- memory is out, or the text has no entries
+-- an object
+abbrev pub is_object : Data → Bool
+is_object null = false
+is_object (boolean b) = false
+is_object (number n) = false
+is_object (string s) = false
+is_object (array ds) = false
+is_object (object ms) = true
+
+-- a text of JSON that is no object
+abbrev pub IsNoObject : List ℕ → Type 0
+IsNoObject text = (d : Data) × (read text ≡ Some d) × (is_object d ≡ false)
+
+-- a text of JSON that is an object, in which a number is no integer of 64 bits
+abbrev pub HasOtherNumber : List ℕ → Type 0
+HasOtherNumber text = (d : Data) × (read text ≡ Some d) × (is_object d ≡ true) × (value_of d ≡ None)
+
+-- Memory is out, or the text has no entries: it is no JSON or has such a number, whose place is known or not, or it is
+-- no object.
 abbrev pub IsRefusal : Option (List ℕ) → DataFault → Type 0
 IsRefusal json OutOfMemory = Unit {0}
-IsRefusal json fault = (es : Entries) → HasEntries json es → ⊥
+IsRefusal None fault = ⊥
+IsRefusal (Some text) (Refused error) = (read text ≡ None) ⊎ HasOtherNumber text
+IsRefusal (Some text) NotInteger = HasOtherNumber text
+IsRefusal (Some text) NotObject = IsNoObject text
+
+-- of a number: it is told with its place or without, or memory is out
+abbrev pub is_of_number : DataFault → Bool
+is_of_number (Refused error) = true
+is_of_number NotInteger = true
+is_of_number NotObject = false
+is_of_number OutOfMemory = true
+
+-- a text is refused with its place, or memory is out
+abbrev pub is_refused : DataFault → Bool
+is_refused (Refused error) = true
+is_refused NotInteger = false
+is_refused NotObject = false
+is_refused OutOfMemory = true

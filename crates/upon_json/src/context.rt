@@ -3,7 +3,7 @@ ghost use Rattle.std.specs.Prelude.{◌≡◌, IfOk, IfErr, Some, true, false, o
 ghost use Rattle.serde_json.specs.Errors.{IsMemory};
 ghost use Rattle.upon_types.specs.Val.{rises};
 ghost use Rattle.upon_types.specs.View.{view, entries_view};
-ghost use Rattle.upon_json.specs.Context.{HasEntries, IsContext, IsRefusal, is_memory, set_pairs};
+ghost use Rattle.upon_json.specs.Context.{HasEntries, IsContext, IsRefusal, is_memory, is_of_number, is_refused, set_pairs};
 
 use crate::integers::first_other_number;
 use crate::value::map;
@@ -83,7 +83,8 @@ fn object(alloc: Global, text: &str) -> Result<BTreeMap<String, Value>, DataFaul
 }
 
 fn refusal(error: serde_json::Error) -> DataFault
-    ensures { is_memory result ≡ false → ¬ IsMemory error }
+    ensures memory { is_memory result ≡ false → ¬ IsMemory error }
+    ensures refused { is_refused result ≡ true }
 {
     if error.is_memory() {
         DataFault::OutOfMemory
@@ -93,7 +94,9 @@ fn refusal(error: serde_json::Error) -> DataFault
 }
 
 // That a number is no integer, with the place of the first.
-fn not_integer(alloc: Global, text: &str) -> DataFault {
+fn not_integer(alloc: Global, text: &str) -> DataFault
+    ensures { is_of_number result ≡ true }
+{
     match first_other_number(alloc, text) {
         Some(error) => refusal(error),
         None => DataFault::NotInteger,

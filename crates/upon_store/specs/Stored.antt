@@ -1,11 +1,13 @@
 -- What a store holds, what it answers, and what it adds and renders.
-use Rattle.std.specs.Prelude.{◌≡◌, ℕ, List, map, Bool, true, false, Option, Some, None, Result, Ok, Err, codes, option_map, string_bytes}
+use Rattle.std.specs.Prelude.{◌≡◌, ℕ, List, map, Bool, true, false, bytes_eq, Option, Some, None, Result, Ok, Err, codes, option_map, string_bytes}
 use Rattle.std.specs.BTreeMap.{get_by_text, keys}
 use Rattle.std.specs.Cmp.Lexicographic.{slice_cmp}
 use Rattle.std.specs.List.Sorted.{IsStrictlySortedBy}
 use Rattle.std.specs.Ordering.{nat_cmp}
 use Rattle.upon_types.specs.declared.error.Error.{Error}
 use Rattle.upon_types.specs.Tree.{Statements}
+use Rattle.upon_language_spec.specs.Grammar.{HasTree}
+use Rattle.upon_language_spec.specs.Search.{DelimiterText}
 use Rattle.upon_render.specs.Finding.{Reply, reply}
 use Rattle.upon_render.specs.Source.{SourceAnswer, says, refuses}
 use Rattle.upon_meaning_spec.specs.Engine.{Template, Table, Resolver}
@@ -27,6 +29,20 @@ held store path = get_by_text store.templates path
 -- what they denote
 abbrev pub stored : Store → Table
 stored store path = option_map template_of (held store path)
+
+-- two tables agree at each other path
+abbrev pub OthersStay : List ℕ → Table → Table → Type 0
+OthersStay path old new = (other : List ℕ) → bytes_eq path other ≡ false → new other ≡ old other
+
+-- two tables agree
+abbrev pub AllStay : Table → Table → Type 0
+AllStay old new = (path : List ℕ) → new path ≡ old path
+
+-- there is the template of a text: it has the text's tree, which is the only one
+abbrev pub HoldsTemplate : List DelimiterText → List ℕ → Option Template → Type 0
+HoldsTemplate delimiters s None = ⊥
+HoldsTemplate delimiters s (Some t) = (t.source ≡ s) × HasTree delimiters s t.tree
+    × ((tree : Statements) → HasTree delimiters s tree → tree ≡ t.tree)
 
 -- the paths of a store's templates, in the order of its map
 abbrev pub paths : Store → List (List ℕ)

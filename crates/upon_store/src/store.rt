@@ -8,10 +8,11 @@ ghost use Rattle.upon_render.specs.Environment.{context};
 ghost use Rattle.upon_meaning_spec.specs.Alone.{alone};
 ghost use Rattle.upon_meaning_spec.specs.Engine.{rendering_by};
 ghost use Rattle.upon_meaning_spec.specs.Outcome.{states};
-ghost use Rattle.upon_engine.specs.Engine.{AllStay, HoldsTemplate, OthersStay};
+ghost use Rattle.upon_engine.specs.Engine.{engine_depth, engine_syntax, engine_templates};
 ghost use Rattle.upon_engine.specs.Template.{template_of};
+ghost use Rattle.upon_engine.specs.Theorem.{engine_meant};
 ghost use Rattle.upon_store.specs.Paths.{is_path, texts};
-ghost use Rattle.upon_store.specs.Stored.{from_store, paths, stored, EndsAdding, Renders, Rise};
+ghost use Rattle.upon_store.specs.Stored.{from_store, paths, stored, AllStay, EndsAdding, HoldsTemplate, OthersStay, Renders, Rise};
 
 use crate::path::{is_path, resolve};
 use std::alloc::{AllocError, Global};
@@ -19,7 +20,7 @@ use std::borrow::CowStr;
 use std::collections::BTreeMap;
 use std::io;
 use upon::render::{SourceError, TemplateSource};
-use upon::{Engine, EngineView, Error, Template, Value};
+use upon::{AnyEngine, Engine, EngineTexts, Error, Template, Value};
 
 /// Why a store refuses.
 #[derive(Debug, Drop)]
@@ -101,14 +102,11 @@ impl<'s> Store<'s> {
         path: &str,
         source: CowStr<'s>,
     ) -> Result<(), StoreError>
-        ensures added { OnOk result (HoldsTemplate
-            (⟦<&'static Engine<'static> as EngineView>⟧.syntax_view engine.entry)
-            (cow_str_bytes source.entry)
-            (stored self.new path.now)) }
+        ensures added { OnOk result
+            (HoldsTemplate (engine_syntax engine.now) (cow_str_bytes source.entry) (stored self.new path.now)) }
         ensures ends { EndsAdding
             (is_path path.now)
-            (IsSyntaxError (⟦<&'static Engine<'static> as EngineView>⟧.syntax_view engine.entry)
-            (cow_str_bytes source.entry))
+            (IsSyntaxError (engine_syntax engine.now) (cow_str_bytes source.entry))
             result }
         ensures others { OthersStay path.now (stored self.old) (stored self.new) }
         ensures refused { OnErr result (AllStay (stored self.old) (stored self.new)) }
@@ -173,12 +171,13 @@ impl<'s> Store<'s> {
         ensures means { Renders
             (is_path path.now)
             (stored self.now path.now)
-            (⟦<&'static Engine<'static> as EngineView>⟧.engine_view engine.entry).depth
+            (engine_depth engine.now)
             result
             (W.contents writer.old)
             (W.contents writer.new)
-            (λ t. alone (rendering_by (⟦<&'static Engine<'static> as EngineView>⟧.engine_view engine.entry) never
-            (from_store self.now path.now) None) t None (context (view value.now)) (states (tt {0}) (tt {0}))) }
+            (λ t. alone (rendering_by
+            (engine_meant (⟦<AnyEngine as EngineTexts>⟧.texts engine.now) (engine_templates engine.now))
+            never (from_store self.now path.now) None) t None (context (view value.now)) (states (tt {0}) (tt {0}))) }
     {
         if !is_path(path) {
             return Err(StoreError::BadPath);

@@ -1,11 +1,8 @@
 // Tests of the store.
 #![tactic(auto)]
 
+pub mod built;
 #[cfg(test)]
 mod documents;
 #[cfg(test)]
 mod memory;
-#[cfg(test)]
-mod paths;
-#[cfg(test)]
-mod renders;

@@ -1,5 +1,5 @@
 -- A tag whose tokens lead to its end is whole, and what the parser knows of its begin.
-use Rattle.std.proofs.Common.{◌≡◌, inl, inr, ℕ, ◌+◌, ◌^◌, nat_lt, List, [], ◌∷◌, ◌++◌, Bool, true, false, Option, Some, None, refl, sym, ap, ◌∙◌, subst, append_assoc, codes, if◌then◌else◌, Result, Err, IfErr}
+use Rattle.std.proofs.Common.{◌≡◌, inl, inr, ℕ, ◌+◌, ◌^◌, nat_lt, List, [], ◌∷◌, ◌++◌, Bool, true, false, Option, Some, None, refl, sym, ap, ◌∙◌, subst, append_assoc, codes, if◌then◌else◌}
 use Rattle.std.proofs.lemmas.Bool.{ltb-true}
 use Rattle.std.proofs.lemmas.List.{append-nil}
 use Rattle.upon_language_spec.specs.Wanted.{Wanted}
@@ -8,7 +8,6 @@ use Rattle.upon_types.specs.declared.types.token.Token.{Token}
 use Rattle.upon_types.specs.declared.types.token.Token.TheVariants.{Index, Number, String}
 use Rattle.upon_types.specs.Span.{LiesIn, slice}
 use Rattle.upon_types.specs.Token.{token_word}
-use Rattle.upon_types.specs.declared.error.Error.{Error}
 use Rattle.upon_language_spec.specs.Search.{DelimiterText}
 use Rattle.upon_language_spec.specs.Delimiters.{Sort, expression, block, comment, begin_token, end_token}
 use Rattle.upon_language_spec.specs.Cut.{Lexeme, outside, in_tag}
@@ -234,9 +233,3 @@ leads_all s from tokens k word h =
     let all : tokens ≡ h.leads.read = h.leads.splits ∙ append-nil h.leads.read in
     let F : List Lexeme → Type 0 = λ x. Path from (symbols_of s x) h.to in
     subst F (sym all) h.leads.path
-
--- an error that `?` hands on is the one that was met
-pub error_handed : {B : Type 0} (r : Result B Error) (e : Error) (Q : Error → Type 0) → (x : Error) × (r ≡ Err x) × (x ≡ e) → Q e → IfErr r Q
-error_handed {B = B} r e Q i h =
-    let F : Result B Error → Type 0 = λ x. IfErr x Q in
-    subst F (sym (i.1 ∙ ap (λ x. Err x) i.2)) h

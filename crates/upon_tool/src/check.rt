@@ -1,6 +1,7 @@
 // Templates that are checked: their faults, and the includes that name nothing.
 ghost use Rattle.std.specs.Prelude.{◌≡◌, ◌↔◌, ℕ, List, Contains, IfOk, true};
 ghost use Rattle.upon_meaning_spec.specs.Includes.{Includes};
+ghost use Rattle.upon_engine.specs.Engine.{engine_templates};
 ghost use Rattle.upon_engine.specs.Names.{texts};
 ghost use Rattle.upon_engine.specs.Template.{template_tree};
 ghost use Rattle.upon_tool.specs.Missing.{is_missing};
@@ -13,7 +14,7 @@ use std::alloc::{AllocError, Global};
 use std::borrow::CowStr;
 use std::io;
 use upon::error::ErrorKind;
-use upon::{Engine, EngineView, Template};
+use upon::{Engine, Template};
 
 /// Returns the names that a template includes and that are neither its own nor of a template that the engine holds, in
 /// ascending order. It fails if there is no memory.
@@ -23,7 +24,7 @@ pub fn missing<'t>(
     own: &str,
     template: &'t Template<'_>,
 ) -> Result<Vec<&'t str>, AllocError>
-    ensures { let table = (⟦<&'static Engine<'static> as EngineView>⟧.engine_view engine.entry).templates in
+    ensures { let table = engine_templates engine.now in
         IfOk result (λ names. (name : List ℕ) → Contains (texts names.items) name
         ↔ (Includes name (template_tree template.now) × (is_missing own.now table name ≡ true))) }
 {
@@ -39,7 +40,7 @@ pub fn missing<'t>(
 
 // Whether a name is neither this one nor of a template that the engine holds.
 fn is_missing(engine: &Engine<'_>, own: &str, name: &str) -> bool
-    ensures { let table = (⟦<&'static Engine<'static> as EngineView>⟧.engine_view engine.entry).templates in
+    ensures { let table = engine_templates engine.now in
         result ≡ is_missing own.now table name.now }
 {
     name != own && engine.get_template(name).is_none()

@@ -2,6 +2,7 @@
 ghost use Rattle.std.specs.Prelude.{◌≡◌, ◌≤◌, None, Some, IfErr, IfOk, IsErrAnd, OnOk};
 ghost use Rattle.std.specs.Io.KnownBytes.{Appends};
 ghost use Rattle.upon_meaning_spec.specs.Engine.{Template as TemplateMeant};
+ghost use Rattle.upon_engine.specs.Engine.{engine_templates};
 ghost use Rattle.upon_engine.specs.declared.needs.Needs.{Needs as Listed};
 ghost use Rattle.upon_tool.specs.Names.{needs_text, NeededBy};
 ghost use Rattle.upon_tool.specs.Status.{status_of};
@@ -12,17 +13,17 @@ use crate::names_text::needs_text;
 use crate::rendering::report_refusal;
 use std::alloc::Global;
 use std::io;
-use upon::{Engine, EngineView, Needs};
+use upon::{Engine, Needs};
 
 /// Returns what the template of a name needs. It fails if the engine has none, and if there is no memory.
 pub fn needed<'n, 'a>(engine: &'n Engine<'_>, name: &'a str) -> Result<Needs<'n>, Failure<'a>>
     // If the engine has a template of the name, these are what it needs, or memory is out.
-    ensures needed { let table = (⟦<&'static Engine<'static> as EngineView>⟧.engine_view engine.entry).templates in
+    ensures needed { let table = engine_templates engine.now in
         (t : TemplateMeant) → table name.entry.now ≡ Some t → IfOk result (NeededBy table t.tree) }
-    ensures memory { let table = (⟦<&'static Engine<'static> as EngineView>⟧.engine_view engine.entry).templates in
+    ensures memory { let table = engine_templates engine.now in
         (t : TemplateMeant) → table name.entry.now ≡ Some t → IfErr result (λ f. status_of f ≡ 1) }
     // If it has none, there is an error.
-    ensures absent { let table = (⟦<&'static Engine<'static> as EngineView>⟧.engine_view engine.entry).templates in
+    ensures absent { let table = engine_templates engine.now in
         table name.entry.now ≡ None → IsErrAnd result (λ f. status_of f ≡ 2) }
 {
     match engine.needs(name) {
@@ -44,12 +45,12 @@ pub fn show<O: io::Write, E: io::Write>(
 ) -> u8
     ensures range { result ≤ 2 }
     // If the engine has a template of the name, and the status is 0, the output has received what it needs.
-    ensures needed { let table = (⟦<&'static Engine<'static> as EngineView>⟧.engine_view engine.entry).templates in
+    ensures needed { let table = engine_templates engine.now in
         (t : TemplateMeant) → table name.now ≡ Some t → result ≡ 0
         → (needs : Listed) × NeededBy table t.tree needs
         × Appends (O.contents out.old) (O.contents out.new) (needs_text as_json needs) }
     // If it has none, the status is not 0.
-    ensures absent { let table = (⟦<&'static Engine<'static> as EngineView>⟧.engine_view engine.entry).templates in
+    ensures absent { let table = engine_templates engine.now in
         table name.now ≡ None → 1 ≤ result }
 {
     let needs = match needed(engine, name) {

@@ -12,7 +12,7 @@ use crate::failure::{Failure, report, report_fault};
 use crate::library::{Library, Refusal};
 use std::alloc::Global;
 use std::io;
-use upon::{Engine, EngineTexts};
+use upon::{AnyEngine, Engine, EngineTexts};
 use upon_json::context::context;
 
 /// A template of an engine, with what it is rendered on.
@@ -34,13 +34,13 @@ pub fn render<'a, O: io::Write>(
     out: &mut O,
 ) -> Result<(), Failure<'a>>
     // If a text is held under the name, the output receives what its tree means on the value of the JSON.
-    ensures means { let texts = ⟦<&'static Engine<'static> as EngineTexts>⟧.texts engine.entry in
+    ensures means { let texts = ⟦<AnyEngine as EngineTexts>⟧.texts engine.now in
         (held : Stored) (tree : Statements) → texts.texts page.now.name.now ≡ Some held
-        → HasTree held.syntax held.text tree
+        → ∥ HasTree held.syntax held.text tree ∥₁
         → Renders (json_in page.now.json) (set_pairs page.now.set.now) (λ v r.
         Sends texts (Some page.now.name.now) held.text tree v r (O.contents out.old) (O.contents out.new)) result }
     // If none is, there is an error.
-    ensures absent { let texts = ⟦<&'static Engine<'static> as EngineTexts>⟧.texts engine.entry in
+    ensures absent { let texts = ⟦<AnyEngine as EngineTexts>⟧.texts engine.now in
         texts.texts page.now.name.now ≡ None → IsErr result }
     // If there is no context, nothing is written.
     ensures unwritten { IfErr result (λ f. is_of_data f ≡ true → O.contents out.new ≡ O.contents out.old) }
@@ -77,13 +77,13 @@ pub fn send<'a, O: io::Write>(
     out: &mut O,
 ) -> Result<(), Failure<'a>>
     // If a text is held under the name, and all went well, the output has received what its tree means.
-    ensures means { let texts = ⟦<&'static Engine<'static> as EngineTexts>⟧.texts engine.entry in
+    ensures means { let texts = ⟦<AnyEngine as EngineTexts>⟧.texts engine.now in
         (held : Stored) (tree : Statements) → texts.texts page.now.name.now ≡ Some held
-        → HasTree held.syntax held.text tree
+        → ∥ HasTree held.syntax held.text tree ∥₁
         → OnOk result (Shows (json_in page.now.json) (set_pairs page.now.set.now) (λ v r.
         Sends texts (Some page.now.name.now) held.text tree v r (O.contents out.old) (O.contents out.new))) }
     // If none is, there is an error.
-    ensures absent { let texts = ⟦<&'static Engine<'static> as EngineTexts>⟧.texts engine.entry in
+    ensures absent { let texts = ⟦<AnyEngine as EngineTexts>⟧.texts engine.now in
         texts.texts page.now.name.now ≡ None → IsErr result }
 {
     render(alloc, engine, page, out)?;
@@ -104,13 +104,13 @@ pub fn show<O: io::Write, E: io::Write>(
 ) -> u8
     ensures range { result ≤ 2 }
     // If a text is held under the name, and the status is 0, the output has received what its tree means.
-    ensures means { let texts = ⟦<&'static Engine<'static> as EngineTexts>⟧.texts engine.entry in
+    ensures means { let texts = ⟦<AnyEngine as EngineTexts>⟧.texts engine.now in
         (held : Stored) (tree : Statements) → texts.texts page.now.name.now ≡ Some held
-        → HasTree held.syntax held.text tree
+        → ∥ HasTree held.syntax held.text tree ∥₁
         → result ≡ 0 → Shows (json_in page.now.json) (set_pairs page.now.set.now) (λ v r.
         Sends texts (Some page.now.name.now) held.text tree v r (O.contents out.old) (O.contents out.new)) }
     // If none is, the status is not 0.
-    ensures absent { let texts = ⟦<&'static Engine<'static> as EngineTexts>⟧.texts engine.entry in
+    ensures absent { let texts = ⟦<AnyEngine as EngineTexts>⟧.texts engine.now in
         texts.texts page.now.name.now ≡ None → 1 ≤ result }
 {
     let failure = match send(alloc, engine, page, out) {

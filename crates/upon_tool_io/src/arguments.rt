@@ -75,12 +75,34 @@ const NAMES: &str = "names";
 /// user, also the help that was asked for.
 pub fn read<'a>(alloc: Global, words: &'a [String]) -> Result<Call<'a>, clap::Error> {
     let mut command = command(alloc)?;
+    let call = read_by(alloc, &mut command, words);
+    // Dropped by a call, here and below, not part by part at each end: a proof of that is several times as long.
+    drop(command);
+    call
+}
+
+// What the words ask for, by the program's command.
+fn read_by<'a>(
+    alloc: Global,
+    command: &mut Command<'a>,
+    words: &'a [String],
+) -> Result<Call<'a>, clap::Error> {
     let matches = command.try_get_matches_from_mut(words)?;
+    let asked = asked_for(alloc, &matches);
+    drop(matches);
+    match asked? {
+        Some(call) => Ok(call),
+        None => Err(command.error(ErrorKind::MissingSubcommand, "a command is missing")?),
+    }
+}
+
+// What the matches ask for, if they have a command.
+fn asked_for<'a>(alloc: Global, matches: &ArgMatches<'a>) -> Result<Option<Call<'a>>, AllocError> {
     match matches.subcommand() {
-        Some((RENDER, found)) => Ok(Call::Render(render_call(alloc, found)?)),
-        Some((CHECK, found)) => Ok(Call::Check(check_call(alloc, found)?)),
-        Some((NAMES, found)) => Ok(Call::Names(names_call(found))),
-        _ => Err(command.error(ErrorKind::MissingSubcommand, "a command is missing")?),
+        Some((RENDER, found)) => Ok(Some(Call::Render(render_call(alloc, found)?))),
+        Some((CHECK, found)) => Ok(Some(Call::Check(check_call(alloc, found)?))),
+        Some((NAMES, found)) => Ok(Some(Call::Names(names_call(found)))),
+        _ => Ok(None),
     }
 }
 
@@ -122,28 +144,31 @@ fn words<'a>(alloc: Global, found: Option<&[&'a str]>) -> Result<Vec<&'a str>, A
 }
 
 fn command<'a>(alloc: Global) -> Result<Command<'a>, AllocError> {
-    Command::new(alloc, "upon-tool")
+    let command = Command::new(alloc, "upon-tool")
         .bin_name("upon-tool")?
         .about("Renders templates, checks them, and lists what they need")
         .subcommand_required(true)
-        .disable_help_subcommand(true)
-        .subcommand(render_command(alloc)?)?
-        .subcommand(check_command(alloc)?)?
-        .subcommand(names_command(alloc)?)
+        .disable_help_subcommand(true);
+    let command = with_command(command, render_command(alloc))?;
+    let command = with_command(command, check_command(alloc))?;
+    with_command(command, names_command(alloc))
+}
+
+// A command with another one below it, if that could be made.
+fn with_command<'a>(
+    command: Command<'a>,
+    below: Result<Command<'a>, AllocError>,
+) -> Result<Command<'a>, AllocError> {
+    match below {
+        Ok(below) => command.subcommand(below),
+        Err(error) => {
+            drop(command);
+            Err(error)
+        }
+    }
 }
 
 fn render_command<'a>(alloc: Global) -> Result<Command<'a>, AllocError> {
-    let set = option(
-        alloc,
-        SET,
-        "KEY=TEXT",
-        "Set a text at a key of the context, over DATA",
-    )
-    .action(ArgAction::Append);
-    let html = Arg::new(alloc, HTML)
-        .long(HTML)
-        .action(ArgAction::SetTrue)
-        .help("Escape values for HTML; the formatter verbatim leaves one as it is");
     Command::new(alloc, RENDER)
         .about("Renders a template on a JSON object")
         .arg(file(alloc))?
@@ -153,9 +178,9 @@ fn render_command<'a>(alloc: Global) -> Result<Command<'a>, AllocError> {
             "DATA",
             "The JSON object that is the context, or - for standard input",
         ))?
-        .arg(set)?
+        .arg(set(alloc))?
         .arg(templates(alloc))?
-        .arg(html)?
+        .arg(html(alloc))?
         .arg(option(
             alloc,
             OUT,
@@ -177,17 +202,13 @@ fn check_command<'a>(alloc: Global) -> Result<Command<'a>, AllocError> {
 }
 
 fn names_command<'a>(alloc: Global) -> Result<Command<'a>, AllocError> {
-    let json = Arg::new(alloc, JSON)
-        .long(JSON)
-        .action(ArgAction::SetTrue)
-        .help("Write one JSON object in place of lines");
     Command::new(alloc, NAMES)
         .about(
             "Lists the names that a template needs of its context, and the templates that it includes",
         )
         .arg(file(alloc))?
         .arg(templates(alloc))?
-        .arg(json)
+        .arg(json(alloc))
 }
 
 fn file<'a>(alloc: Global) -> Arg<'a> {
@@ -203,6 +224,30 @@ fn templates<'a>(alloc: Global) -> Arg<'a> {
         "DIR",
         "A folder, of which each file can be included by its path in it",
     )
+}
+
+fn set<'a>(alloc: Global) -> Arg<'a> {
+    option(
+        alloc,
+        SET,
+        "KEY=TEXT",
+        "Set a text at a key of the context, over DATA",
+    )
+    .action(ArgAction::Append)
+}
+
+fn html<'a>(alloc: Global) -> Arg<'a> {
+    Arg::new(alloc, HTML)
+        .long(HTML)
+        .action(ArgAction::SetTrue)
+        .help("Escape values for HTML; the formatter verbatim leaves one as it is")
+}
+
+fn json<'a>(alloc: Global) -> Arg<'a> {
+    Arg::new(alloc, JSON)
+        .long(JSON)
+        .action(ArgAction::SetTrue)
+        .help("Write one JSON object in place of lines")
 }
 
 // An argument by a name, with one value.

@@ -20,29 +20,8 @@ impl Replacement {
     /// there and is no file, as a terminal, is opened as it is.
     pub fn open<R: Files + AllocGlobal>(rt: &R, path: &str) -> io::Result<(Replacement, R::File)> {
         let target = target_of(rt, path)?;
-        match fs::metadata(rt, target.as_str()) {
-            Ok(metadata) if metadata.is_file() => {
-                let (beside, file) = new_file(rt, rt.alloc(), target.as_str())?;
-                let beside = Some(beside);
-                let _ = file.set_permissions(metadata.permissions());
-                Ok((Replacement { target, beside }, file))
-            }
-            Ok(_) => {
-                let file = OpenOptions::new().write(true).open(rt, target.as_str())?;
-                Ok((
-                    Replacement {
-                        target,
-                        beside: None,
-                    },
-                    file,
-                ))
-            }
-            Err(_) => {
-                let (beside, file) = new_file(rt, rt.alloc(), target.as_str())?;
-                let beside = Some(beside);
-                Ok((Replacement { target, beside }, file))
-            }
-        }
+        let (beside, file) = open_for(rt, target.as_str())?;
+        Ok((Replacement { target, beside }, file))
     }
 
     /// Puts the new file in the place of the old one.
@@ -63,6 +42,22 @@ impl Replacement {
     pub fn discard<R: Files>(self, rt: &R) {
         if let Some(beside) = &self.beside {
             let _ = fs::remove_file(rt, beside.as_str());
+        }
+    }
+}
+
+// What is written in the place of a file: a new one beside it, with its path, or what is there and is no file.
+fn open_for<R: Files + AllocGlobal>(rt: &R, target: &str) -> io::Result<(Option<String>, R::File)> {
+    match fs::metadata(rt, target) {
+        Ok(metadata) if metadata.is_file() => {
+            let (beside, file) = new_file(rt, rt.alloc(), target)?;
+            drop(file.set_permissions(metadata.permissions()));
+            Ok((Some(beside), file))
+        }
+        Ok(_) => Ok((None, OpenOptions::new().write(true).open(rt, target)?)),
+        Err(_) => {
+            let (beside, file) = new_file(rt, rt.alloc(), target)?;
+            Ok((Some(beside), file))
         }
     }
 }

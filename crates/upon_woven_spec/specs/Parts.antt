@@ -1,14 +1,15 @@
 -- The raw parts that a template can show, and the formatters that it can call: its own, and those of the templates that it reaches.
-use Rattle.std.specs.Prelude.{◌≡◌, ℕ, List, ◌⊎◌, Option, Some}
+use Rattle.std.specs.Prelude.{◌≡◌, ℕ, List, [], ◌∷◌, ◌⊎◌, Some}
 use Rattle.upon_types.specs.declared.types.Span.{Span}
 use Rattle.upon_types.specs.Answers.{Formatter, formatter}
 use Rattle.upon_types.specs.Expression.{Expression, base, filtered, Base, var, literal, list, mapping, paren, call}
-use Rattle.upon_types.specs.Span.{slice}
 use Rattle.upon_types.specs.Tree.{Statement, raw, inline_expr, include, if_else, for_loop, with, Statements, no_statements, statement_then, Else, no_else, otherwise}
 use Rattle.upon_types.specs.Val.{Val}
 use Rattle.upon_render.specs.Source.{says}
 use Rattle.upon_meaning_spec.specs.Engine.{Template, Calls, Resolver}
 use Rattle.upon_meaning_spec.specs.Includes.{Includes}
+use Rattle.upon_meaning_spec.specs.Meaning.{RunningTemplate}
+use Rattle.upon_woven_spec.specs.Pieces.{Piece, raw_part, written, joined}
 
 -- a raw part of the tree is at this span
 abbrev mutual
@@ -74,13 +75,13 @@ pub data Reached {T : Type 0} (resolve : Resolver T) (t : Template) : Template �
   included_by : (by u : Template) (name : List ℕ) (q : T) → Reached resolve t by → Includes name by.tree
       → (resolve q name).answer ≡ says u → Reached resolve t u
 
--- a raw part of a template that is reached: what its text has at the span, which is trimmed
-pub record IsRawPart {T : Type 0} (resolve : Resolver T) (t : Template) (text : List ℕ) : Type 0 where
+-- a raw part of a template that is reached and runs
+pub record IsRawPart {T : Type 0} (resolve : Resolver T) (t : Template) (from : RunningTemplate)
+    (span : Span) : Type 0 where
   pub template : Template
   pub reached : Reached resolve t template
-  pub span : Span
+  pub runs : from.source ≡ template.source
   pub raw_at : HasRaw span template.tree
-  pub shows : text ≡ slice template.source span
 
 -- the default formatter, and each formatter that a template that is reached names
 pub data CanFormat {V T : Type 0} (calls : Calls V) (resolve : Resolver T) (t : Template) : Formatter → Type 0 where
@@ -88,12 +89,27 @@ pub data CanFormat {V T : Type 0} (calls : Calls V) (resolve : Resolver T) (t : 
   by_name : (u : Template) (name : List ℕ) (f : Formatter) → Reached resolve t u → NamesFormatter name u.tree
       → calls.callables name ≡ Some (formatter f) → CanFormat calls resolve t f
 
--- what such a formatter wrote for a value, also if it refused
-pub record IsWritten {V T : Type 0} (calls : Calls V) (resolve : Resolver T) (t : Template) (text : List ℕ) : Type 0 where
-  pub format : Formatter
-  pub can : CanFormat calls resolve t format
-  pub value : Val
-  pub wrote : text ≡ (format value).text
+-- a raw part of the template or of one that it reaches, or what the default formatter, or one that they name, wrote
+abbrev pub IsPieceOf : {V T : Type 0} → Calls V → Resolver T → Template → Piece → Type 0
+IsPieceOf calls resolve t (raw_part from span) = IsRawPart resolve t from span
+IsPieceOf calls resolve t (written format v) = CanFormat calls resolve t format
+
+-- each of the pieces
+abbrev pub Each : (Piece → Type 0) → List Piece → Type 0
+Each P [] = Unit {0}
+Each P (p ∷ ps) = P p × Each P ps
+
+-- The text is these pieces joined, in their order. Each is a raw part of the template or of one that it reaches, or what
+-- the default formatter, or one that they name, wrote for a value.
+pub record WovenOf {V T : Type 0} (calls : Calls V) (resolve : Resolver T) (t : Template) (pieces : List Piece)
+    (text : List ℕ) : Type 0 where
+  pub joins : text ≡ joined pieces
+  pub parts : Each (IsPieceOf calls resolve t) pieces
+
+-- if the piece was written for a value, its text is such a text
+abbrev pub Writes : (List ℕ → Type 0) → Piece → Type 0
+Writes P (raw_part from span) = Unit {0}
+Writes P (written format v) = P (format v).text
 
 -- each formatter that can be called writes only such texts
 abbrev pub WritesOnly : {V T : Type 0} → Calls V → Resolver T → Template → (List ℕ → Type 0) → Type 0

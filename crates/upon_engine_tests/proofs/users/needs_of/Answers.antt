@@ -1,4 +1,4 @@
-use Rattle.std.proofs.Common.{◌≡◌, ◌↔◌, ℕ, List, Contains, Option, Some, None, IsSomeAnd, IfOk}
+use Rattle.std.proofs.Common.{◌≡◌, ℕ, List, Option, Some, None, IsSomeAnd}
 use Rattle.std.proofs.lemmas.Result.{IfOk-weaker}
 use Rattle.upon_types.specs.Val.{Entries, entry_at, map_val}
 use Rattle.upon_render.specs.Asked.{never}
@@ -8,8 +8,9 @@ use Rattle.upon_meaning_spec.specs.Engine.{Engine, Template, Table, Calls, from_
 use Rattle.upon_meaning_spec.specs.Names.{AgreeOn}
 use Rattle.upon_meaning_spec.specs.Needs.{NeedsName}
 use Rattle.upon_meaning_spec.specs.Outcome.{States, states}
-use Rattle.upon_engine.specs.contracts.callables.RefEngineEngineView.TheImpl.{ghosts}
-use Rattle.upon_engine.specs.EngineNeeds.{needed_names}
+use Rattle.upon_engine.specs.contracts.texts.EngineEngineTexts.TheImpl.{ghosts}
+use Rattle.upon_engine.specs.Engine.{engine_templates}
+use Rattle.upon_engine.specs.Theorem.{engine_meant}
 use Rattle.upon_engine_tests.proofs.users.needs_of.Goals as goal
 
 weaker_some : {X : Type 0} (o : Option X) (P Q : X → Type 0) → ((x : X) → P x → Q x) → IsSomeAnd o P → IsSomeAnd o Q
@@ -28,4 +29,4 @@ alike : Law → (e : Engine) (t : Template) (these those : Entries) → AgreeOn 
 alike law e t these those agree = law (calls_of e never) e.templates (limit_of None e) t None these those (states (tt {0}) (tt {0})) agree
 
 pub returns : goal.returns
-returns g c = let e = (ghosts g.dyn-1 g.dyn-2).engine_view c.args.engine in λ t is. weaker_some c.needs.result _ _ (λ r h. IfOk-weaker r _ _ (λ needs exact these those agree. alike c.names_needed.ensures e t these those (λ n needed. agree n ((exact n).1 needed))) h) (c.needs.ensures.names t is)
+returns g c = let e = engine_meant ((ghosts g.dyn-1 g.dyn-2).texts c.args.engine.now) (engine_templates c.args.engine.now) in λ t is. weaker_some c.needs.result _ _ (λ r h. IfOk-weaker r _ _ (λ needs exact these those agree. alike c.names_needed.ensures e t these those (λ n needed. agree n ((exact n).1 needed))) h) (c.needs.ensures.names t is)

@@ -20,4 +20,4 @@ returns-clause-means g c held tree there has =
     answers_all _ _ c.args.engine.now (Some c.args.name.now) (ref_template t) held.text tree (view c.args.value.now) c.to_string.result is said
 
 pub returns-clause-markup : goal.returns-clause-markup
-returns-clause-markup g c held tree table there has it = markup_of _ _ c.args.engine.now (Some c.args.name.now) held.text tree (view c.args.value.now) c.to_string.result (returns-clause-means g c held tree there has) table it
+returns-clause-markup g c held tree table there has it = markup_of _ _ c.args.engine.now (Some c.args.name.now) held.text tree (view c.args.value.now) c.to_string.result (returns-clause-means g c held tree there ∣ has ∣₁) table it

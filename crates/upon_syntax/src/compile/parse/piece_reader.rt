@@ -144,10 +144,19 @@ impl<'a> PieceReader<'a> {
         ensures delimiters { pieces_delimiters self.new ≡ pieces_delimiters self.old }
     {
         let (tag, span) = self.tags.read_block(&mut self.lexer, begin)?;
-        let untaken = self.blocks.pass(&tag, span)?;
-        match untaken {
-            None => Ok(tag),
-            Some(closer) => Err(self.unexpected(closer, span)),
+        match self.blocks.pass(&tag, span) {
+            Ok(untaken) => match untaken {
+                None => Ok(tag),
+                // Dropped by a call, here and below, as in `TagReader::read_inline`.
+                Some(closer) => {
+                    drop(tag);
+                    Err(self.unexpected(closer, span))
+                }
+            },
+            Err(error) => {
+                drop(tag);
+                Err(Error::from(error))
+            }
         }
     }
 

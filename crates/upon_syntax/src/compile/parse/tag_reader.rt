@@ -67,11 +67,17 @@ impl<'a> TagReader<'a> {
     {
         let ended = read_tokens(self.source, lexer, &mut self.tokens)?;
         match self.parser().parse_inline_tag(&self.tokens) {
-            Ok(expr) => {
-                let end = end_of(self.alloc, self.source, Want::EndExpr, ended)?;
-                let span = Span { m: begin.m, n: end };
-                Ok(InlineExpr { expr, span })
-            }
+            Ok(expr) => match end_of(self.alloc, self.source, Want::EndExpr, ended) {
+                Ok(end) => {
+                    let span = Span { m: begin.m, n: end };
+                    Ok(InlineExpr { expr, span })
+                }
+                // What was read is dropped by a call, not part by part: a proof of that is several times as long.
+                Err(error) => {
+                    drop(expr);
+                    Err(error)
+                }
+            },
             Err(failure) => Err(refuse_failure(self.alloc, self.source, failure, ended)),
         }
     }
@@ -91,10 +97,14 @@ impl<'a> TagReader<'a> {
     {
         let ended = read_tokens(self.source, lexer, &mut self.tokens)?;
         match self.parser().parse_block_tag(&self.tokens) {
-            Ok(tag) => {
-                let end = end_of(self.alloc, self.source, Want::EndBlock, ended)?;
-                Ok((tag, Span { m: begin.m, n: end }))
-            }
+            Ok(tag) => match end_of(self.alloc, self.source, Want::EndBlock, ended) {
+                Ok(end) => Ok((tag, Span { m: begin.m, n: end })),
+                // Dropped by a call, as in `read_inline`.
+                Err(error) => {
+                    drop(tag);
+                    Err(error)
+                }
+            },
             Err(failure) => Err(refuse_failure(self.alloc, self.source, failure, ended)),
         }
     }

@@ -160,12 +160,20 @@ impl<'a> TagParser<'a> {
             → IsStuck self.now.source.now (a_base ∷ filters ∷ close_paren ∷ parts) tokens.now want left) }
     {
         let (expr, rest) = self.parse_expr(tokens)?;
-        let (closing, left) = expect(Token::CloseParen, Want::CloseParen, rest)?;
-        let span = Span {
-            m: opening.m,
-            n: closing.n,
-        };
-        let expr = Box::new(self.alloc, expr)?;
-        Ok((BaseExpr::Paren(Paren { expr, span }), left))
+        match expect(Token::CloseParen, Want::CloseParen, rest) {
+            Ok((closing, left)) => {
+                let span = Span {
+                    m: opening.m,
+                    n: closing.n,
+                };
+                let expr = Box::new(self.alloc, expr)?;
+                Ok((BaseExpr::Paren(Paren { expr, span }), left))
+            }
+            // Dropped by a call, as in `parse_inline_tag`.
+            Err(failure) => {
+                drop(expr);
+                Err(failure)
+            }
+        }
     }
 }

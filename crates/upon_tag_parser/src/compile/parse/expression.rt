@@ -57,21 +57,34 @@ impl<'a> TagParser<'a> {
             → IsStuck self.now.source.now (filter_name ∷ filters ∷ parts) tokens.now want left) }
     {
         let start = receiver.span().m;
-        let (name, rest) = self.parse_ident(tokens)?;
-        let (args, left) = self.parse_filter_args(rest)?;
-        let n = match &args {
-            Some(args) => args.span.n,
-            None => name.span.n,
-        };
-        let receiver = Box::new(self.alloc, receiver)?;
-        let span = Span { m: start, n };
-        let filter = Filter {
-            name,
-            args,
-            receiver,
-            span,
-        };
-        Ok((Expr::Filter(filter), left))
+        match self.parse_ident(tokens) {
+            Ok((name, rest)) => match self.parse_filter_args(rest) {
+                Ok((args, left)) => {
+                    let n = match &args {
+                        Some(args) => args.span.n,
+                        None => name.span.n,
+                    };
+                    let receiver = Box::new(self.alloc, receiver)?;
+                    let span = Span { m: start, n };
+                    let filter = Filter {
+                        name,
+                        args,
+                        receiver,
+                        span,
+                    };
+                    Ok((Expr::Filter(filter), left))
+                }
+                // Dropped by a call, here and below, as in `parse_inline_tag`.
+                Err(failure) => {
+                    drop(receiver);
+                    Err(failure)
+                }
+            },
+            Err(failure) => {
+                drop(receiver);
+                Err(failure)
+            }
+        }
     }
 
     // The arguments of a filter, where a colon is next.

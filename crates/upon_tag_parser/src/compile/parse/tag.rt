@@ -55,8 +55,14 @@ impl<'a> TagParser<'a> {
         ensures stuck { IfStuck result (IsStuck self.now.source.now (a_base ∷ filters ∷ end_expr ∷ []) tokens.now) }
     {
         let (expr, rest) = self.parse_expr(tokens)?;
-        expect_end(Want::EndExpr, rest)?;
-        Ok(expr)
+        match expect_end(Want::EndExpr, rest) {
+            Ok(()) => Ok(expr),
+            // What was read is dropped by a call, not part by part: a proof of that is several times as long.
+            Err(failure) => {
+                drop(expr);
+                Err(failure)
+            }
+        }
     }
 
     /// Parses what is in the tag of a block, whose tokens are these.
@@ -72,8 +78,14 @@ impl<'a> TagParser<'a> {
         ensures stuck { IfStuck result (IsStuck self.now.source.now (block_word ∷ []) tokens.now) }
     {
         let (tag, rest) = self.parse_tag(tokens)?;
-        expect_end(Want::EndBlock, rest)?;
-        Ok(tag)
+        match expect_end(Want::EndBlock, rest) {
+            Ok(()) => Ok(tag),
+            // Dropped by a call, as in `parse_inline_tag`.
+            Err(failure) => {
+                drop(tag);
+                Err(failure)
+            }
+        }
     }
 
     // A tag of a block, up to where its end may be.
@@ -226,11 +238,18 @@ impl<'a> TagParser<'a> {
     {
         let (expr, rest) = self.parse_expr(tokens)?;
         match self.take_keyword("as", rest) {
-            None => Err(Failure::Stuck(Want::As, rest)),
-            Some((_, rest)) => {
-                let (name, left) = self.parse_ident(rest)?;
-                Ok((Tag::With(expr, name), left))
+            // Dropped by a call, as in `parse_inline_tag`.
+            None => {
+                drop(expr);
+                Err(Failure::Stuck(Want::As, rest))
             }
+            Some((_, rest)) => match self.parse_ident(rest) {
+                Ok((name, left)) => Ok((Tag::With(expr, name), left)),
+                Err(failure) => {
+                    drop(expr);
+                    Err(failure)
+                }
+            },
         }
     }
 

@@ -87,3 +87,6 @@ returns-in-None-clause-kept g c = kept_on c.steps.invariant.kept c.in-None.ensur
 
 pub returns-in-Some-end_of-clause-kept : goal.returns-in-Some-end_of-clause-kept
 returns-in-Some-end_of-clause-kept g c = kept_on c.steps.invariant.kept c.in-Some.ensures.kept
+
+pub steps-smaller : goal.steps-smaller
+steps-smaller g c = omega (arith, c.less-left.ensures)

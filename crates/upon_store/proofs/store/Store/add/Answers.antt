@@ -1,7 +1,8 @@
 use Rattle.std.proofs.Common.{subst, sym}
 use Rattle.std.specs.Cow.{cow_str_bytes}
-use Rattle.upon_engine.specs.Engine.{engine_syntax, HoldsTemplate}
+use Rattle.upon_engine.specs.Engine.{engine_syntax}
 use Rattle.upon_engine.specs.Template.{template_of}
+use Rattle.upon_store.specs.Stored.{HoldsTemplate}
 use Rattle.upon_store.proofs.Changes.{others_kept, put_there}
 use Rattle.upon_store.proofs.store.Store.add.Goals as goal
 

@@ -36,7 +36,7 @@ unexpected-requires c =
     let text = subst IsUtf8 (sym self.same_text) (IsUtf8-had self.source.now self.is_text) in
     let x = c.requires.given.2 in
     let a = c.in_ok-tag.ensures.tag (c.requires.given.1 ++ token_lexeme BeginBlock x.hyphen x.at ∷ []) (after_begin_block lexer texts c.requires.given.0 stack c.requires.given.1 c.args.begin x) in
-    let refused = rw c.in-Some.is at c.in_ok-untaken.ensures in
+    let refused = rw c.in-Some.is at c.in-Ok.ensures in
     let first = untaken_first lexer texts c.requires.given.0 stack c.requires.given.1 c.args.begin c.read_block.new.lexer c.in_ok-tag.ensures.delimiters c.in_ok-tag.ensures.text (had_utf8 (pieces_delimiters self) lexer.searcher.now.syntax.has_utf8) text x (tag_of c.in_ok-tag.tag) c.in_ok-tag.span a c.in_ok-tag.ensures.start (closer_of c.in-Some.closer) refused.0 refused.1 in
     let F : List ℕ → Type 0 = λ s. LiesIn s c.in_ok-tag.span in
     subst F (sym c.in_ok-tag.ensures.text) (first_lies_in (pieces_delimiters self) (pieces_text self) c.in_ok-tag.span (reason c.in-Some.closer) texts lexer.searcher.now.syntax.has_utf8 text first)
@@ -49,7 +49,7 @@ returns-in-None-clause-tag c = λ before ls x.
     let stack = pieces_blocks self in
     let text = subst IsUtf8 (sym self.same_text) (IsUtf8-had self.source.now self.is_text) in
     let a = c.in_ok-tag.ensures.tag (ls ++ token_lexeme BeginBlock x.hyphen x.at ∷ []) (after_begin_block lexer texts before stack ls c.args.begin x) in
-    let taken = rw c.in-None.is at c.in_ok-untaken.ensures in
+    let taken = rw c.in-None.is at c.in-Ok.ensures in
     block_step lexer texts before stack ls c.args.begin c.read_block.new.lexer c.in_ok-tag.ensures.delimiters c.in_ok-tag.ensures.text (had_utf8 (pieces_delimiters self) lexer.searcher.now.syntax.has_utf8) text x (tag_of c.in_ok-tag.tag) c.in_ok-tag.span a c.in_ok-tag.ensures.start (stack_of c.pass.new.self) taken.0 taken.1
 
 pub returns-in-Some-clause-fault : goal.returns-in-Some-clause-fault
@@ -61,6 +61,6 @@ returns-in-Some-clause-fault c =
     let text = subst IsUtf8 (sym self.same_text) (IsUtf8-had self.source.now self.is_text) in
     let x = c.requires.given.2 in
     let a = c.in_ok-tag.ensures.tag (c.requires.given.1 ++ token_lexeme BeginBlock x.hyphen x.at ∷ []) (after_begin_block lexer texts c.requires.given.0 stack c.requires.given.1 c.args.begin x) in
-    let refused = rw c.in-Some.is at c.in_ok-untaken.ensures in
+    let refused = rw c.in-Some.is at c.in-Ok.ensures in
     let first = untaken_first lexer texts c.requires.given.0 stack c.requires.given.1 c.args.begin c.read_block.new.lexer c.in_ok-tag.ensures.delimiters c.in_ok-tag.ensures.text (had_utf8 (pieces_delimiters self) lexer.searcher.now.syntax.has_utf8) text x (tag_of c.in_ok-tag.tag) c.in_ok-tag.span a c.in_ok-tag.ensures.start (closer_of c.in-Some.closer) refused.0 refused.1 in
     said_at (pieces_delimiters self) (pieces_text self) (lexer_text c.read_block.new.lexer) c.in_ok-tag.span c.in_ok-tag.span (reason c.in-Some.closer) c.unexpected.result c.in_ok-tag.ensures.text refl first c.unexpected.ensures

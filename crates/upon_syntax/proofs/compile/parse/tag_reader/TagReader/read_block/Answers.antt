@@ -1,5 +1,4 @@
 use Rattle.std.proofs.Common.{ℕ, List, [], ◌∷◌, None, false, refl, sym, ◌∙◌, subst}
-use Rattle.std.proofs.lemmas.Result.{err_from_is_err_and}
 use Rattle.upon_types.specs.declared.types.token.Token.TheVariants.{EndBlock}
 use Rattle.upon_tag_parser.specs.BlockTags.{tag_of}
 use Rattle.upon_language_spec.specs.Cut.{Lexeme}
@@ -14,9 +13,9 @@ use Rattle.upon_tag_parser.specs.TagTokens.{lexemes_of, EachTagToken}
 use Rattle.upon_tag_parser.specs.TagParsing.{OnStuck, IsStuck}
 use Rattle.upon_syntax.specs.TagEnds.{ReadsUpTo}
 use Rattle.upon_syntax.specs.TagFaults.{GoesNoFurther}
-use Rattle.upon_syntax.specs.TagReading.{AfterBegin, IsSyntaxError}
+use Rattle.upon_syntax.specs.TagReading.{IsSyntaxError}
 use Rattle.upon_tag_parser.specs.WholeTags.{LeadsToEnd, IsTagInside}
-use Rattle.upon_syntax.proofs.WholeTags.{mode_is, tag_read, end_is, failure_lies, failure_stops, end_stops, leads_all, after_end, error_handed}
+use Rattle.upon_syntax.proofs.WholeTags.{mode_is, tag_read, end_is, failure_lies, failure_stops, end_stops, leads_all, after_end}
 use Rattle.upon_syntax.proofs.compile.parse.tag_reader.TagReader.read_block.Goals as goal
 
 abbrev from : List Part
@@ -48,9 +47,9 @@ returns-in-Err-clause-fault c = λ ls a.
     let Fault : List ℕ → Type 0 = λ x. IsSyntaxError (lexer_delimiters lexer) x c.refuse_failure.result in
     subst Fault c.requires.same (c.refuse_failure.ensures (lexer_delimiters lexer) (subst Stops (sym c.requires.same) stops))
 
-pub returns-in_err-end-in-Ok-clause-fault : goal.returns-in_err-end-in-Ok-clause-fault
-returns-in_err-end-in-Ok-clause-fault c =
-    let e = c.in_err-end-in-Ok.field-0.0 in
+pub returns-in-Err-end_of-clause-fault : goal.returns-in-Err-end_of-clause-fault
+returns-in-Err-end_of-clause-fault c =
+    let e = c.in-Err-end_of.error in
     let lexer = c.args.lexer.now in
     let s = lexer_text lexer in
     let tokens = c.read_tokens.new.tokens.items in
@@ -62,16 +61,14 @@ returns-in_err-end-in-Ok-clause-fault c =
     let Each : List ℕ → Type 0 = λ x. EachTagToken x None (lexemes_of tokens) in
     let Fault : List ℕ → Type 0 = λ x. IsSyntaxError (lexer_delimiters lexer) x e in
     let Goes : List ℕ → Type 0 = λ x. GoesNoFurther (lexer_delimiters lexer) x want.EndBlock [] ended in
-    error_handed c.from_residual-in_err-end-in-Ok.result e (λ x. (ls : List Lexeme) → AfterBegin lexer block c.args.begin ls → IsSyntaxError (lexer_delimiters lexer) s x)
-    (err_from_is_err_and c.from_residual-in_err-end-in-Ok.result c.from_residual-in_err-end-in-Ok.ensures.1)
-    (λ ls a.
+    λ ls a.
     let Reads : List ℕ → Type 0 = λ x. ReadsUpTo (lexer_delimiters lexer) x block ls (lexemes_of tokens) (last_or None (lexemes_of tokens)) after ended in
     let reads = subst Reads c.requires.same (c.in_ok-ended.ensures.inner block false ls a.read (mode_is lexer block c.args.begin ls a)) in
     let tag = tag_read lexer block c.args.begin ls a from (lexemes_of tokens) after ended refl (λ hyphen. refl) refl (subst Each c.requires.same c.in_ok-ended.ensures.tokens) reads in
-    subst Fault c.requires.same (c.in_err-end-in-Ok.ensures.fault (lexer_delimiters lexer) (λ none. subst Goes (sym c.requires.same) (end_stops (lexer_delimiters lexer) s block ls from (lexemes_of tokens) after ended want.EndBlock EndBlock tag to none))))
+    subst Fault c.requires.same (c.in-Err-end_of.ensures.fault (lexer_delimiters lexer) (λ none. subst Goes (sym c.requires.same) (end_stops (lexer_delimiters lexer) s block ls from (lexemes_of tokens) after ended want.EndBlock EndBlock tag to none)))
 
-pub returns-in_ok-end-in-Ok-clause-tag : goal.returns-in_ok-end-in-Ok-clause-tag
-returns-in_ok-end-in-Ok-clause-tag c = λ ls a.
+pub returns-in-Ok-end_of-clause-tag : goal.returns-in-Ok-end_of-clause-tag
+returns-in-Ok-end_of-clause-tag c = λ ls a.
     let lexer = c.args.lexer.now in
     let s = lexer_text lexer in
     let tokens = c.read_tokens.new.tokens.items in
@@ -86,5 +83,5 @@ returns-in_ok-end-in-Ok-clause-tag c = λ ls a.
     let to : To s tokens = subst (λ ks. To s ks) c.deref.ensures.value (subst (λ x. To x c.deref.result.now) same c.in-Ok.ensures.leads) in
     let Is : List ℕ → List Lexed → Type 0 = λ x ks. IsTagInside x (tag_of c.in-Ok.tag) (lexemes_of ks) in
     let is : Is s tokens = subst (λ ks. Is s ks) c.deref.ensures.value (subst (λ x. Is x c.deref.result.now) same c.in-Ok.ensures.tag) in
-    let (l, ends, at) = c.in_ok-end-in-Ok.ensures.end in
-    after_end lexer c.read_tokens.new.lexer block ls from to.to (lexemes_of tokens) ended l c.in_ok-end-in-Ok.end (IsTagInside s (tag_of c.in-Ok.tag)) c.in_ok-ended.ensures.text c.in_ok-ended.ensures.delimiters tag (leads_all s from (lexemes_of tokens) EndBlock an_end_block to) to.ends (end_is ended l ends) at is
+    let (l, ends, at) = c.in-Ok-end_of.ensures.end in
+    after_end lexer c.read_tokens.new.lexer block ls from to.to (lexemes_of tokens) ended l c.in-Ok-end_of.end (IsTagInside s (tag_of c.in-Ok.tag)) c.in_ok-ended.ensures.text c.in_ok-ended.ensures.delimiters tag (leads_all s from (lexemes_of tokens) EndBlock an_end_block to) to.ends (end_is ended l ends) at is

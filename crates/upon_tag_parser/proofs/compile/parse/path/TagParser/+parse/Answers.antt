@@ -20,7 +20,7 @@ use Rattle.upon_tag_parser.specs.Wants.{wanted_of}
 use Rattle.upon_tag_parser.specs.TagParsing.{IsStuck, IsRefused, ReadsBase, ReadsPart, ReadsFilterArgs}
 use Rattle.upon_tag_parser.proofs.TagTokens.{rest_all, rest_then, tokens_rest}
 use Rattle.upon_tag_parser.proofs.BaseStarts.{base_stuck}
-use Rattle.upon_tag_parser.proofs.Stuck.{stuck_same, handed_on, ok_map}
+use Rattle.upon_tag_parser.proofs.Stuck.{stuck_same, stuck_map, handed_on, ok_map}
 use Rattle.upon_tag_parser.proofs.Stops.{StopsBase, StopsArgs, StopsExpression, StopsEntry, StopsAt, rest_on}
 use Rattle.upon_tag_parser.proofs.TagViews.{view_call, view_filter, some_end, no_end}
 use Rattle.upon_tag_parser.proofs.Bases.{name_stuck, member_stuck, list_start_stuck, map_start_stuck, paren_start_stuck, name_goes, literal_reads, span_is}
@@ -203,37 +203,37 @@ parse_expr-filters-preserved t c =
       shorter = omega (arith, c.filters.invariant.shorter, c.in-Some.ensures.shorter, c.in_ok-filter-in-Some.ensures.shorter);
     }
 
-pub parse_filter-returns-in_err-name-clause-stuck : goal.parse_filter-returns-in_err-name-clause-stuck
-parse_filter-returns-in_err-name-clause-stuck t c =
-    handed_on c.from_residual.result c.in_err-name.field-0.0 (IsRefused Identifier WantName c.args.tokens.now) (StopsAt (λ ps. filter_name ∷ filters ∷ ps) c.args.self.now.source.now c.args.tokens.now) (err_from_is_err_and c.from_residual.result c.from_residual.ensures.1)
+pub parse_filter-returns-in-Err-clause-stuck : goal.parse_filter-returns-in-Err-clause-stuck
+parse_filter-returns-in-Err-clause-stuck t c =
+    stuck_map c.in-Err.failure (IsRefused Identifier WantName c.args.tokens.now) (StopsAt (λ ps. filter_name ∷ filters ∷ ps) c.args.self.now.source.now c.args.tokens.now)
     (λ want left r. filter_name_stuck c.args.self.now.source.now c.args.tokens.now left want r)
-    c.in_err-name.ensures.stuck
+    c.in-Err.ensures.stuck
 
-pub parse_filter-returns-in_err-args-clause-stuck : goal.parse_filter-returns-in_err-args-clause-stuck
-parse_filter-returns-in_err-args-clause-stuck t c =
-    handed_on c.from_residual-in_err-args.result c.in_err-args.field-0.0 (StopsAt (λ ps. after_filter ∷ filters ∷ ps) c.args.self.now.source.now c.in_ok-name.rest.now) (StopsAt (λ ps. filter_name ∷ filters ∷ ps) c.args.self.now.source.now c.args.tokens.now) (err_from_is_err_and c.from_residual-in_err-args.result c.from_residual-in_err-args.ensures.1)
-    (λ want left h. after_name_stuck c.args.self.now.source.now (ident_of c.in_ok-name.name) (lexemes_of c.args.tokens.now) (lexemes_of c.in_ok-name.rest.now) (lexemes_of left) (wanted_of want) c.in_ok-name.ensures.name h)
-    c.in_err-args.ensures.stuck
+pub parse_filter-returns-in-Err-parse_filter_args-clause-stuck : goal.parse_filter-returns-in-Err-parse_filter_args-clause-stuck
+parse_filter-returns-in-Err-parse_filter_args-clause-stuck t c =
+    stuck_map c.in-Err-parse_filter_args.failure (StopsAt (λ ps. after_filter ∷ filters ∷ ps) c.args.self.now.source.now c.in-Ok.rest.now) (StopsAt (λ ps. filter_name ∷ filters ∷ ps) c.args.self.now.source.now c.args.tokens.now)
+    (λ want left h. after_name_stuck c.args.self.now.source.now (ident_of c.in-Ok.name) (lexemes_of c.args.tokens.now) (lexemes_of c.in-Ok.rest.now) (lexemes_of left) (wanted_of want) c.in-Ok.ensures.name h)
+    c.in-Err-parse_filter_args.ensures.stuck
 
-pub parse_filter-returns-clause-filter : goal.parse_filter-returns-clause-filter
-parse_filter-returns-clause-filter t c =
+pub parse_filter-returns-in_ok-receiver-in-Ok-parse_filter_args-clause-filter : goal.parse_filter-returns-in_ok-receiver-in-Ok-parse_filter_args-clause-filter
+parse_filter-returns-in_ok-receiver-in-Ok-parse_filter_args-clause-filter t c =
     λ all before x bar.
-    let name = ident_of c.in_ok-name.name in
-    let args = maybe_arguments_of c.in_ok-args.args in
+    let name = ident_of c.in-Ok.name in
+    let args = maybe_arguments_of c.in-Ok-parse_filter_args.args in
     let receiver = expression_of c.args.receiver in
     let span : Span = record { m = c.span-start.result.m; n = c.match-args.n } in
-    let F : Expression → Type 0 = λ e. ReadsPart c.args.self.now.source.now e all (lexemes_of c.in_ok-args.left.now) in
-    let same = view_filter c.in_ok-name.name c.in_ok-args.args c.in_ok-receiver.receiver span ∙ ap (λ y. filtered (expression_of y) name args span) c.in_ok-receiver.ensures.ok in
+    let F : Expression → Type 0 = λ e. ReadsPart c.args.self.now.source.now e all (lexemes_of c.in-Ok-parse_filter_args.left.now) in
+    let same = view_filter c.in-Ok.name c.in-Ok-parse_filter_args.args c.in_ok-receiver-in-Ok-parse_filter_args.receiver span ∙ ap (λ y. filtered (expression_of y) name args span) c.in_ok-receiver-in-Ok-parse_filter_args.ensures.ok in
     let ends : c.match-args.n ≡ filter_end name args = elim c.match-args.branch [
-      | parse_filter-in-Some w ↦ some_end c.in_ok-name.name c.in_ok-args.args w.in-Some.args c.match-args.n w.in-Some.is w.n-is
-      | parse_filter-in-None w ↦ no_end c.in_ok-name.name c.in_ok-args.args c.match-args.n w.in-None.is w.n-is
+      | parse_filter-in-Some w ↦ some_end c.in-Ok.name c.in-Ok-parse_filter_args.args w.in-Some.args c.match-args.n w.in-Some.is w.n-is
+      | parse_filter-in-None w ↦ no_end c.in-Ok.name c.in-Ok-parse_filter_args.args c.match-args.n w.in-None.is w.n-is
     ] in
-    subst F (sym same) (part_filtered c.args.self.now.source.now receiver name args span all before (lexemes_of c.args.tokens.now) (lexemes_of c.in_ok-name.rest.now) (lexemes_of c.in_ok-args.left.now) x bar c.in_ok-name.ensures.name c.in_ok-args.ensures.args
+    subst F (sym same) (part_filtered c.args.self.now.source.now receiver name args span all before (lexemes_of c.args.tokens.now) (lexemes_of c.in-Ok.rest.now) (lexemes_of c.in-Ok-parse_filter_args.left.now) x bar c.in-Ok.ensures.name c.in-Ok-parse_filter_args.ensures.args
     (span_is span (expression_span receiver).m (filter_end name args) (ap (λ (y : Span). y.m) c.span-start.ensures) ends))
 
-pub parse_filter-returns-clause-rest : goal.parse_filter-returns-clause-rest
-parse_filter-returns-clause-rest t c =
-    rest_then (lexemes_of c.args.tokens.now) (lexemes_of c.in_ok-name.rest.now) (lexemes_of c.in_ok-args.left.now) c.in_ok-name.ensures.rest c.in_ok-args.ensures.rest
+pub parse_filter-returns-in_ok-receiver-in-Ok-parse_filter_args-clause-rest : goal.parse_filter-returns-in_ok-receiver-in-Ok-parse_filter_args-clause-rest
+parse_filter-returns-in_ok-receiver-in-Ok-parse_filter_args-clause-rest t c =
+    rest_then (lexemes_of c.args.tokens.now) (lexemes_of c.in-Ok.rest.now) (lexemes_of c.in-Ok-parse_filter_args.left.now) c.in-Ok.ensures.rest c.in-Ok-parse_filter_args.ensures.rest
 
 pub parse_filter_args-returns-in_err-args-in-Some-clause-stuck : goal.parse_filter_args-returns-in_err-args-in-Some-clause-stuck
 parse_filter_args-returns-in_err-args-in-Some-clause-stuck t c =
@@ -395,20 +395,20 @@ parse_paren-returns-in_err-expr-clause-stuck t c =
     (λ want left h. inside_stuck c.args.self.now.source.now (lexemes_of c.args.tokens.now) (lexemes_of left) (wanted_of want) h)
     c.in_err-expr.ensures.stuck
 
-pub parse_paren-returns-in_err-closing-clause-stuck : goal.parse_paren-returns-in_err-closing-clause-stuck
-parse_paren-returns-in_err-closing-clause-stuck t c =
-    handed_on c.from_residual-in_err-closing.result c.in_err-closing.field-0.0 (IsRefused CloseParen WantCloseParen c.in_ok-expr.rest.now) (StopsAt (λ ps. a_base ∷ filters ∷ close_paren ∷ ps) c.args.self.now.source.now c.args.tokens.now) (err_from_is_err_and c.from_residual-in_err-closing.result c.from_residual-in_err-closing.ensures.1)
+pub parse_paren-returns-in-Err-clause-stuck : goal.parse_paren-returns-in-Err-clause-stuck
+parse_paren-returns-in-Err-clause-stuck t c =
+    stuck_map c.in-Err.failure (IsRefused CloseParen WantCloseParen c.in_ok-expr.rest.now) (StopsAt (λ ps. a_base ∷ filters ∷ close_paren ∷ ps) c.args.self.now.source.now c.args.tokens.now)
     (λ want left r. paren_stuck c.args.self.now.source.now (expression_of c.in_ok-expr.expr) (lexemes_of c.args.tokens.now) c.in_ok-expr.rest.now left want c.in_ok-expr.ensures.expression r)
-    c.in_err-closing.ensures.stuck
+    c.in-Err.ensures.stuck
 
-pub parse_paren-returns-clause-paren : goal.parse_paren-returns-clause-paren
-parse_paren-returns-clause-paren t c =
+pub parse_paren-returns-in_ok-expr-in-Ok-clause-paren : goal.parse_paren-returns-in_ok-expr-in-Ok-clause-paren
+parse_paren-returns-in_ok-expr-in-Ok-clause-paren t c =
     λ before g.
-    let span = from_to c.args.opening c.in_ok-closing.closing in
-    let F : Base → Type 0 = λ b. ReadsBase c.args.self.now.source.now b before (lexemes_of c.in_ok-closing.left.now) in
-    let same = view-Paren _ ∙ paren_of-out _ ∙ ap (λ y. paren (expression_of y) span) c.in_ok-expr-2.ensures.ok in
-    subst F (sym same) (paren_reads c.args.self.now.source.now (expression_of c.in_ok-expr.expr) before (lexemes_of c.args.tokens.now) (lexemes_of c.in_ok-expr.rest.now) (lexemes_of c.in_ok-closing.left.now) c.args.opening c.in_ok-closing.closing c.in_ok-expr.ensures.expression c.in_ok-closing.ensures.token g)
+    let span = from_to c.args.opening c.in-Ok.closing in
+    let F : Base → Type 0 = λ b. ReadsBase c.args.self.now.source.now b before (lexemes_of c.in-Ok.left.now) in
+    let same = view-Paren _ ∙ paren_of-out _ ∙ ap (λ y. paren (expression_of y) span) c.in_ok-expr-in-Ok.ensures.ok in
+    subst F (sym same) (paren_reads c.args.self.now.source.now (expression_of c.in_ok-expr.expr) before (lexemes_of c.args.tokens.now) (lexemes_of c.in_ok-expr.rest.now) (lexemes_of c.in-Ok.left.now) c.args.opening c.in-Ok.closing c.in_ok-expr.ensures.expression c.in-Ok.ensures.token g)
 
-pub parse_paren-returns-clause-rest : goal.parse_paren-returns-clause-rest
-parse_paren-returns-clause-rest t c =
-    rest_then (lexemes_of c.args.tokens.now) (lexemes_of c.in_ok-expr.rest.now) (lexemes_of c.in_ok-closing.left.now) c.in_ok-expr.ensures.rest (c.in_ok-closing.ensures.rest refl)
+pub parse_paren-returns-in_ok-expr-in-Ok-clause-rest : goal.parse_paren-returns-in_ok-expr-in-Ok-clause-rest
+parse_paren-returns-in_ok-expr-in-Ok-clause-rest t c =
+    rest_then (lexemes_of c.args.tokens.now) (lexemes_of c.in_ok-expr.rest.now) (lexemes_of c.in-Ok.left.now) c.in_ok-expr.ensures.rest (c.in-Ok.ensures.rest refl)

@@ -1,0 +1,99 @@
+"""The functions of a file as `rt fmt` lays it out, and the names that the prover gives them."""
+import dataclasses
+import re
+
+HEAD = re.compile(r'( *)(?:pub(?:\([^)]*\))? )?(?:const )?(?:unsafe )?(?:extern "C" )?fn (\w+)')
+CLAUSES = ("requires", "ensures", "ghost", "where")
+
+
+@dataclasses.dataclass(frozen=True)
+class Function:
+    """A function: the lines (from 0) of its head, of its body and of its end, the head of its impl, and its cycle of calls."""
+
+    file: str
+    first: int
+    body: int
+    last: int
+    name: str
+    owner: str
+    cycle: str
+
+    def has(self, line):
+        """Whether the line is of its body, or of its clauses if it is a law, whose body is empty."""
+        return self.body <= line <= self.last
+
+
+def functions_of(file, text):
+    """Returns the functions of a file's text, in their order."""
+    lines, found, owner, owner_ends = text.split("\n"), [], "", -1
+    for at, line in enumerate(lines):
+        if line.startswith(("impl", "trait", "pub trait")) and at > owner_ends:
+            owner, owner_ends = owner_of(lines, at)
+        head = HEAD.match(line)
+        if head:
+            body, last = body_of(lines, at, head[1])
+            found.append(Function(file, at, body, last, head[2], owner if at <= owner_ends else "", cycle_of(lines, at)))
+    return found
+
+
+def owner_of(lines, at):
+    """Returns the head of the impl or trait that begins at a line, in one line, and the line where it ends."""
+    head = next(i for i in range(at, len(lines)) if lines[i].rstrip().endswith(("{", "}")))
+    is_end = lambda i: lines[i] == "}" or i == at and lines[at].endswith("}")
+    ends = next((i for i in range(at, len(lines)) if is_end(i)), at)
+    return " ".join(line.strip() for line in lines[at : head + 1]), ends
+
+
+def body_of(lines, at, indent):
+    """Returns the first and the last line of the body of the function whose head is at a line."""
+
+    def opens(line):
+        return line == indent + "{" or line.endswith(" {") and not line.lstrip().startswith(CLAUSES)
+
+    def is_empty(line):
+        return line == indent + "{}" or line.endswith(" {}") and not line.lstrip().startswith(CLAUSES)
+
+    # (a member of a trait without a body ends at its semicolon)
+    body = next((i for i in range(at, len(lines)) if opens(lines[i]) or is_empty(lines[i]) or lines[i].endswith(";")), at)
+    if not opens(lines[body]):
+        return (at, body) if is_empty(lines[body]) else (body, body)
+    last = next((i for i in range(body, len(lines)) if lines[i] == indent + "}"), body)
+    return (at, last) if last == body + 1 else (body, last)
+
+
+def cycle_of(lines, at):
+    """Returns the name of the cycle of calls that the attributes above a function's head give it, if they do."""
+    above = "\n".join(lines[max(0, at - 6) : at]).rpartition("}")[2]
+    found = re.search(r"cycle\((\w+)\)", above)
+    return found[1] if found else ""
+
+
+def names_of_impl(head):
+    """Returns the names that the prover may give an impl, in small letters: `boolfunctionreturn` to `impl FunctionReturn for bool`."""
+    found = re.match(r"(?:pub )?(?:impl|trait)\s*(<(?:[^<>]|<[^<>]*>)*>)?(.*?)(?: where .*)?[{} ]*\Z", head)
+    parameters = set(re.findall(r"(?:\A<|, )(?:const )?(\w+)", found[1] or ""))
+    trait, _, of = found[2].rpartition(" for ")
+    text = re.sub(r"'\w+", "", f"{of} {trait}".replace("()", " Unit ").replace("&", " Ref "))
+    forms = {text, re.sub(r"\b\w+::", "", text), re.sub(r"<.*?>", "", text), re.sub(r"<.*>", "", text)}
+    forms |= {form.replace(" From", " From ") for form in forms}
+    return {"".join(word for word in re.findall(r"\w+", form) if word not in parameters).lower() for form in forms}
+
+
+def module_of(crate, file):
+    """Returns the parts of the path of a file's module, the crate's name first."""
+    inside = re.sub(r"\Asrc/|(\b/?(mod|lib|main))?\.rt\Z", "", file)
+    return [crate, *filter(None, inside.split("/"))]
+
+
+def name_of(function, crate, known):
+    """Returns the name under which a check's lines tell of the function, of those that are known, or None if that is not sure."""
+    names = [name.split("::") for name in known]
+    names = [name for name in names if name[-1] == function.name]
+    module = module_of(crate, function.file)
+    if function.owner:
+        forms = names_of_impl(function.owner)
+        names = [name for name in names if len(name) > 2 and name[-2].lower() in forms]
+        names = [name for name in names if name[:-2] == module] or names
+    else:
+        names = [name for name in names if name[:-1] == module]
+    return "::".join(names[0]) if len(names) == 1 else None

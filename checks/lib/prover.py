@@ -1,0 +1,138 @@
+"""Checks of copies of a crate, and what they say of its functions.
+
+A check is `rattle check`, called as the kit's `rt` calls it, over the libraries that `rt ci`, or `rt lib`, has built in out/rlib.
+"""
+import collections
+import dataclasses
+import importlib.machinery
+import importlib.util
+import os
+import re
+import shutil
+import subprocess
+import sys
+import tempfile
+
+# What a function's line says where it fails for another one.
+OF_ANOTHER = re.compile(r"it \w+ .*not proved|it waits for the proof of .*")
+# What an error of a proof says that names what an edit took away: it says little of the contract.
+OF_NAMES = re.compile(r"has no field|is not in scope|has no `|was not admitted")
+# An error by which the text could not be read, so that nothing was tried.
+UNREAD = re.compile(r"is not in scope|has no field|is no name|operand is missing|expected the end|cannot continue")
+KINDS = "proved|not proved|no proof|could not tell"
+
+
+def kit():
+    """Returns the module of the kit's command `rt`, which knows the crates of a repository and how to call the prover."""
+    path = os.path.realpath(shutil.which("rt") or sys.exit("edits: the command rt is not on the path"))
+    sys.path.insert(0, os.path.dirname(path))
+    sys.dont_write_bytecode = True
+    loader = importlib.machinery.SourceFileLoader("rt", path)
+    module = importlib.util.module_from_spec(importlib.util.spec_from_loader("rt", loader))
+    sys.modules["rt"] = module
+    loader.exec_module(module)
+    return module
+
+
+@dataclasses.dataclass
+class Goal:
+    """A goal that is not proved: its name, its place in src/ (a file and a line from 0) if that is known, and what is said of it."""
+
+    name: str
+    place: tuple
+    says: str
+
+    def is_of_names(self):
+        """Whether it is open only as its proof names what an edit took away."""
+        return bool(OF_NAMES.search(self.says))
+
+    def is_named(self, name):
+        """Whether it is the goal, or the clause, of that name, or of that kind: `ensures` is all that a function returns with,
+        `requires` what it owes a callee, `invariant` what a loop keeps."""
+        return name in (self.name, self.name.rpartition("-clause-")[2], self.kind())
+
+    def kind(self):
+        """Returns the kind of the goal. In a cycle of calls a goal's name begins with its function's."""
+        own = self.name.partition("-")[2] if "::" in self.name else self.name
+        if re.search("-(preserved|init)(-|$)", own):
+            return "invariant"
+        return "ensures" if re.match(r"(\w+-)?returns", own) else "requires" if "-requires" in own else ""
+
+
+class Said:
+    """What a check said: the functions that are proved, those that wait for others, and the open goals of those that fail by themselves."""
+
+    def __init__(self, text, status):
+        self.text, self.status = text, status
+        self.proved, self.waiting, self.open = set(), set(), collections.defaultdict(list)
+        self.goals, self.of_cycles = [], []
+        errors = self.read_errors()
+        self.read_goals()
+        for name, kind, why in re.findall(rf"^(?:fn|impl) (\S+): ({KINDS})(.*)", text, re.M):
+            self.read_function(name, kind, why, errors["/".join(name.split("::")[1:])])
+
+    def read_errors(self):
+        """Returns the errors of proofs, by the folder of the proof; those of a cycle of calls are put into `of_cycles`."""
+        errors = collections.defaultdict(list)
+        for folder, says in re.findall(r"^(?:\./)?proofs/(\S+)/\w+\.antt:\d+:\d+: error: (.*)", self.text, re.M):
+            name = re.match(r"`([^`]*)`", says)
+            goal = Goal(name[1] if name else "", (), says)
+            errors[folder].append(goal)
+            if os.path.basename(folder).startswith("+"):
+                self.of_cycles.append((os.path.basename(folder)[1:], goal))
+        return errors
+
+    def read_goals(self):
+        """Reads the goals whose place is said."""
+        for file, line, says in re.findall(r"^(?:note: )?(?:\./)?(src/\S+?):(\d+):\d+: (.*not proved.*)", self.text, re.M):
+            names = re.findall(r"\(`([^`]*)`\)", says)
+            self.goals.append(Goal(names[-1] if names else "", (file, int(line) - 1), says))
+
+    def read_function(self, name, kind, why, errors):
+        """Reads a function's line."""
+        reasons = [it for it in re.split("[;:] ", why) if it and not OF_ANOTHER.fullmatch(it)]
+        waits = kind == "no proof" or "it waits for the proof of" in why
+        if kind == "proved":
+            self.proved.add(name)
+        elif reasons or errors or not waits:
+            searched = [Goal(it, (), why) for it in re.findall(r"did not prove `([^`]*)`", why)]
+            self.open[name] += errors + searched or [Goal("", (), f"{kind} {why}")]
+        else:
+            self.waiting.add(name)
+
+    def known(self):
+        """Returns the names of all functions of which the check told."""
+        return self.proved | self.waiting | {*self.open}
+
+    def is_verdict(self):
+        """Whether the prover came to an end: it was not killed, and read the text."""
+        return self.status in (0, 1, 3) and bool(re.search(r"^(?:logic=|only=)", self.text, re.M))
+
+    def unread(self, changed):
+        """Returns the places of what could not be read in src/, specs/ or a changed file, with what is said of each."""
+        found = []
+        for path, line, says in re.findall(r"^(?:\./)?(\S+?):(\d+):\d+: error(?:\[[\w-]+\])?: (.*)", self.text, re.M):
+            goal = re.match(r"`[^`]*`: ", says)
+            bare = re.sub(r"`[^`]*`", "", says)
+            if (path in changed or path.startswith(("src/", "specs/"))) and (not goal or UNREAD.search(bare)):
+                found.append((path, int(line) - 1, says[:200]))
+        return found
+
+
+def check(module, crate, texts, kept, only=()):
+    """Checks a copy of the crate with these texts in place of its own, over the work in the folder `kept`. Returns what was said, and the processor time in seconds."""
+    with tempfile.TemporaryDirectory(prefix="edits-") as room:
+        for part in ("src", "specs", "proofs"):
+            if os.path.isdir(f"{crate.folder}/{part}"):
+                shutil.copytree(f"{crate.folder}/{part}", f"{room}/{part}")
+        for path, text in texts.items():
+            with open(f"{room}/{path}", "w", encoding="utf-8") as file:
+                file.write(text)
+        flags = ["--jobs", "1", *(word for name in only for word in ("--only", name))]
+        words = [module.rtlib.RATTLE, "check", *crate.words(flags, keeps=False), "--incremental", kept]
+        with tempfile.TemporaryFile("w+", errors="replace") as said:
+            ran = subprocess.Popen([*module.rtlib.guarded(), *words], cwd=room, stdin=subprocess.DEVNULL, stdout=said, stderr=said)
+            _, status, used = os.wait4(ran.pid, 0)
+            ran.returncode = os.waitstatus_to_exitcode(status)
+            said.seek(0)
+            return Said(said.read(), ran.returncode), used.ru_utime + used.ru_stime

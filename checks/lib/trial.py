@@ -1,0 +1,164 @@
+"""The trial of a crate's edits: many in one copy where they change different functions, one by one where that tells nothing."""
+import dataclasses
+import os
+import shutil
+import signal
+
+import edit as edits_module
+import functions as functions_module
+import prover
+
+
+@dataclasses.dataclass
+class Result:
+    """What an edit came to: whether that is as it must be, in words, and the goals that it left open."""
+
+    is_right: bool
+    says: str
+    goals: tuple = ()
+
+
+class Trial:
+    """The trial of one crate's edits."""
+
+    def __init__(self, module, crate, kept):
+        self.module, self.crate, self.kept = module, crate, kept
+        self.functions = functions_in(crate)
+        folder = f"{crate.folder}/edits"
+        paths = [f"{folder}/{name}" for name in sorted(os.listdir(folder)) if name.endswith(".edit")]
+        self.edits = [edits_module.Edit(path, crate.folder, self.functions) for path in paths]
+        self.results = {it.name: Result(False, f"BAD EDIT: {it.bad}") for it in self.edits if it.bad}
+        self.known, self.seconds, self.batches, self.astray = set(), 0.0, 0, []
+        self.alone = [it for it in self.edits if not it.bad and not it.is_of_functions()]
+
+    def run(self):
+        """Tries each edit."""
+        take_kept(self.crate, self.kept)
+        narrow = [it for it in self.edits if not it.bad and it.is_of_functions()]
+        again = []
+        for batch in edits_module.batches_of(narrow):
+            again += self.try_batch(batch, is_last=False)
+        for batch in edits_module.batches_of(again, with_cycles=True):
+            self.alone += self.try_batch(batch, is_last=True)
+        for edit in self.alone:
+            self.try_alone(edit)
+
+    def check(self, batch, only=()):
+        """Checks a copy with these edits, once more if the check was killed, most likely for memory."""
+        for _ in range(2):
+            said, seconds = prover.check(self.module, self.crate, edits_module.texts_with(batch, self.crate.folder), self.kept, only)
+            self.seconds += seconds
+            if said.status != -signal.SIGKILL:
+                break
+        return said
+
+    def try_batch(self, batch, is_last):
+        """Tries edits in one copy, and returns those of which that tells nothing and which are to be tried with fewer, or alone."""
+        said, unread = None, []
+        while batch:
+            self.batches += 1
+            said = self.check(batch, self.scope(batch))
+            places = said.unread({path for edit in batch for path in edit.texts})
+            unread = [edit for edit in batch if any(self.is_at(edit, *place[:2]) for place in places)]
+            if not places:
+                break
+            self.alone += unread or batch
+            batch = [edit for edit in batch if edit not in unread] if unread else []
+        if not batch:
+            return []
+        if not said.is_verdict():
+            self.alone += batch
+            return []
+        self.known |= said.known()
+        self.find_astray(batch, said)
+        return [edit for edit in batch if not self.is_told(edit, said, is_last)]
+
+    def scope(self, batch):
+        """Returns what a check of these edits has to read: at first whole modules, as no names are known yet, then functions."""
+        functions = {it for edit in batch for it in edit.functions}
+        names = [functions_module.name_of(it, self.crate.name, self.known) for it in functions]
+        if all(names):
+            return sorted(set(names))
+        modules = {"::".join(functions_module.module_of(self.crate.name, it.file)[1:]) for it in functions}
+        return [] if "" in modules else sorted(modules)
+
+    def is_at(self, edit, file, line):
+        """Whether a place is in one of the functions that the edit changes."""
+        return any(it.file == file and it.first <= line <= it.last for it in edit.functions)
+
+    def goals_of(self, edit, said, is_last):
+        """Returns the open goals of the functions that the edit changes. In a cycle of calls, which has one proof, a goal counts by its place, or by the function that its name begins with."""
+        near = [it for it in said.goals if self.is_at(edit, *it.place)]
+        near += [goal for cycle, goal in said.of_cycles for it in edit.functions if it.cycle == cycle and goal.name.split("-")[0].endswith(it.name)]
+        if edit.cycles and not is_last:
+            return near
+        names = [functions_module.name_of(it, self.crate.name, self.known) for it in edit.functions]
+        return near + [goal for name in names if name in said.open for goal in said.open[name]]
+
+    def is_told(self, edit, said, is_last):
+        """Whether the check tells of the edit that it is refused."""
+        goals = self.goals_of(edit, said, is_last)
+        if not goals:
+            return False
+        self.results[edit.name] = judged(edit, goals)
+        return True
+
+    def find_astray(self, batch, said):
+        """Finds functions that no edit of the batch changes and that fail by themselves."""
+        edited = {functions_module.name_of(it, self.crate.name, self.known) for edit in batch for it in edit.functions}
+        if not any(edit.cycles for edit in batch):
+            self.astray += [(name, said.open[name][0].says[:160]) for name in sorted(set(said.open) - edited)]
+
+    def try_alone(self, edit):
+        """Tries an edit by itself."""
+        said = self.check([edit])
+        places = said.unread(set(edit.texts))
+        goals = [*said.goals, *(goal for found in said.open.values() for goal in found), *(goal for _, goal in said.of_cycles)]
+        if places:
+            path, line, says = places[0]
+            self.results[edit.name] = Result(False, f"BAD EDIT: it can't be read: {path}:{line + 1}: {says}")
+        elif said.status == 0:
+            self.results[edit.name] = Result(False, "NOT REFUSED: the crate is proved with it")
+        elif said.status == 1 and goals:
+            self.results[edit.name] = judged(edit, goals)
+        else:
+            last = said.text.rstrip().rpartition("\n")[2][:160]
+            self.results[edit.name] = Result(False, f"NOT TRIED: the check ended with status {said.status}: {last}")
+
+
+def functions_in(crate):
+    """Returns the functions of the crate's files, by their path."""
+    found = {}
+    for at, _, names in os.walk(f"{crate.folder}/src"):
+        for name in names:
+            path = os.path.relpath(f"{at}/{name}", crate.folder)
+            with open(f"{at}/{name}", encoding="utf-8") as file:
+                found[path] = functions_module.functions_of(path, file.read())
+    return found
+
+
+def take_kept(crate, to):
+    """Has the checks begin with what the crate's own checks kept, if they did. A check replaces a file of proved modules, and writes into none."""
+
+    def copy(one, other):
+        return os.link(one, other) if one.endswith(".oantt") else shutil.copy2(one, other)
+
+    kept = f"{crate.folder}/out/incremental"
+    if os.path.isdir(kept):
+        try:
+            shutil.copytree(kept, to, copy_function=copy)
+        except (OSError, shutil.Error):
+            shutil.rmtree(to, ignore_errors=True)
+
+
+def judged(edit, goals):
+    """Returns the result of an edit that leaves goals open: whether one of them is the one that it names."""
+    names = tuple(dict.fromkeys(it.name for it in goals if it.name))
+    shown = ", ".join(names) or goals[0].says[:160]
+    if all(it.is_of_names() for it in goals):
+        return Result(True, f"refused, but only as a proof names what it takes away: {shown}", names)
+    if not edit.refused:
+        return Result(True, f"refused for {shown}, and it names no goal", names)
+    if not any(it.is_named(edit.refused) for it in goals):
+        return Result(False, f"refused for {shown}, and not for {edit.refused}", names)
+    return Result(True, f"refused for {edit.refused}", names)

@@ -1,0 +1,7 @@
+// The lexer: the tokens and faults of texts, the search for delimiters, and syntaxes that are built.
+pub mod cutting;
+pub mod faults;
+pub mod search;
+pub mod syntax;
+pub mod tokens;
+pub mod trimming;

@@ -1,0 +1,17 @@
+// Tests of the crates below `upon` that run without proofs: tables of what each answers.
+#![tactic(auto)]
+
+#[cfg(test)]
+mod compiler;
+#[cfg(test)]
+mod data;
+#[cfg(test)]
+mod functions;
+#[cfg(test)]
+mod lexer;
+#[cfg(test)]
+mod render;
+#[cfg(test)]
+mod syntax;
+#[cfg(test)]
+mod vm_calls;

@@ -1,0 +1,56 @@
+// Frames that are taken away, and the innermost loop.
+use crate::render::stack::{
+    DOT, Row, all_found, all_lie_in, at_item, entry, numbers, one_name, path, shown,
+};
+use std::alloc::Global;
+use std::process::Abort;
+use std::test::Fail;
+use upon_render::iter::LoopState;
+use upon_render::source::NoSource;
+use upon_render::stack::{Stack, State};
+use upon_types::value::{Value, ValueCow};
+
+const INDEX: &str = "{{ loop.index }}";
+
+#[test]
+fn a_boundary_is_taken_away(rt: HostRuntime) -> Result<(), Fail> {
+    let alloc = rt.alloc();
+    let context = Value::Map(entry(alloc, "a", Value::Integer(1))?);
+    let mut stack: Stack<NoSource> = Stack::new(alloc, &context);
+    stack.push(State::Boundary)?;
+    stack.pop_boundary();
+    let rows: [Row; 1] = [("{{ a }}", 3, &[(DOT, "a")], "Integer(1)")];
+    all_found(&rt, alloc, &mut stack, &rows)
+}
+
+// Whether `loop.index` is this, as it is shown.
+fn index_is(
+    rt: &impl Abort,
+    alloc: Global,
+    state: &LoopState<'_>,
+    wanted: &str,
+) -> Result<bool, Fail> {
+    let path = path(alloc, 3, &[(DOT, "loop"), (DOT, "index")])?;
+    assert!(rt; path.len() > 0);
+    assert!(rt; all_lie_in(INDEX, path.as_slice()));
+    match state.lookup_loop(alloc, INDEX, path.as_slice())? {
+        Some(found) => Ok(shown(alloc, Ok(found))?.as_str() == wanted),
+        None => Ok(false),
+    }
+}
+
+#[test]
+fn the_innermost_loop(rt: HostRuntime) -> Result<(), Fail> {
+    let alloc = rt.alloc();
+    let items = numbers(alloc, 3, 4)?;
+    let vars = one_name(alloc, "x")?;
+    let context = Value::None;
+    let mut stack: Stack<NoSource> = Stack::new(alloc, &context);
+    let state = at_item(&rt, alloc, &vars, ValueCow::Borrowed(&items), 1)?;
+    stack.push(State::Loop(state))?;
+    let innermost = stack.last_loop_state_mut();
+    assert!(&rt; index_is(&rt, alloc, innermost, "Integer(0)")?);
+    assert!(&rt; innermost.iterate().is_some());
+    assert!(&rt; index_is(&rt, alloc, innermost, "Integer(1)")?);
+    Ok(())
+}

@@ -1,0 +1,87 @@
+// Callables that are the same for each name.
+ghost use Rattle.std.specs.Prelude.{◌≡◌, Err, codes};
+ghost use Rattle.upon_functions.specs.Says.{Says};
+ghost use Rattle.upon_functions.specs.declared.function.CallError.TheVariants.{Memory};
+ghost use Rattle.upon_types.specs.Answers.{declines};
+
+use std::alloc::{AllocError, Global};
+use upon_fmt::fmt::{self, Formatter, default};
+use upon_functions::function::{ArgError, CallError};
+use upon_types::value::{Value, ValueCow};
+use upon_vm_calls::callables::{Callables, EngineCallable};
+
+// What each name stands for.
+#[derive(Clone, Copy)]
+pub enum Fixed {
+    Nothing,
+    Formats,
+    Seven,
+    Refuses,
+    WantsBool,
+}
+
+// The refusal of one who says no.
+fn no(alloc: Global) -> CallError
+    ensures { Says (Err result) (declines (codes "no")) }
+{
+    match String::from_str(alloc, "no") {
+        Ok(text) => CallError::Fault(text),
+        Err(error) => refused(error),
+    }
+}
+
+fn refused(_error: AllocError) -> CallError
+    ensures { result ≡ Memory }
+{
+    CallError::Memory
+}
+
+impl Callables for Fixed {
+    ghost use Rattle.upon_part_tests.specs.Fixed.{callable_of};
+    ghost use Rattle.upon_meaning_spec.specs.DefaultFormat.{default_format};
+
+    ghost callables = { λ s _. callable_of s };
+
+    ghost default_formatter = { λ _. default_format };
+
+    fn get(&self, _name: &str) -> Option<EngineCallable> {
+        match self {
+            Fixed::Nothing => None,
+            Fixed::Formats => Some(EngineCallable::Formatter),
+            Fixed::Seven => Some(EngineCallable::Function),
+            Fixed::Refuses => Some(EngineCallable::Function),
+            Fixed::WantsBool => Some(EngineCallable::Function),
+        }
+    }
+
+    fn call(&self, alloc: Global, _name: &str, args: &[ValueCow]) -> Result<Value, CallError> {
+        match self {
+            Fixed::Nothing => Err(CallError::Memory),
+            Fixed::Formats => Err(CallError::Memory),
+            Fixed::Seven => Ok(Value::Integer(7)),
+            Fixed::Refuses => Err(no(alloc)),
+            Fixed::WantsBool => {
+                if args.is_empty() {
+                    return Err(CallError::Arity(1));
+                }
+                Err(CallError::Arg(0, ArgError::WrongType("bool")))
+            }
+        }
+    }
+
+    fn format(&self, _name: &str, f: &mut Formatter, value: &Value) -> fmt::Result {
+        default(f, value)
+    }
+
+    // Where all names are formatters, the default one is asked too.
+    fn is_plain(&self) -> bool {
+        match self {
+            Fixed::Formats => false,
+            _ => true,
+        }
+    }
+
+    fn default_format(&self, f: &mut Formatter, value: &Value) -> fmt::Result {
+        default(f, value)
+    }
+}

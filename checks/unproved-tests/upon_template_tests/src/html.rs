@@ -1,0 +1,3 @@
+// Pages whose values are escaped.
+pub mod hostile;
+pub mod pages;

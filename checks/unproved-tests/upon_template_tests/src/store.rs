@@ -1,0 +1,3 @@
+// Templates by their paths.
+pub mod paths;
+pub mod renders;

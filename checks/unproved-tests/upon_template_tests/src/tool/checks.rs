@@ -1,0 +1,78 @@
+// What is said of templates that are checked.
+use crate::tool::libraries::library;
+use std::alloc::{AllocError, Global};
+use std::borrow::CowStr;
+use std::test::Fail;
+use upon::Engine;
+use upon_tool::check::{check_file, check_text};
+use upon_tool::library::Library;
+
+// What is said of a text, or `right`.
+fn said_of_text(alloc: Global, engine: &Engine<'_>, source: &str) -> Result<String, AllocError> {
+    let mut err = Vec::new(alloc);
+    if check_text(alloc, engine, "own", CowStr::Borrowed(source), &mut err)? {
+        return String::from_str(alloc, "right");
+    }
+    String::from_utf8_lossy(alloc, err.as_slice())
+}
+
+// What is said of a file, or `right`.
+fn said_of_file(
+    alloc: Global,
+    engine: &Engine<'_>,
+    library: &Library,
+    name: &str,
+) -> Result<String, AllocError> {
+    let mut err = Vec::new(alloc);
+    if check_file(alloc, engine, library, name, &mut err)? {
+        return String::from_str(alloc, "right");
+    }
+    String::from_utf8_lossy(alloc, err.as_slice())
+}
+
+#[test]
+fn texts(rt: HostRuntime) -> Result<(), Fail> {
+    let alloc = rt.alloc();
+    let files: [(&str, &[u8]); 1] = [("a", b"x")];
+    let mut engine = Engine::new(alloc);
+    let _library = library(alloc, &mut engine, files.as_slice())?;
+    for (source, wanted) in [
+        ("{% include \"a\" %}{% include \"own\" %}", "right"),
+        ("{% if x %}{% include \"c\" %}{% endif %}", "--> own:1:22\n"),
+        (
+            "{% include \"a\" %}\n{% include \"b\" with x %}",
+            "--> own:2:12\n",
+        ),
+        ("{{", "--> own:1:3\n"),
+    ] {
+        let said = said_of_text(alloc, &engine, source)?;
+        if !said.as_str().contains(wanted) {
+            return Err(Fail::new(format_args!("{said:?} without {wanted:?}")));
+        }
+    }
+    Ok(())
+}
+
+#[test]
+fn files(rt: HostRuntime) -> Result<(), Fail> {
+    let alloc = rt.alloc();
+    let files: [(&str, &[u8]); 3] = [
+        ("a", b"{% include \"b\" %}"),
+        ("b", b"\xff"),
+        ("c", b"{% include \"a\" %}{% include \"d\" %}"),
+    ];
+    let mut engine = Engine::new(alloc);
+    let library = library(alloc, &mut engine, files.as_slice())?;
+    for (name, wanted) in [
+        ("a", "--> a:1:12\n"),
+        ("b", "upon-tool: b is not UTF-8\n"),
+        ("c", "--> c:1:29\n"),
+        ("unreadable", "upon-tool: cannot read unreadable\n"),
+    ] {
+        let said = said_of_file(alloc, &engine, &library, name)?;
+        if !said.as_str().contains(wanted) {
+            return Err(Fail::new(format_args!("{said:?} without {wanted:?}")));
+        }
+    }
+    Ok(())
+}

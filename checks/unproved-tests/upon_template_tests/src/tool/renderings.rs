@@ -1,0 +1,151 @@
+// What is shown of a template on JSON, and what is said if that fails.
+use crate::tool::libraries::library;
+use std::alloc::{AllocError, Global};
+use std::borrow::CowStr;
+use std::test::Fail;
+use upon::Engine;
+use upon_html::formatters::{Escape, Verbatim};
+use upon_tool::library::Library;
+use upon_tool::rendering::{Page, show};
+
+// The status, what went to standard output and what to standard error, as one text.
+fn answer<'a>(
+    alloc: Global,
+    engine: &Engine<'_>,
+    library: &Library,
+    name: &'a str,
+    json: &str,
+    set: &[(&'a str, &'a str)],
+) -> Result<String, AllocError> {
+    let mut out = Vec::new(alloc);
+    let mut err = Vec::new(alloc);
+    let page = Page {
+        name,
+        json: Some(("data.json", json)),
+        set,
+    };
+    let status = show(alloc, engine, library, &page, &mut out, &mut err);
+    let out = String::from_utf8_lossy(alloc, out.as_slice())?;
+    let err = String::from_utf8_lossy(alloc, err.as_slice())?;
+    format!(in alloc; "{status}|{out}|{err}")
+}
+
+// Each template of these files answers what is wanted of it, on its JSON.
+fn all_answer(
+    alloc: Global,
+    files: &[(&str, &[u8])],
+    rows: &[(&str, &str, &str)],
+) -> Result<(), Fail> {
+    let mut engine = Engine::new(alloc);
+    let library = library(alloc, &mut engine, files)?;
+    for (name, json, wanted) in rows {
+        let line = answer(alloc, &engine, &library, name, json, &[])?;
+        if line.as_str() != *wanted {
+            return Err(Fail::new(format_args!("{line:?} in place of {wanted:?}, of {name}")));
+        }
+    }
+    Ok(())
+}
+
+#[test]
+fn renders(rt: HostRuntime) -> Result<(), Fail> {
+    let files: [(&str, &[u8]); 3] = [
+        ("page", b"{% include \"mail/head.txt\" %}{{ a }}"),
+        ("mail/head.txt", b"[{{ b }}]"),
+        ("link", b"{{ b }}"),
+    ];
+    all_answer(
+        rt.alloc(),
+        files.as_slice(),
+        &[
+            ("page", "{\"a\": 1, \"b\": true}", "0|[true]1|"),
+            ("link", "{\"b\": \"<y>\"}", "0|<y>|"),
+        ],
+    )
+}
+
+#[test]
+fn sets_texts(rt: HostRuntime) -> Result<(), Fail> {
+    let alloc = rt.alloc();
+    let mut engine = Engine::new(alloc);
+    let files: [(&str, &[u8]); 1] = [("page", b"{{ a }}{{ b }}")];
+    let library = library(alloc, &mut engine, files.as_slice())?;
+    let set = [("b", "x"), ("b", "<y>")];
+    let line = answer(
+        alloc,
+        &engine,
+        &library,
+        "page",
+        "{\"a\": -2}",
+        set.as_slice(),
+    )?;
+    assert_eq!(&rt; line.as_str(), "0|-2<y>|");
+    Ok(())
+}
+
+#[test]
+fn escapes(rt: HostRuntime) -> Result<(), Fail> {
+    let alloc = rt.alloc();
+    let mut engine = Engine::new(alloc);
+    engine.add_formatter(CowStr::Borrowed("verbatim"), Box::new(alloc, Verbatim)?)?;
+    engine.set_default_formatter(Box::new(alloc, Escape)?);
+    let files: [(&str, &[u8]); 1] = [("page", b"<p>{{ a }}</p>{{ a | verbatim }}")];
+    let library = library(alloc, &mut engine, files.as_slice())?;
+    let line = answer(alloc, &engine, &library, "page", "{\"a\": \"<b>\"}", &[])?;
+    assert_eq!(&rt; line.as_str(), "0|<p>&lt;b&gt;</p><b>|");
+    Ok(())
+}
+
+#[test]
+fn refuses_contexts(rt: HostRuntime) -> Result<(), Fail> {
+    let files: [(&str, &[u8]); 1] = [("page", b"x")];
+    let fraction = "1||upon-tool: data.json: not an integer of 64 bits at line 2 column 2\n";
+    let list = "1||upon-tool: data.json: not an object\n";
+    all_answer(
+        rt.alloc(),
+        files.as_slice(),
+        &[("page", "{\"a\":\n 1.5}", fraction), ("page", "[]", list)],
+    )
+}
+
+#[test]
+fn reports_what_is_reached(rt: HostRuntime) -> Result<(), Fail> {
+    let files: [(&str, &[u8]); 3] = [
+        ("page", b"{% if a %}{% include \"bytes\" %}{% endif %}x"),
+        ("bytes", b"a\xff"),
+        ("to unreadable", b"{% include \"unreadable\" %}"),
+    ];
+    all_answer(
+        rt.alloc(),
+        files.as_slice(),
+        &[
+            ("page", "{\"a\": false}", "0|x|"),
+            (
+                "page",
+                "{\"a\": true}",
+                "1||upon-tool: bytes is not UTF-8\n",
+            ),
+            (
+                "to unreadable",
+                "{}",
+                "1||upon-tool: cannot read unreadable\n",
+            ),
+            ("absent", "{}", "2||upon-tool: cannot read absent\n"),
+        ],
+    )
+}
+
+#[test]
+fn shows_the_fault_that_is_reached(rt: HostRuntime) -> Result<(), Fail> {
+    let alloc = rt.alloc();
+    let mut engine = Engine::new(alloc);
+    let files: [(&str, &[u8]); 2] = [("wr\"ng", b"{{"), ("page", b"{% include \"wr\\\"ng\" %}")];
+    let library = library(alloc, &mut engine, files.as_slice())?;
+    let line = answer(alloc, &engine, &library, "page", "{}", &[])?;
+    assert!(&rt;
+        line.as_str()
+            .starts_with("1||invalid syntax\n\n  --> wr\"ng:1:3\n"),
+        "{line}"
+    );
+    Ok(())
+}

@@ -1,5 +1,0 @@
-// Tests of contexts that are made from JSON.
-#![tactic(auto)]
-
-#[cfg(test)]
-mod contexts;
