@@ -48,11 +48,13 @@ class Goal:
 
     def is_named(self, name):
         """Whether it is the goal, or the clause, of that name, or of that kind: `ensures` is all that a function returns with,
-        `requires` what it owes a callee, `invariant` what a loop keeps."""
+        `requires` what it owes a callee, `invariant` what a loop keeps, `measure` that it ends."""
         return name in (self.name, self.name.rpartition("-clause-")[2], self.kind())
 
     def kind(self):
         """Returns the kind of the goal. In a cycle of calls a goal's name begins with its function's."""
+        if "expected a measure" in self.says:
+            return "measure"
         own = self.name.partition("-")[2] if "::" in self.name else self.name
         if re.search("-(preserved|init)(-|$)", own):
             return "invariant"

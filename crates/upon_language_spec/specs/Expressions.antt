@@ -64,7 +64,7 @@ IsLiteral s none_val span before rest = ⊥
 IsLiteral s (list_val vs) span before rest = ⊥
 IsLiteral s (map_val es) span before rest = ⊥
 
--- an opening token where the span begins, and a closing one where it ends
+-- the opening token begins where the span does
 abbrev pub Opens : Token → Span → List Lexeme → List Lexeme → Type 0
 Opens t span before rest = (opening : Span) × Goes t opening before rest × (opening.m ≡ span.m)
 
@@ -77,7 +77,7 @@ abbrev pub ClosesList : Token → Span → List Lexeme → List Lexeme → Type 
 ClosesList t span before rest = Closes t span before rest ⊎
     ((mid : List Lexeme) × GoesBy Comma before mid × Closes t span mid rest)
 
--- where the last of the expressions ends; the span itself if there is none
+-- where the last of the expressions ends; the offset itself if there is none
 abbrev pub last_end : ℕ → Bases → ℕ
 last_end n no_bases = n
 last_end n (base_then b bs) = last_end (base_span b).n bs

@@ -58,15 +58,15 @@ pub record Goes (t : Token) (span : Span) (before rest : List Lexeme) : Type 0 w
 abbrev pub GoesBy : Token → List Lexeme → List Lexeme → Type 0
 GoesBy t before rest = (span : Span) × Goes t span before rest
 
--- this keyword, at an offset and wherever it is
+-- the first token is this keyword, at this span, and then the rest
 abbrev pub GoesWord : List ℕ → List ℕ → Span → List Lexeme → List Lexeme → Type 0
 GoesWord s word span before rest = Goes Keyword span before rest × (slice s span ≡ word)
 
--- the same, wherever it is
+-- this keyword, wherever it is
 abbrev pub GoesKeyword : List ℕ → List ℕ → List Lexeme → List Lexeme → Type 0
 GoesKeyword s word before rest = (span : Span) × GoesWord s word span before rest
 
--- this name, and this string
+-- this name
 abbrev pub GoesName : List ℕ → Ident → List Lexeme → List Lexeme → Type 0
 GoesName s name before rest = Goes Identifier name.span before rest × (name.text ≡ slice s name.span)
 

@@ -16,7 +16,7 @@ abbrev pub block_begins : Bool → ℕ → ℕ
 block_begins binds zero = if binds then 1 else 0
 block_begins binds (suc n) = suc (suc n)
 
--- that number after an instruction at an offset; a jump back ends a loop
+-- that number after an instruction, which has this number; a jump back ends a loop
 abbrev pub count_after : List ℕ → ℕ → Instr → ℕ → ℕ
 count_after name at (with_start word) n = block_begins (bytes_eq word.text name) n
 count_after name at with_end n = n - 1
@@ -24,7 +24,7 @@ count_after name at (loop_start names span) n = block_begins (loop_binds name na
 count_after name at (jump to) n = if leb to at then n - 1 else n
 count_after name at i n = n
 
--- from an offset and a number on, the instructions that no open block binds the name for
+-- the instructions, the first of which has this number, that no open block binds the name for; so many are open at first
 abbrev pub unbound : List ℕ → ℕ → ℕ → List Instr → List Instr
 unbound name at n [] = []
 unbound name at zero (i ∷ is) = i ∷ unbound name (at + 1) (count_after name at i zero) is

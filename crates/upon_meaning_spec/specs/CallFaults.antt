@@ -7,7 +7,7 @@ use Rattle.upon_types.specs.Val.{Val, int_val, kind_word}
 use Rattle.upon_render.specs.LookupFaults.{wrong}
 use Rattle.upon_types.specs.Answers.{Misfit, wrong_type, out_of_range}
 
--- of a name that is looked up, at the name
+-- nothing has the name, if the value is emitted
 abbrev pub unknown_callable : Span → Fault
 unknown_callable at = wrong (codes "unknown formatter or function") at
 
@@ -19,7 +19,7 @@ unknown_function at = wrong (codes "unknown function") at
 abbrev pub formatter_found : Span → Fault
 formatter_found at = wrong (codes "expected function, found formatter") at
 
--- of the number of values that are given
+-- a formatter is given another number of values than one
 abbrev pub formatter_expects : ℕ → Span → Fault
 formatter_expects n at = wrong (codes "formatter expects 1 argument, " ++ (decimal n ++ codes " provided")) at
 
@@ -28,7 +28,7 @@ abbrev pub function_expects : ℕ → ℕ → Span → Fault
 function_expects n m at =
     wrong (codes "function expects " ++ (decimal n ++ (codes " arguments, " ++ (decimal m ++ codes " provided")))) at
 
--- of an argument of the function of this name; only an integer is out of range
+-- the digits of an argument that is out of range: only an integer is
 abbrev pub number_text : Val → List ℕ
 number_text (int_val z) = signed_decimal z
 number_text v = []
@@ -43,7 +43,7 @@ abbrev pub argument_misfits : List ℕ → Misfit → Val → Span → Fault
 argument_misfits name misfit v at =
     wrong (codes "function `" ++ (name ++ (codes "` expects " ++ misfit_text misfit v))) at
 
--- of a function that refuses, and of a formatter
+-- a function refuses
 abbrev pub function_declined : List ℕ → Span → Fault
 function_declined text at = bare_fault function (Some text) (Some at)
 

@@ -58,7 +58,7 @@ abbrev pub append_operand : {V : Type 0} → Reply V (Finding Operand) → (V �
     → Reply V (Finding (List Operand))
 append_operand first others = with_found first (λ o q. prepend o (others q))
 
--- the list of the values, and the map of the entries
+-- the operand that a list of values is
 abbrev pub as_list : {V : Type 0} → Reply V (Finding (List Operand)) → Span → Reply V (Finding Operand)
 as_list r at = with_found r (λ os q. reply (found (operand (list_val (vals_of (values_of os))) at)) q)
 
@@ -75,11 +75,13 @@ application calls name whole r = with_found r (λ os q. with_span
 module _ {V : Type 0} (calls : Calls V) where
   -- from the left, a filter's receiver before its arguments
   abbrev mutual
+    -- of an expression
     pub evaluate : Expression → Environment → V → Reply V (Finding Operand)
     evaluate (base b) env q = evaluate_base b env q
     evaluate (filtered receiver name args span) env q =
         application calls name span (append_operand (evaluate receiver env q) (evaluate_arguments args env))
 
+    -- of an expression without a filter
     pub evaluate_base : Base → Environment → V → Reply V (Finding Operand)
     evaluate_base (var first rest) env q = with_span (lookup calls.ask env first rest q) (path_span first rest)
     evaluate_base (literal v span) env q = reply (found (operand v span)) q
@@ -88,6 +90,7 @@ module _ {V : Type 0} (calls : Calls V) where
     evaluate_base (paren e span) env q = evaluate e env q
     evaluate_base (call name args span) env q = application calls name span (evaluate_arguments args env q)
 
+    -- of each of some, one after the other
     pub evaluate_bases : Bases → Environment → V → Reply V (Finding (List Operand))
     evaluate_bases no_bases env q = reply (found []) q
     evaluate_bases (base_then b bs) env q = append_operand (evaluate_base b env q) (evaluate_bases bs env)

@@ -1,16 +1,19 @@
 -- What is known of a path by frames, and what that says of a look-up.
+use denote.Ref.{Bor}
 use Rattle.std.proofs.Common.{◌≡◌, ℕ, ◌+◌, ◌<◌, ◌≤◌, List, [], ◌∷◌, ◌++◌, length, take, get_or, Bool, true, Option, Some, None, Result, Ok, Err, arith, refl, sym, ap, ◌∙◌, subst}
 use Rattle.std.proofs.lemmas.List.{take_more}
 use Rattle.upon_types.specs.Cow.{cow_view}
 use Rattle.upon_types.specs.Path.{Access, Member}
 use Rattle.upon_types.specs.Val.{Val}
+use Rattle.upon_types.specs.declared.value.Value.{Value}
 use Rattle.upon_types.specs.declared.error.Error.{Error}
 use Rattle.upon_types.specs.declared.value.cow.ValueCow.{ValueCow}
 use Rattle.upon_render.specs.Answer.{Answers, IsLent, Lends}
 use Rattle.upon_render.specs.Environment.{Root, context, value_source, nothing, Environment, root_environment}
 use Rattle.upon_render.specs.Finding.{Finding, found, at_fault, Reply, reply}
 use Rattle.upon_render.specs.Frames.{frame_over, frames_over, frame_lends, frames_lend}
-use Rattle.upon_render.specs.Lookup.{or_root, root_value, lookup}
+use Rattle.upon_render.specs.Lent.{LooksUp, WalksTo}
+use Rattle.upon_render.specs.Lookup.{or_not_in_scope, or_root, root_value, lookup}
 use Rattle.upon_render.specs.Settled.{Known, known, root_settles, or_root_settles, Settles, Finds}
 use Rattle.upon_render.specs.Source.{Source}
 use Rattle.upon_render.specs.declared.stack.State.{State}
@@ -144,3 +147,22 @@ error_known source env lent fs gs first rest r error same is h =
     let P : List State → Type 0 = λ l. Finds source (known_by_frames env lent l first rest) (known env lent first rest) r in
     let R : Result (Option ValueCow) Error → Type 0 = λ x. Finds source (known_by_frames env lent fs first rest) (known env lent first rest) x in
     subst R is (subst P same h)
+
+-- what settles a path is what a look-up finds, and the source is not asked
+pub lookup_settled : {Q : Type 0} (ask : Source Q) (env : Environment) (lent : Bool) (first : Member) (rest : List Member) (q : Q) (o : Finding Val)
+    → (known env lent first rest).settled ≡ Some o → lookup ask env first rest q ≡ reply o q
+lookup_settled ask env lent first rest q o is = or_root_settled _ ask env.root first rest q o is
+
+-- a value that all frames settle
+pub looks_up_here : {Q : Type 0} (ask : Source Q) (env : Environment) (lent : Bool) (fs gs : List State) (first : Member) (rest : List Member) (q : Q) (v : Val)
+    → gs ≡ fs → (known_by_frames env lent gs first rest).settled ≡ Some (found v) → lookup ask (frames_over env fs) first rest q ≡ reply (found v) q
+looks_up_here ask env lent fs gs first rest q v same is =
+    lookup_settled ask (frames_over env fs) (frames_lend lent fs first.access) first rest q (found v)
+    (subst (λ (l : List State). (known_by_frames env lent l first rest).settled ≡ Some (found v)) same is)
+
+-- one that the root has, where no frame binds the path
+pub looks_up_root : {Q : Type 0} (ask : Source Q) (env : Environment) (w : Val) (lent own : Bool) (first : Member) (rest : List Member) (q : Q) (r : Option (Bor Value))
+    → known env lent first rest ≡ known (root_environment (context w)) own first rest → WalksTo first rest w r → LooksUp ask env first rest q r
+looks_up_root ask env w lent own first rest q None same h = tt
+looks_up_root ask env w lent own first rest q (Some v) same h =
+    lookup_in_root ask env (context w) lent own first rest q same ∙ ap (λ (x : Finding (Option Val)). reply (or_not_in_scope x first.span) q) h

@@ -16,3 +16,4 @@ pub mod Frames
 pub mod Settled
 pub mod Roots
 pub mod Stack
+pub mod Lent

@@ -11,12 +11,13 @@ ghost use Rattle.upon_render.specs.Cursor.{advance, is_over, loop_bindings, loop
 ghost use Rattle.upon_render.specs.Items.{items_of};
 ghost use Rattle.upon_render.specs.Lookup.{bindings_walk, maybe_bound, key_walk, state_map, state_walk};
 ghost use Rattle.upon_render.specs.LoopItems.{names_of_both, IsNoList, IsNoMap, KeysRise, given, is_lent_here, is_lent_rest, is_lent_item, items_left, item_of, binds};
+ghost use Rattle.upon_render.specs.Lent.{TellsLent};
 ghost use Rattle.upon_render.specs.PathSpans.{StepsLieIn};
 ghost use Rattle.upon_render.specs.Walk.{as_some};
 
 use crate::faults;
 use crate::items::{Here, Item, Rest};
-use crate::value::lookup_bound;
+use crate::value::{Found, find_bound, lookup_bound};
 use std::alloc::{AllocError, Global};
 use std::collections::BTreeMap;
 use upon_types::error::{Error, Result};
@@ -118,6 +119,25 @@ impl<'a> LoopState<'a> {
                 lookup_item(alloc, source, self.vars, &here.item, name, var.rest())
             }
             _ => Ok(None),
+        }
+    }
+
+    /// Returns what the loop binds to the path, if that is a lent value.
+    #[inline(always)]
+    pub(crate) fn find(&self, var: &Var) -> Found<'a>
+        ensures { TellsLent
+            (bindings_walk (loop_bindings (cursor self.now)) (first_member var.now) (rest_members var.now))
+            result }
+    {
+        match (&var.first().access, &self.here) {
+            (Access::Key(ident), Some(here)) => {
+                let name = ident.name.as_str();
+                if name == "loop" {
+                    return Found::Unknown;
+                }
+                find_item(self.vars, &here.item, name, var.rest())
+            }
+            _ => Found::Below,
         }
     }
 
@@ -272,6 +292,33 @@ fn lookup_item<'a>(
             Ok(None)
         }
         _ => Ok(None),
+    }
+}
+
+// What the item binds to a name, with the members after it, if that is a lent value.
+#[inline(always)]
+fn find_item<'a>(vars: &LoopVars, item: &Item<'a>, name: &str, path: &[Member]) -> Found<'a>
+    ensures { TellsLent
+        (maybe_bound (first_bound name.now (binds (loop_vars_of vars.now) (item_of item.now))) (map member_of path.now))
+        result }
+{
+    match (vars, item) {
+        (LoopVars::Item(only), Item::Lone(value)) => {
+            if name == only.name.as_str() {
+                return find_bound(value, path);
+            }
+            Found::Below
+        }
+        (LoopVars::KeyValue(both), Item::Entry(_, value)) => {
+            if name == both.key.name.as_str() {
+                return Found::Unknown;
+            }
+            if name == both.value.name.as_str() {
+                return find_bound(value, path);
+            }
+            Found::Below
+        }
+        _ => Found::Unknown,
     }
 }
 

@@ -8,6 +8,7 @@ ghost use Rattle.upon_render.specs.Cursor.{is_over, lends_bound};
 ghost use Rattle.upon_render.specs.Loop.{cursor};
 ghost use Rattle.upon_render.specs.Environment.{Environment, value_source, binding, plain, binding_of};
 ghost use Rattle.upon_render.specs.Frames.{frame_over, frames_over, frame_lends, frames_lend};
+ghost use Rattle.upon_render.specs.Lent.{FindsLent, LooksUp, TellsLent};
 ghost use Rattle.upon_render.specs.Lookup.{lookup, root_value, bindings_walk, or_not_in_scope};
 ghost use Rattle.upon_render.specs.PathSpans.{StepsLieIn};
 ghost use Rattle.upon_render.specs.Settled.{known, Finds};
@@ -18,7 +19,7 @@ ghost use Rattle.upon_render.specs.Walk.{context_walk};
 use crate::faults;
 use crate::iter::LoopState;
 use crate::source::{SourceError, ValueSource, members};
-use crate::value::{lookup_bound, lookup_in_context};
+use crate::value::{Found, find_bound, find_in_context, lookup_bound, lookup_in_context};
 use std::alloc::{AllocError, Global};
 use upon_types::error::Result;
 use upon_types::types::ast::{Access, Ident, Member, Var};
@@ -108,6 +109,27 @@ impl<'a, V: ValueSource> Stack<'a, V> {
         }
     }
 
+    /// Returns what the path finds, if that is a lent value; `None` says nothing.
+    #[inline(always)]
+    pub fn find_lent(&self, var: &Var) -> Option<&'a Value>
+        ensures { (ask : Source V.State) (q : V.State) → LooksUp
+            ask
+            (environment_of self.now)
+            (first_member var.now)
+            (rest_members var.now)
+            q
+            result }
+    {
+        match find_in_frames(self.frames.as_slice(), var) {
+            Found::Here(value) => Some(value),
+            Found::Unknown => None,
+            Found::Below => match &self.root {
+                Root::Value(context) => find_in_context(*context, var.first(), var.rest()),
+                Root::Source(_) => None,
+            },
+        }
+    }
+
     /// One frame more, the innermost. If there is no memory, nothing changes.
     pub fn push(&mut self, frame: State<'a>) -> std::result::Result<(), AllocError>
         ensures ok { OnOk result (frames_of self.new ≡ frames_of self.old ++ frame.entry ∷ []) }
@@ -115,7 +137,8 @@ impl<'a, V: ValueSource> Stack<'a, V> {
         ensures err { OnErr result (frames_of self.new ≡ frames_of self.old) }
         ensures root { root_of self.new ≡ root_of self.old }
     {
-        self.frames.push(frame)?;
+        self.frames.reserve(1)?;
+        self.frames.push_reserved(frame);
         Ok(())
     }
 
@@ -345,6 +368,69 @@ fn search<'a>(
         }
     }
     Ok(None)
+}
+
+// What the frames have at the path, the innermost first, if that is a lent value.
+#[inline(always)]
+fn find_in_frames<'a>(frames: &[State<'a>], var: &Var) -> Found<'a>
+    ensures { (env : Environment) (lent : Bool) → FindsLent
+        (known (frames_over env frames.now) (frames_lend lent frames.now (first_member var.now).access)
+        (first_member var.now) (rest_members var.now))
+        (known env lent (first_member var.now) (rest_members var.now))
+        result }
+{
+    let mut left = frames.len();
+    while left > 0 {
+        left -= 1;
+        match find_in_frame(&frames[left], var) {
+            Found::Here(value) => return Found::Here(value),
+            Found::Unknown => return Found::Unknown,
+            Found::Below => {}
+        }
+    }
+    Found::Below
+}
+
+// What the frame has at the path, if that is a lent value.
+#[inline(always)]
+fn find_in_frame<'a>(frame: &State<'a>, var: &Var) -> Found<'a>
+    ensures { (env : Environment) (lent : Bool) → FindsLent
+        (known (frame_over frame.now env) (frame_lends frame.now (first_member var.now).access lent)
+        (first_member var.now) (rest_members var.now))
+        (known env lent (first_member var.now) (rest_members var.now))
+        result }
+{
+    match frame {
+        State::Scope(context) => match context {
+            ValueCow::Borrowed(context) => {
+                match find_in_context(*context, var.first(), var.rest()) {
+                    Some(value) => Found::Here(value),
+                    None => Found::Unknown,
+                }
+            }
+            ValueCow::Owned(_) => Found::Unknown,
+        },
+        State::Var(ident, value) => find_named(*ident, value, var),
+        State::Loop(state) => state.find(var),
+        State::Boundary => Found::Unknown,
+    }
+}
+
+// What a name with its value binds to the path, if that is a lent value.
+#[inline(always)]
+fn find_named<'a>(ident: &Ident, value: &ValueCow<'a>, var: &Var) -> Found<'a>
+    ensures { TellsLent
+        (bindings_walk (binding (ident_of ident.now).text (plain (cow_view value.now)) ∷ []) (first_member var.now)
+        (rest_members var.now))
+        result }
+{
+    if let Access::Key(name) = &var.first().access {
+        let word = name.name.as_str();
+        if word == ident.name.as_str() {
+            return find_bound(value, var.rest());
+        }
+    }
+    Found::Below
 }
 
 // What the frame has at the path, or `None` where it does not bind it and what is below is seen.

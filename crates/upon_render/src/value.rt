@@ -6,6 +6,7 @@ ghost use Rattle.upon_types.specs.Span.{LiesIn};
 ghost use Rattle.upon_types.specs.View.{view, vals_view};
 ghost use Rattle.upon_render.specs.Answer.{AnswersAlways, Answers, TellsFault, lent_view, lent_or_none, maybe_view, is_borrowed, IsLent, IsLentIfAny, Lends};
 ghost use Rattle.upon_render.specs.Finding.{found, found_only};
+ghost use Rattle.upon_render.specs.Lent.{IsFound, TellsLent, WalksTo};
 ghost use Rattle.upon_render.specs.PathSpans.{StepsLieIn};
 ghost use Rattle.upon_render.specs.Vals.{val_list};
 ghost use Rattle.upon_render.specs.Walk.{lookup_member as member_in, walk, as_some, context_walk, path_in_context, found_or_missed};
@@ -139,6 +140,61 @@ pub(crate) fn lookup_in_context<'a>(
             Some(None) => Ok(Some(ValueCow::Owned(Value::None))),
             None => Ok(None),
         },
+    }
+}
+
+/// What a search by references alone says of a path.
+pub(crate) enum Found<'a> {
+    /// A lent value.
+    Here(&'a Value),
+    /// Nothing.
+    Unknown,
+    /// What is below answers.
+    Below,
+}
+
+/// Returns the value that the members lead to from this one, if each is there; `None` says nothing.
+#[inline(always)]
+pub(crate) fn find<'a>(value: &'a Value, path: &[Member]) -> Option<&'a Value>
+    ensures { IsFound (walk (map member_of path.now) (view value.now)) result }
+{
+    let mut here = value;
+    for member in path {
+        match reach(here, member) {
+            Some(Some(found)) => here = found,
+            Some(None) => return None,
+            None => return None,
+        }
+    }
+    Some(here)
+}
+
+/// The same from a value that a name is bound to.
+#[inline(always)]
+pub(crate) fn find_bound<'a>(value: &ValueCow<'a>, path: &[Member]) -> Found<'a>
+    ensures { TellsLent (as_some (walk (map member_of path.now) (cow_view value.now))) result }
+{
+    match value {
+        ValueCow::Borrowed(start) => match find(*start, path) {
+            Some(end) => Found::Here(end),
+            None => Found::Unknown,
+        },
+        ValueCow::Owned(_) => Found::Unknown,
+    }
+}
+
+/// The same from a context, by the path's first member and its others; `None` says nothing.
+#[inline(always)]
+pub(crate) fn find_in_context<'a>(
+    value: &'a Value,
+    first: &Member,
+    rest: &[Member],
+) -> Option<&'a Value>
+    ensures { WalksTo (member_of first.now) (map member_of rest.now) (view value.now) result }
+{
+    match reach(value, first) {
+        Some(Some(found)) => find(found, rest),
+        _ => None,
     }
 }
 

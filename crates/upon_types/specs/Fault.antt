@@ -1,4 +1,4 @@
--- A fault: its kind, the template's name, what is wrong, where, and the picture of that offset.
+-- A fault: its kind, the template's name, what is wrong, where, and the picture of that span.
 use Rattle.std.specs.Prelude.{◌≡◌, ◌⊎◌, ℕ, List, ◌++◌, Option, Some, None, option_map, codes}
 use Rattle.upon_types.specs.Picture.{Picture, picture}
 use Rattle.upon_types.specs.declared.types.Span.{Span}
@@ -30,7 +30,7 @@ bare_fault kind reason at = record { kind = kind; name = None; reason = reason; 
 abbrev pub fault_with_picture : List ℕ → Fault → Fault
 fault_with_picture source fault = record fault { picture = option_map (picture source) fault.span }
 
--- a fault without a name, at an offset in a source, if they are given
+-- a fault without a name, at a span of a source, if they are given
 abbrev pub fault_at : Kind → Option (List ℕ) → Option (List ℕ × Span) → Fault
 fault_at kind reason None = bare_fault kind reason None
 fault_at kind reason (Some at) = fault_with_picture at.0 (bare_fault kind reason (Some at.1))

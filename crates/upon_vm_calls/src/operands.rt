@@ -43,14 +43,11 @@ impl<'a> Operands<'a> {
     pub fn push(&mut self, value: ValueCow<'a>, span: Span) -> Result<(), AllocError>
         ensures { OnOk result (operands_of self.new ≡ operand (cow_view value.entry) span ∷ operands_of self.old) }
     {
-        self.spans.push(span)?;
-        match self.values.push(value) {
-            Ok(()) => Ok(()),
-            Err(error) => {
-                let _ = self.spans.pop();
-                Err(error.into())
-            }
-        }
+        self.spans.reserve(1)?;
+        self.values.reserve(1)?;
+        self.spans.push_reserved(span);
+        self.values.push_reserved(value);
+        Ok(())
     }
 
     /// Removes the operand on top, and returns it.
