@@ -39,7 +39,7 @@ pub fn escaped_page(engine: &Engine<'_>, source: &str, value: &Value) -> Result<
 
 /// Returns the text of a page on a value by an engine with any formatters, all of whose texts are escaped.
 pub fn safe_page(engine: &Engine<'_>, source: &str, value: &Value) -> Result<String>
-    ensures { let texts = ⟦<AnyEngine as EngineTexts>⟧.texts engine.now in
+    ensures markup { let texts = ⟦<AnyEngine as EngineTexts>⟧.texts engine.now in
         (tree : Statements) (table : Table) → HasTree texts.syntax source.now tree → IsTable texts.texts table
         → MarkupIsRaw (escaping_all texts) table None source.now tree (view value.now) result }
 {

@@ -1,9 +1,9 @@
 -- The faults with which a rendering ends, except that includes are nested too deep: kinds and reasons, and the span of
 -- each.
-use Rattle.std.specs.Prelude.{◌≡◌, ℕ, List, [], ◌∷◌, ◌++◌, Option, Some, codes}
+use Rattle.std.specs.Prelude.{◌≡◌, ℕ, List, [], ◌∷◌, ◌++◌, Option, Some, None, slice_get, codes}
 use Rattle.std.specs.Fmt.{decimal}
 use Rattle.upon_types.specs.declared.types.Span.{Span}
-use Rattle.upon_types.specs.Answers.{declines, refused, Function, Formatter, formatter}
+use Rattle.upon_types.specs.Answers.{Misfit, wrong_argument, declines, refused, Function, Formatter, formatter}
 use Rattle.upon_types.specs.Answers.{function as of_function}
 use Rattle.upon_types.specs.Fault.{Kind, render, function, format, Fault}
 use Rattle.upon_types.specs.Picture.{picture}
@@ -13,7 +13,7 @@ use Rattle.upon_render.specs.Source.{says, refuses, ValueMember}
 use Rattle.upon_meaning_spec.specs.Alone.{running}
 use Rattle.upon_meaning_spec.specs.CallFaults.{number_text}
 use Rattle.upon_meaning_spec.specs.Engine.{Template, Calls, Resolver}
-use Rattle.upon_meaning_spec.specs.Evaluation.{Operand}
+use Rattle.upon_meaning_spec.specs.Evaluation.{Operand, values_of}
 use Rattle.upon_meaning_spec.specs.Meaning.{RunningTemplate}
 use Rattle.upon_meaning_spec.specs.Outcome.{End, good, fails, too_deep}
 
@@ -61,7 +61,9 @@ pub data IsStated {V T : Type 0} (calls : Calls V) (resolve : Resolver T) : Kind
   declined : (name : List ℕ) (f : Function) (values : List Val) (text : List ℕ)
       → calls.callables name ≡ Some (of_function f) → f values ≡ declines text
       → IsStated calls resolve function (Some text)
-  no_argument : IsStated calls resolve function (Some [])
+  no_argument : (name : List ℕ) (f : Function) (given : List Operand) (i : ℕ) (misfit : Misfit)
+      → calls.callables name ≡ Some (of_function f) → f (values_of given) ≡ wrong_argument i misfit
+      → slice_get given i ≡ None → IsStated calls resolve function (Some [])
   -- a formatter refuses, of a name or the default one, which refuses a list with `expression evaluated to
   -- unformattable type list`, and a map alike
   formatter_refused : (name : List ℕ) (f : Formatter) (v : Val) (message : Option (List ℕ))

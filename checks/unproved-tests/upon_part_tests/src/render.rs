@@ -2,3 +2,4 @@
 pub mod frames;
 pub mod sources;
 pub mod stack;
+pub mod values;

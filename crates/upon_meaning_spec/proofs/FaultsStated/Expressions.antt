@@ -36,15 +36,15 @@ module _ {V T : Type 0} (calls : Calls V) (resolve : Resolver T) (P : Span → T
   given_at (o ∷ given) zero h = h.0
   given_at (o ∷ given) (suc i) h = given_at given i h.1
 
-  misfit_fine : (name : Ident) (misfit : Misfit) (o : Option Operand) (whole : Span) → Given o → P whole → IsFine calls resolve P (misfit_at name misfit o whole)
-  misfit_fine name (of_type word) (Some o) whole h k = wrong_fine calls resolve P _ o.span (wrong_type name.text word o.value) h
-  misfit_fine name (of_range word) (Some o) whole h k = wrong_fine calls resolve P _ o.span (out_of_range name.text word o.value) h
-  misfit_fine name misfit None whole h k = record { stated = no_argument; span = whole; placed = refl; lies = k }
+  misfit_fine : (name : Ident) (f : List Val → Answer) (given : List Operand) (i : ℕ) (misfit : Misfit) (o : Option Operand) (whole : Span) → calls.callables name.text ≡ Some (function f) → f (values_of given) ≡ wrong_argument i misfit → slice_get given i ≡ o → Given o → P whole → IsFine calls resolve P (misfit_at name misfit o whole)
+  misfit_fine name f given i (of_type word) (Some o) whole is e at h k = wrong_fine calls resolve P _ o.span (wrong_type name.text word o.value) h
+  misfit_fine name f given i (of_range word) (Some o) whole is e at h k = wrong_fine calls resolve P _ o.span (out_of_range name.text word o.value) h
+  misfit_fine name f given i misfit None whole is e at h k = record { stated = no_argument name.text f given i misfit is e at; span = whole; placed = refl; lies = k }
 
   pub answered_fine : (name : Ident) (whole : Span) (given : List Operand) (f : List Val → Answer) (a : Answer) → calls.callables name.text ≡ Some (function f) → f (values_of given) ≡ a → EachSpan P given → P whole → Fine Any (answer_value name whole given a)
   answered_fine name whole given f (gives v) is e h k = tt
   answered_fine name whole given f (wrong_number n) is e h k = wrong_fine calls resolve P _ whole (function_expects n (length given)) k
-  answered_fine name whole given f (wrong_argument i misfit) is e h k = misfit_fine name misfit (slice_get given i) whole (given_at given i h) k
+  answered_fine name whole given f (wrong_argument i misfit) is e h k = misfit_fine name f given i misfit (slice_get given i) whole is e refl (given_at given i h) k
   answered_fine name whole given f (declines text) is e h k = record { stated = declined name.text f (values_of given) text is e; span = whole; placed = refl; lies = k }
 
   called_by : (name : Ident) (whole : Span) (given : List Operand) (callable : Option Callable) → calls.callables name.text ≡ callable → EachSpan P given → P name.span → P whole → Fine Any (call_value name whole given callable)

@@ -72,7 +72,7 @@ module _ {V T : Type 0} (calls : Calls V) (resolve : Resolver T) (source_says : 
   no_unknown kind reason (wrong_type name word v) k e = another reason refl e
   no_unknown kind reason (out_of_range name word v) k e = another reason refl e
   no_unknown kind reason (declined name f values text a b) k e = absurd (cc)
-  no_unknown kind reason no_argument k e = absurd (cc)
+  no_unknown kind reason (no_argument name f given i misfit a b c) k e = absurd (cc)
   no_unknown kind reason (formatter_refused name f v message a b) k e = absurd (cc)
   no_unknown kind reason (default_refused v message a) k e = absurd (cc)
   no_unknown kind reason (template_refused q name text r) k e = templates_say q name text r

@@ -83,7 +83,8 @@ pub fn read_tokens(
         match read_token(source, lexer, before) {
             Err(ended) => return Ok(ended),
             Ok(found) => {
-                tokens.push(found)?;
+                tokens.reserve(1)?;
+                tokens.push_reserved(found);
                 before = Some(found);
             }
         }

@@ -136,7 +136,8 @@ impl<'a> TagParser<'a> {
         'values: loop {
             let (value, rest) = self.parse_base(left)?;
             let end = value.span().n;
-            values.push(value)?;
+            values.reserve(1)?;
+            values.push_reserved(value);
             match take(Token::Comma, rest) {
                 Some((_, next)) => left = next,
                 None => {

@@ -40,7 +40,8 @@ impl<'a> TagParser<'a> {
                 return Ok((BaseExpr::List(ast::List { items, span }), rest));
             }
             let (item, rest) = self.parse_base(left)?;
-            items.push(item)?;
+            items.reserve(1)?;
+            items.push_reserved(item);
             match take(Token::Comma, rest) {
                 Some((_, next)) => left = next,
                 None => {
@@ -78,7 +79,8 @@ impl<'a> TagParser<'a> {
                 return Ok((BaseExpr::Map(ast::Map { items, span }), rest));
             }
             let (item, rest) = self.parse_item(left)?;
-            items.push(item)?;
+            items.reserve(1)?;
+            items.push_reserved(item);
             match take(Token::Comma, rest) {
                 Some((_, next)) => left = next,
                 None => {
