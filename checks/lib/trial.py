@@ -158,7 +158,7 @@ def judged(edit, goals):
     if all(it.is_of_names() for it in goals):
         return Result(True, f"refused, but only as a proof names what it takes away: {shown}", names)
     if not edit.refused:
-        return Result(True, f"refused for {shown}, and it names no goal", names)
+        return Result(False, f"refused for {shown}, and it names no goal", names)
     if not any(it.is_named(edit.refused) for it in goals):
         return Result(False, f"refused for {shown}, and not for {edit.refused}", names)
     return Result(True, f"refused for {edit.refused}", names)

@@ -162,7 +162,7 @@ tag_row s lexemes = symbols_of s (tag_tokens lexemes)
 abbrev pub lexeme_at : Token → Bool → ℕ → ℕ → Lexeme
 lexeme_at t hyphen m n = record { token = t; hyphen = hyphen; span = span_of m n }
 
--- a token is where the tag's row wants another
+-- a token is where the tag wants another
 pub record UnexpectedToken (delimiters : List DelimiterText) (s : List ℕ) (p : ℕ) (span : Span) (reason : List ℕ)
     : Type 0 where
   pub lexemes : List Lexeme

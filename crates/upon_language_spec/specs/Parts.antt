@@ -151,14 +151,14 @@ abbrev pub after : List Part → Token → Key → Option (List Part)
 after [] t k = None
 after (part ∷ parts) t k = left_of (goes part t k) (is_optional part) parts (after parts t k)
 
--- the same for a symbol of a row
+-- the same for a symbol
 abbrev pub after_symbol : List Part → Symbol → Option (List Part)
 after_symbol parts x = after parts x.token (key_of x.word)
 
--- the row leads from these parts to those: each symbol may be where it does
+-- the symbols lead from these parts to those: each may be where it does
 abbrev pub Path : List Part → List Symbol → List Part → Type 0
 Path parts [] to = parts ≡ to
-Path parts (x ∷ row) to = (next : List Part) × (after_symbol parts x ≡ Some next) × Path next row to
+Path parts (x ∷ symbols) to = (next : List Part) × (after_symbol parts x ≡ Some next) × Path next symbols to
 
 -- the word that the part wants; an optional one wants a word only after a filter's name
 abbrev pub own : Part → Option Wanted

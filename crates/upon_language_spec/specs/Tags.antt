@@ -1,4 +1,4 @@
--- Tags as rows of tokens: what begins a tag, whatever it may go on with.
+-- Tags as sequences of tokens: what begins a tag, whatever it may go on with.
 use Rattle.std.specs.Prelude.{◌≡◌, ℕ, ◌≤◌, List, [], ◌++◌, length, map, Bool, codes}
 use Rattle.upon_types.specs.declared.types.Span.{Span}
 use Rattle.upon_types.specs.declared.types.token.Token.{Token}
@@ -43,7 +43,7 @@ symbol_of s l = record { token = l.token; word = word_of s l.token l.span }
 abbrev pub symbols_of : List ℕ → List Lexeme → List Symbol
 symbols_of s ls = map (symbol_of s) ls
 
--- a row of symbols begins a tag, if some text has a tag that begins with this row
+-- the symbols begin a tag, if some text has a tag that begins with them
 pub record BeginsTag (row : List Symbol) : Type 0 where
   pub text : List ℕ
   pub lexemes : List Lexeme

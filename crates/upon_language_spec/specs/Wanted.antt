@@ -65,11 +65,11 @@ shows a_name = plain_symbol Ident
 shows a_number = plain_symbol Number
 shows a_colon = plain_symbol Colon
 
--- this word may follow the row
+-- this word may follow the symbols
 abbrev pub MayFollow : List Symbol → Wanted → Type 0
 MayFollow row w = BeginsTag (row ++ shows w ∷ [])
 
--- after the row this word may be, and none of a lesser rank
+-- after the symbols this word may be, and none of a lesser rank
 pub record IsWanted (row : List Symbol) (w : Wanted) : Type 0 where
   pub may_follow : MayFollow row w
   pub least : (v : Wanted) → rank v < rank w → MayFollow row v → ⊥

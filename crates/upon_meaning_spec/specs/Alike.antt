@@ -113,7 +113,7 @@ abbrev mutual
   OthersAlike s s' (otherwise a) no_else = IsEmpty a
   OthersAlike s s' (otherwise a) (otherwise b) = StatementsAlike s s' a b
 
-  -- two rows of statements, each under its own text
+  -- two sequences of statements, each under its own text
   pub StatementsAlike : List ℕ → List ℕ → Statements → Statements → Type 0
   StatementsAlike s s' no_statements no_statements = Unit {0}
   StatementsAlike s s' (statement_then t ts) (statement_then u us) =

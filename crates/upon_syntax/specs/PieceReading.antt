@@ -40,7 +40,7 @@ pieces_state reader = lexer_state reader.lexer
 abbrev pub pieces_blocks : PieceReader → List OpenBlock
 pieces_blocks reader = stack_of reader.blocks
 
--- a row of pieces
+-- pieces, one after the other
 abbrev pub Pieces : Type 0
 Pieces = List Piece
 

@@ -1,4 +1,4 @@
--- A template as a row of pieces: raw parts and whole tags, one after the other.
+-- A template as a sequence of pieces: raw parts and whole tags, one after the other.
 use Rattle.std.specs.Prelude.{◌≡◌, ℕ, List, [], ◌∷◌, Bool, true, false, Option, Some, None, map}
 use Rattle.upon_types.specs.declared.types.Span.{Span}
 use Rattle.upon_types.specs.Expression.{Expression}
