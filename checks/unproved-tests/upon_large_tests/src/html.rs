@@ -5,6 +5,7 @@ use std::process::Abort;
 use std::test::Fail;
 use upon::fmt::DefaultFormat;
 use upon::{Engine, Value};
+use upon_html::formatters::Verbatim;
 use upon_html::pages;
 
 // A text many times over.
@@ -44,6 +45,24 @@ fn large_texts_of_formatters(rt: HostRuntime) -> Result<(), Fail> {
     for _ in 0..13 {
         times = times.wrapping_mul(2);
         is_escaped(&rt, rt.alloc(), "{{ x | plain }}", times)?;
+    }
+    Ok(())
+}
+
+// What is markup already goes out as it is.
+#[test]
+fn large_texts_as_they_are(rt: HostRuntime) -> Result<(), Fail> {
+    let alloc = rt.alloc();
+    let mut engine = Engine::new(alloc);
+    engine.add_formatter(CowStr::Borrowed("verbatim"), Box::new(alloc, Verbatim)?)?;
+    let mut times = 1usize;
+    for _ in 0..13 {
+        times = times.wrapping_mul(2);
+        let text = many(alloc, "<", times)?;
+        let x = Value::from_text(alloc, text.as_str())?;
+        let context = Value::from_pairs(alloc, [(String::from_str(alloc, "x")?, x)])?;
+        let page = engine.render_text("{{ x | verbatim }}", &context)?;
+        assert!(&rt; page == text, "{page}");
     }
     Ok(())
 }
