@@ -1,10 +1,14 @@
 /* A library to preload: it refuses one growth of a process, or all from one on.
    REFUSE=N refuses the Nth call of malloc or realloc, counted from 1; with REFUSE_ON set also all after it.
-   COUNT=FILE writes to FILE how many calls there were. */
+   COUNT=FILE writes to FILE how many calls there were.
+   USED_UP=FILE refuses a call of half a tebibyte, by which a test asks whether memory can be used up (`Hoard` of
+   upon_callable_tests), and then all that does not fit in what was given back since, until the last large block before
+   it is given back. It writes to FILE how many calls that refused, the first one aside. */
 #define _GNU_SOURCE
 #include <dlfcn.h>
 #include <errno.h>
 #include <fcntl.h>
+#include <malloc.h>
 #include <stdio.h>
 #include <stdlib.h>
 #include <unistd.h>
@@ -13,6 +17,14 @@ static long calls, refused;
 static int all_after, ready;
 static void *(*next_malloc)(size_t);
 static void *(*next_realloc)(void *, size_t);
+static void (*next_free)(void *);
+
+#define ALL_OF_MEMORY ((size_t)1 << 39)
+#define LARGE ((size_t)1 << 20)
+static int may_be_used_up, is_used_up;
+static long used_up_calls;
+static size_t room;
+static void *large;
 
 static void prepare(void) {
     const char *number;
@@ -20,42 +32,84 @@ static void prepare(void) {
     ready = 1;
     next_malloc = dlsym(RTLD_NEXT, "malloc");
     next_realloc = dlsym(RTLD_NEXT, "realloc");
+    next_free = dlsym(RTLD_NEXT, "free");
     number = getenv("REFUSE");
     refused = number ? atol(number) : 0;
     all_after = getenv("REFUSE_ON") != NULL;
+    may_be_used_up = getenv("USED_UP") != NULL;
 }
 
-static int is_refused(void) {
+/* Whether this call is refused, which grows a block of so many bytes. */
+static int is_refused(size_t size, size_t had) {
     calls++;
+    if (may_be_used_up && size >= ALL_OF_MEMORY) {
+        if (is_used_up) used_up_calls++;
+        is_used_up = 1;
+        return 1;
+    }
+    if (is_used_up && size > room + had) {
+        used_up_calls++;
+        return 1;
+    }
     return refused && (calls == refused || (all_after && calls > refused));
+}
+
+/* Counts a block that was given, in place of one of so many bytes. */
+static void *given(void *block, size_t had) {
+    if (is_used_up) {
+        size_t has = malloc_usable_size(block);
+        room = room + had > has ? room + had - has : 0;
+    } else if (may_be_used_up && malloc_usable_size(block) >= LARGE) {
+        large = block;
+    }
+    return block;
 }
 
 void *malloc(size_t size) {
     prepare();
-    if (is_refused()) {
+    if (is_refused(size, 0)) {
         errno = ENOMEM;
         return NULL;
     }
-    return next_malloc(size);
+    return given(next_malloc(size), 0);
 }
 
 void *realloc(void *old, size_t size) {
+    size_t had;
     prepare();
-    if (is_refused()) {
+    had = malloc_usable_size(old);
+    if (is_refused(size, had)) {
         errno = ENOMEM;
         return NULL;
     }
-    return next_realloc(old, size);
+    return given(next_realloc(old, size), had);
 }
 
-__attribute__((destructor)) static void write_count(void) {
-    const char *name = getenv("COUNT");
+void free(void *block) {
+    prepare();
+    if (is_used_up && block && block == large) {
+        is_used_up = 0;
+        room = 0;
+    } else if (is_used_up) {
+        room += malloc_usable_size(block);
+    }
+    if (next_free) next_free(block);
+}
+
+/* Writes a number to the file that a variable names, if it is set. */
+static void write_number(const char *variable, long number) {
+    const char *name = getenv(variable);
     char text[32];
     int length, file;
     if (!name) return;
-    length = snprintf(text, sizeof text, "%ld\n", calls);
+    length = snprintf(text, sizeof text, "%ld\n", number);
     file = open(name, O_WRONLY | O_CREAT | O_TRUNC, 0600);
     if (file < 0) return;
     if (write(file, text, length) < 0) _exit(1);
     close(file);
+}
+
+__attribute__((destructor)) static void write_count(void) {
+    write_number("COUNT", calls);
+    write_number("USED_UP", used_up_calls);
 }

@@ -10,6 +10,7 @@ use std::test::Fail;
 use upon::fmt::{self, Format, Formatter};
 use upon::functions::{Call1, Call1S, Fn1, Fn1S};
 use upon::{Engine, Value};
+use upon_testing::answers::line_of;
 
 // Twice an integer. It counts its calls.
 #[derive(Drop)]
@@ -51,27 +52,113 @@ fn counted(alloc: Global, calls: &Rc<Cell<u32>>) -> Result<Box<CountedFormat>, A
     Ok(Box::new(alloc, format)?)
 }
 
+// How often the callables are called.
+#[derive(Drop)]
+struct Counts {
+    double: Rc<Cell<u32>>,
+    plain: Rc<Cell<u32>>,
+    default: Rc<Cell<u32>>,
+}
+
+impl Counts {
+    fn new(alloc: Global) -> Result<Counts, AllocError> {
+        Ok(Counts {
+            double: Rc::new(alloc, Cell::new(0))?,
+            plain: Rc::new(alloc, Cell::new(0))?,
+            default: Rc::new(alloc, Cell::new(0))?,
+        })
+    }
+
+    // An engine whose callables count there.
+    fn engine<'e>(&self, alloc: Global) -> Result<Engine<'e>, AllocError> {
+        let mut engine = Engine::new(alloc);
+        let double = Fn1::new(CountedDouble {
+            calls: self.double.clone()?,
+        });
+        engine.add_function(CowStr::Borrowed("double"), Box::new(alloc, double)?)?;
+        engine.add_formatter(CowStr::Borrowed("plain"), counted(alloc, &self.plain)?)?;
+        engine.set_default_formatter(counted(alloc, &self.default)?);
+        Ok(engine)
+    }
+}
+
+// What a source answers, alone or where all is escaped, and how often it calls the function `double`, the formatter
+// `plain` and the default one.
+fn calls(
+    alloc: Global,
+    source: &str,
+    is_escaped: bool,
+) -> Result<(String, u32, u32, u32), AllocError> {
+    let counts = Counts::new(alloc)?;
+    let engine = counts.engine(alloc)?;
+    let rendered = if is_escaped {
+        upon_html::pages::render_text(&engine, source, &Value::None)
+    } else {
+        engine.render_text(source, &Value::None)
+    };
+    let line = line_of(alloc, rendered)?;
+    let Counts {
+        double,
+        plain,
+        default,
+    } = &counts;
+    Ok((line, double.get(), plain.get(), default.get()))
+}
+
+const CALLS_FUNCTIONS: &str =
+    "{{ double(1) | double }}{% if double(1) %}{% else %}{{ double(1) }}{% endif %}";
+
 #[test]
-fn each_callable_is_called_once(rt: HostRuntime) -> Result<(), Fail> {
-    let alloc = rt.alloc();
-    let functions = Rc::new(alloc, Cell::new(0u32))?;
-    let formats = Rc::new(alloc, Cell::new(0u32))?;
-    let defaults = Rc::new(alloc, Cell::new(0u32))?;
-    let mut engine = Engine::new(alloc);
-    let double = Fn1::new(CountedDouble {
-        calls: functions.clone()?,
-    });
-    engine.add_function(CowStr::Borrowed("double"), Box::new(alloc, double)?)?;
-    engine.add_formatter(CowStr::Borrowed("plain"), counted(alloc, &formats)?)?;
-    engine.set_default_formatter(counted(alloc, &defaults)?);
-    let source =
-        "{{ double(1) | double }}{{ 3 | plain }}{% if false %}{{ double(1) }}{{ 1 | plain }}{% endif %}{{ 5 }}";
-    let template = engine.compile(CowStr::Borrowed(source))?;
-    let text = template.render_from(&engine, &Value::None).to_string()?;
-    assert_eq!(&rt; text.as_str(), "435");
-    assert_eq!(&rt; functions.get(), 2);
-    assert_eq!(&rt; formats.get(), 1);
-    assert_eq!(&rt; defaults.get(), 2);
+fn functions_are_called_once(rt: HostRuntime) -> Result<(), Fail> {
+    let (text, times, _, _) = calls(rt.alloc(), CALLS_FUNCTIONS, false)?;
+    assert!(&rt; text.as_str() == "4" && times == 3, "{text} {times}");
+    Ok(())
+}
+
+#[test]
+fn functions_are_called_once_on_pages(rt: HostRuntime) -> Result<(), Fail> {
+    let (text, times, _, _) = calls(rt.alloc(), CALLS_FUNCTIONS, true)?;
+    assert!(&rt; text.as_str() == "4" && times == 3, "{text} {times}");
+    Ok(())
+}
+
+const CALLS_FORMATTERS: &str = "{{ 3 | plain }}{% if false %}{{ 1 | plain }}{% endif %}";
+
+#[test]
+fn formatters_are_called_once(rt: HostRuntime) -> Result<(), Fail> {
+    let (text, _, times, others) = calls(rt.alloc(), CALLS_FORMATTERS, false)?;
+    assert!(&rt; text.as_str() == "3" && times == 1 && others == 0, "{text} {times}");
+    Ok(())
+}
+
+#[test]
+fn formatters_are_called_once_on_pages(rt: HostRuntime) -> Result<(), Fail> {
+    let (text, _, times, others) = calls(rt.alloc(), CALLS_FORMATTERS, true)?;
+    assert!(&rt; text.as_str() == "3" && times == 1 && others == 0, "{text} {times}");
+    Ok(())
+}
+
+#[test]
+fn formatters_of_more_values_are_not_called(rt: HostRuntime) -> Result<(), Fail> {
+    let (text, _, times, _) = calls(rt.alloc(), "{{ 3 | plain: 2 }}", false)?;
+    let wanted = "render error: formatter expects 1 argument, 2 provided at 7..12";
+    assert!(&rt; text.as_str() == wanted && times == 0, "{text} {times}");
+    Ok(())
+}
+
+const SHOWS: &str = "{{ 5 }}{{ 1 }}{% if 5 %}{% else %}{{ 5 }}{% endif %}";
+
+#[test]
+fn the_default_formatter_is_called_once(rt: HostRuntime) -> Result<(), Fail> {
+    let (text, _, others, times) = calls(rt.alloc(), SHOWS, false)?;
+    assert!(&rt; text.as_str() == "51" && times == 2 && others == 0, "{text} {times}");
+    Ok(())
+}
+
+#[test]
+fn the_default_formatter_is_called_once_on_pages(rt: HostRuntime) -> Result<(), Fail> {
+    let (text, _, others, times) = calls(rt.alloc(), SHOWS, true)?;
+    assert!(&rt; text.as_str() == "51" && times == 2 && others == 0, "{text} {times}");
     Ok(())
 }
 

@@ -3,6 +3,7 @@ use std::alloc::{AllocError, Global};
 use std::borrow::CowStr;
 use std::process::Abort;
 use std::test::Fail;
+use upon::error::ErrorKind;
 use upon::{Engine, Error, Value};
 use upon_testing::answers::{answer, describe};
 
@@ -105,6 +106,42 @@ fn faults_of_long_names(rt: HostRuntime) -> Result<(), Fail> {
             }
             _ => return Err(Fail::new("no fault")),
         }
+    }
+    Ok(())
+}
+
+// A fault may lie at the end of a text, which has no line of its own there.
+#[test]
+fn faults_at_the_end(rt: HostRuntime) -> Result<(), Fail> {
+    let alloc = rt.alloc();
+    let mut times = 1usize;
+    for _ in 0..14 {
+        times = times.wrapping_mul(2);
+        let end = times.wrapping_add(2);
+        let source = before(alloc, "x", times, "{{")?;
+        is_reported(
+            &rt,
+            alloc,
+            source.as_str(),
+            "invalid syntax: expected token, found EOF",
+            (end, end),
+        )?;
+    }
+    Ok(())
+}
+
+// An error that says its kind alone takes a name.
+#[test]
+fn names_of_bare_errors(rt: HostRuntime) -> Result<(), Fail> {
+    let alloc = rt.alloc();
+    let mut times = 1usize;
+    for _ in 0..12 {
+        times = times.wrapping_mul(2);
+        let name = before(alloc, "n", times, "")?;
+        let bare = Error::from_parts(alloc, ErrorKind::Function, None, None);
+        let line = describe(alloc, &bare.with_name(alloc, name.as_str()))?;
+        let wanted = format!(in alloc; "function error in {name}")?;
+        assert!(&rt; line == wanted, "{line}");
     }
     Ok(())
 }

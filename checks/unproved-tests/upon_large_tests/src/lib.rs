@@ -6,10 +6,20 @@ mod callables;
 #[cfg(test)]
 mod faults;
 #[cfg(test)]
+mod html;
+#[cfg(test)]
+mod json;
+#[cfg(test)]
 mod needs;
 #[cfg(test)]
 mod pages;
 #[cfg(test)]
 mod parts;
 #[cfg(test)]
+mod refusals;
+#[cfg(test)]
 mod sizes;
+#[cfg(test)]
+mod store;
+#[cfg(test)]
+mod writers;

@@ -32,3 +32,24 @@ fn a_ring(rt: HostRuntime) -> Result<(), Fail> {
     assert!(&rt; !needs.is_whole());
     Ok(())
 }
+
+// A name may be long: of the context, and of a template.
+#[test]
+fn long_names(rt: HostRuntime) -> Result<(), Fail> {
+    let alloc = rt.alloc();
+    let mut name = String::from_str(alloc, "n")?;
+    for _ in 0..12 {
+        let half = name.clone()?;
+        name.push_str(half.as_str())?;
+        let mut engine = Engine::new(alloc);
+        let source = format!(in alloc; "{{{{ {name} }}}}{{% include \"{name}\" %}}")?;
+        engine.add_template(CowStr::Owned(name.clone()?), CowStr::Owned(source))?;
+        let Some(needs) = engine.needs(name.as_str()) else {
+            return Err(Fail::new("there is such a template"));
+        };
+        let needs = needs?;
+        assert!(&rt; needs.names() == [name.as_str()].as_slice());
+        assert!(&rt; needs.templates() == [name.as_str()].as_slice());
+    }
+    Ok(())
+}

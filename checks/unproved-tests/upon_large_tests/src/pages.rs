@@ -50,25 +50,27 @@ impl<'r> TemplateSource<'r> for Pages<'r> {
 }
 
 // The text of a template on a context, with the templates of a function.
-fn with_pages(
-    engine: &Engine<'_>,
-    template: &Template<'_>,
-    context: &Value,
-    pages: Pages<'_>,
+fn with_pages<'r>(
+    engine: &'r Engine<'_>,
+    template: &'r Template<'_>,
+    context: &'r Value,
+    mut pages: Pages<'r>,
+    is_lent: bool,
 ) -> upon::Result<String> {
-    template
-        .render_from(engine, context)
-        .with_template_fn(pages)
-        .to_string()
+    let rendering = template.render_from(engine, context);
+    if is_lent {
+        rendering.with_template_fn(&mut pages).to_string()
+    } else {
+        rendering.with_template_fn(pages).to_string()
+    }
 }
 
 // A source answers so, on John, and asks so often for a template.
 fn answers(
     rt: &impl Abort,
     alloc: Global,
-    source: &str,
-    wanted: &str,
-    times: u32,
+    (source, wanted, times): (&str, &str, u32),
+    is_lent: bool,
 ) -> Result<(), Fail> {
     let engine = Engine::new(alloc);
     let mut templates = BTreeMap::new(alloc);
@@ -87,38 +89,49 @@ fn answers(
     };
     let template = engine.compile(CowStr::Borrowed(source))?;
     let context = value! { in alloc; user: {name: "John Smith"} }?;
-    let line = line_of(alloc, with_pages(&engine, &template, &context, pages))?;
+    let line = line_of(alloc, with_pages(&engine, &template, &context, pages, is_lent))?;
     assert_eq!(rt; line.as_str(), wanted);
     assert_eq!(rt; asked.get(), times);
     Ok(())
 }
 
+// Sources, what they answer, and how often they ask.
+const ROWS: [(&str, &str, u32); 5] = [
+    (
+        "{% include \"hello\" %}\n{% include \"goodbye\" %}",
+        "Hello John Smith!\nGoodbye John Smith!",
+        2,
+    ),
+    (
+        "{% include \"x\" %}{% include \"hello\" %}",
+        "render error: template not found at 11..14",
+        1,
+    ),
+    (
+        "{% include \"memory\" %}{% include \"hello\" %}",
+        "out of memory",
+        1,
+    ),
+    ("{% if 0 %}{% include \"hello\" %}{% endif %}b", "b", 0),
+    (
+        "{% include \"hello\" with z %}",
+        "render error: not found in this scope at 24..25",
+        0,
+    ),
+];
+
 #[test]
 fn templates_of_a_function(rt: HostRuntime) -> Result<(), Fail> {
-    for (source, wanted, times) in [
-        (
-            "{% include \"hello\" %}\n{% include \"goodbye\" %}",
-            "Hello John Smith!\nGoodbye John Smith!",
-            2,
-        ),
-        (
-            "{% include \"x\" %}{% include \"hello\" %}",
-            "render error: template not found at 11..14",
-            1,
-        ),
-        (
-            "{% include \"memory\" %}{% include \"hello\" %}",
-            "out of memory",
-            1,
-        ),
-        ("{% if 0 %}{% include \"hello\" %}{% endif %}b", "b", 0),
-        (
-            "{% include \"hello\" with z %}",
-            "render error: not found in this scope at 24..25",
-            0,
-        ),
-    ] {
-        answers(&rt, rt.alloc(), source, wanted, times)?;
+    for row in ROWS {
+        answers(&rt, rt.alloc(), row, false)?;
+    }
+    Ok(())
+}
+
+#[test]
+fn templates_of_a_lent_function(rt: HostRuntime) -> Result<(), Fail> {
+    for row in ROWS {
+        answers(&rt, rt.alloc(), row, true)?;
     }
     Ok(())
 }

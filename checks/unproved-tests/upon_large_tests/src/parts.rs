@@ -41,6 +41,35 @@ fn long_names(rt: HostRuntime) -> Result<(), Fail> {
     Ok(())
 }
 
+// Each of these rows, with a long name in the place of `n`, is the text.
+fn with_long_names(alloc: Global, before: &str, between: &str, after: &str) -> Result<(), Fail> {
+    let mut times = 1usize;
+    for _ in 0..13 {
+        times = times.wrapping_mul(2);
+        let name = many(alloc, "n", times)?;
+        let source = format!(in alloc; "{before}{name}{between}{name}{after}")?;
+        all_answer(
+            alloc,
+            &Engine::new(alloc),
+            &Value::None,
+            &[(source.as_str(), "7")],
+        )?;
+    }
+    Ok(())
+}
+
+#[test]
+fn long_bindings(rt: HostRuntime) -> Result<(), Fail> {
+    with_long_names(rt.alloc(), "{% with 7 as ", " %}{{ ", " }}{% endwith %}")?;
+    with_long_names(rt.alloc(), "{% for ", " in [7] %}{{ ", " }}{% endfor %}")
+}
+
+#[test]
+fn long_keys(rt: HostRuntime) -> Result<(), Fail> {
+    let before = "{% with {\"";
+    with_long_names(rt.alloc(), before, "\": 7} as m %}{{ m.", " }}{% endwith %}")
+}
+
 #[test]
 fn long_paths(rt: HostRuntime) -> Result<(), Fail> {
     let alloc = rt.alloc();
@@ -140,6 +169,21 @@ fn large_lists(rt: HostRuntime) -> Result<(), Fail> {
         let context = one(alloc, "xs", to_value(alloc, &items)?)?;
         let text = line_of(alloc, template.render_from(&engine, &context).to_string())?;
         assert_eq!(&rt; text.len(), times.wrapping_mul(2));
+    }
+    Ok(())
+}
+
+// A list that serde writes has all of its items.
+#[test]
+fn lists_by_serde(rt: HostRuntime) -> Result<(), Fail> {
+    let alloc = rt.alloc();
+    let mut items = Vec::new(alloc);
+    for _ in 0..5_000u32 {
+        items.push(7u8)?;
+    }
+    match to_value(alloc, &items)? {
+        Value::List(values) => assert_eq!(&rt; values.len(), 5_000),
+        _ => return Err(Fail::new("no list")),
     }
     Ok(())
 }

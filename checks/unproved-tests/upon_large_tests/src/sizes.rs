@@ -4,6 +4,7 @@ use std::borrow::CowStr;
 use std::process::Abort;
 use std::test::Fail;
 use upon::{Engine, Value};
+use upon_testing::answers::line_of;
 
 // A text many times over.
 fn many(alloc: Global, part: &str, times: usize) -> Result<String, AllocError> {
@@ -136,4 +137,23 @@ fn large_values(rt: HostRuntime) -> Result<(), Fail> {
 fn a_value_of_a_mebibyte(rt: HostRuntime) -> Result<(), Fail> {
     let alloc = rt.alloc();
     is_long(&rt, alloc, literal(alloc, 1 << 20)?.as_str(), 1 << 20)
+}
+
+// How deep includes may be is said as it was set, whatever it is.
+#[test]
+fn limits_of_depth(rt: HostRuntime) -> Result<(), Fail> {
+    let alloc = rt.alloc();
+    for limit in [1usize, 64, 65, 150, 290] {
+        let mut engine = chain(alloc, 300)?;
+        engine.set_max_include_depth(limit);
+        let Some(rendered) = engine.render_template("t0", &Value::None) else {
+            return Err(Fail::new("no t0"));
+        };
+        let line = line_of(alloc, rendered)?;
+        let wanted = format!(in alloc;
+            "render error: reached maximum include depth ({limit})"
+        )?;
+        assert!(&rt; line == wanted, "{line}");
+    }
+    Ok(())
 }

@@ -94,3 +94,26 @@ fn refusals(rt: HostRuntime) -> Result<(), Fail> {
     }
     Ok(())
 }
+
+// Where a number lies that is no integer: the line and the column where it begins, however deep.
+#[test]
+fn places_of_numbers(rt: HostRuntime) -> Result<(), Fail> {
+    let alloc = rt.alloc();
+    for (json, wanted) in [
+        ("{\"a\": 1.5}", "line 1 column 7"),
+        ("{\"a\": [1,\n 2.5]}", "line 2 column 2"),
+        ("{\"a\": [[[[1e3]]]]}", "line 1 column 11"),
+        (
+            "{\"a\": {\"b\": [{\"c\": [\n[0, [1.5]]]}]}}",
+            "line 2 column 6",
+        ),
+    ] {
+        let Err(DataFault::Refused(error)) = context(alloc, Some(json), &[]) else {
+            return Err(Fail::new(format_args!("{json} is not refused")));
+        };
+        let line = format!(in alloc; "{error}")?;
+        let whole = format!(in alloc; "not an integer of 64 bits at {wanted}")?;
+        assert!(&rt; line == whole, "{line} of {json}");
+    }
+    Ok(())
+}

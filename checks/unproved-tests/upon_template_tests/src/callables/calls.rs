@@ -31,6 +31,14 @@ fn functions(rt: HostRuntime) -> Result<(), Fail> {
             "render error: function `low` expects u8 argument, but `300` is out of range at 3..6",
         ),
         (
+            "{{ -301 | low }}",
+            "render error: function `low` expects u8 argument, but `-301` is out of range at 3..7",
+        ),
+        (
+            "{% with {\"a\": 1} as m %}{{ m | double }}{% endwith %}",
+            "render error: function `double` expects i64 argument, found map at 27..28",
+        ),
+        (
             "{{ 1 | add: \"x\" }}",
             "render error: function `add` expects i64 argument, found string at 12..15",
         ),
@@ -59,6 +67,10 @@ fn formatters(rt: HostRuntime) -> Result<(), Fail> {
         (
             "{{ 1 | fmt: 2 }}",
             "render error: formatter expects 1 argument, 2 provided at 7..10",
+        ),
+        (
+            "{{ 1 | fmt: 2, 3, 4 }}",
+            "render error: formatter expects 1 argument, 4 provided at 7..10",
         ),
         ("{{ (1 | fmt) }}", "1"),
         (

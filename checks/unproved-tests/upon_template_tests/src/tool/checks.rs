@@ -7,13 +7,25 @@ use upon::Engine;
 use upon_tool::check::{check_file, check_text};
 use upon_tool::library::Library;
 
+// The places and the files that are said to be wrong, in their order.
+fn places(alloc: Global, said: &str) -> Result<String, AllocError> {
+    let mut places = String::new(alloc);
+    for line in said.lines() {
+        if line.starts_with("  --> ") || line.starts_with("upon-tool: ") {
+            places.push_str(line)?;
+            places.push_str(";")?;
+        }
+    }
+    Ok(places)
+}
+
 // What is said of a text, or `right`.
 fn said_of_text(alloc: Global, engine: &Engine<'_>, source: &str) -> Result<String, AllocError> {
     let mut err = Vec::new(alloc);
     if check_text(alloc, engine, "own", CowStr::Borrowed(source), &mut err)? {
         return String::from_str(alloc, "right");
     }
-    String::from_utf8_lossy(alloc, err.as_slice())
+    places(alloc, String::from_utf8_lossy(alloc, err.as_slice())?.as_str())
 }
 
 // What is said of a file, or `right`.
@@ -27,7 +39,7 @@ fn said_of_file(
     if check_file(alloc, engine, library, name, &mut err)? {
         return String::from_str(alloc, "right");
     }
-    String::from_utf8_lossy(alloc, err.as_slice())
+    places(alloc, String::from_utf8_lossy(alloc, err.as_slice())?.as_str())
 }
 
 #[test]
@@ -38,17 +50,22 @@ fn texts(rt: HostRuntime) -> Result<(), Fail> {
     let _library = library(alloc, &mut engine, files.as_slice())?;
     for (source, wanted) in [
         ("{% include \"a\" %}{% include \"own\" %}", "right"),
-        ("{% if x %}{% include \"c\" %}{% endif %}", "--> own:1:22\n"),
+        (
+            "{% if x %}{% include \"c\" %}{% endif %}",
+            "  --> own:1:22;",
+        ),
         (
             "{% include \"a\" %}\n{% include \"b\" with x %}",
-            "--> own:2:12\n",
+            "  --> own:2:12;",
         ),
-        ("{{", "--> own:1:3\n"),
+        (
+            "{% include \"b\" %}{% include \"own\" %}\n{% include \"c\" %}{% include \"b\" %}",
+            "  --> own:1:12;  --> own:2:12;  --> own:2:29;",
+        ),
+        ("{{", "  --> own:1:3;"),
     ] {
         let said = said_of_text(alloc, &engine, source)?;
-        if !said.as_str().contains(wanted) {
-            return Err(Fail::new(format_args!("{said:?} without {wanted:?}")));
-        }
+        assert_eq!(&rt; said.as_str(), wanted, "of {source}");
     }
     Ok(())
 }
@@ -64,15 +81,13 @@ fn files(rt: HostRuntime) -> Result<(), Fail> {
     let mut engine = Engine::new(alloc);
     let library = library(alloc, &mut engine, files.as_slice())?;
     for (name, wanted) in [
-        ("a", "--> a:1:12\n"),
-        ("b", "upon-tool: b is not UTF-8\n"),
-        ("c", "--> c:1:29\n"),
-        ("unreadable", "upon-tool: cannot read unreadable\n"),
+        ("a", "  --> a:1:12;"),
+        ("b", "upon-tool: b is not UTF-8;"),
+        ("c", "  --> c:1:29;"),
+        ("unreadable", "upon-tool: cannot read unreadable;"),
     ] {
         let said = said_of_file(alloc, &engine, &library, name)?;
-        if !said.as_str().contains(wanted) {
-            return Err(Fail::new(format_args!("{said:?} without {wanted:?}")));
-        }
+        assert_eq!(&rt; said.as_str(), wanted, "of {name}");
     }
     Ok(())
 }

@@ -23,6 +23,8 @@ pub static WORKED: &[&str] = &[
     "{% with 1 as n %}{% include \"t\" %}{% endwith %}",
     "{% include \"t\" with 5 %}",
     "{% include \"t\" %}{% include \"t\" %}",
+    "{% include \"x\" %}",
+    "{% include \"x\" %}{{ a }}",
     "x{% include \"s\" %}",
     "x{% include \"s\" with 5 %}",
     "{{ 1 | fmt: 2 }}",
