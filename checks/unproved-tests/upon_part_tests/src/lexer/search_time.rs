@@ -83,3 +83,12 @@ fn few_bytes(rt: HostRuntime) -> Result<(), Fail> {
     builder.expr("<?", "?>").block("<#", "#>");
     takes_less(&rt, alloc, &Searcher::with_syntax(builder.build(alloc)?), 8)
 }
+
+// It takes twenty-five walks; if each offset were looked at in the trie, it would take a hundred and forty.
+#[test]
+fn marks(rt: HostRuntime) -> Result<(), Fail> {
+    let alloc = rt.alloc();
+    let mut builder = Syntax::builder();
+    builder.expr("echo(", ")").block("@[", "]");
+    takes_less(&rt, alloc, &Searcher::with_syntax(builder.build(alloc)?), 65)
+}
