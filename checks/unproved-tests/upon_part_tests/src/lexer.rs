@@ -2,6 +2,7 @@
 pub mod cutting;
 pub mod faults;
 pub mod search;
+pub mod search_time;
 pub mod syntax;
 pub mod tokens;
 pub mod trimming;
