@@ -6,6 +6,7 @@ pub mod compile;
 pub mod engine;
 pub mod laws_of_rendering;
 pub mod laws_of_templates;
+pub mod laws_of_values;
 pub mod needs;
 pub mod renderer;
 pub mod sources;
