@@ -1,5 +1,6 @@
 pub mod FrameRows
 pub mod Emissions
+pub mod Pairs
 pub mod Reported
 pub mod Asked
 pub mod Entered

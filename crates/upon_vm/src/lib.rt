@@ -10,3 +10,4 @@ pub mod run;
 pub mod source;
 mod step;
 mod steps;
+mod twice;

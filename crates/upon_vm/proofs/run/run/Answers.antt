@@ -5,7 +5,7 @@ use Rattle.upon_machine_spec.specs.Run.{steps}
 use Rattle.upon_vm.specs.Acts.{calls_of, stop_or_memory}
 use Rattle.upon_vm.specs.Machine.{state_of}
 use Rattle.upon_vm.proofs.Keeps.{kept_on}
-use Rattle.upon_vm.proofs.OnTheWay.{way_asks, way_ended, way_failed, way_first, way_frames, way_nearer, way_on, way_stop}
+use Rattle.upon_vm.proofs.OnTheWay.{way_asks, way_ended, way_failed, way_first, way_frames, way_nearer, way_not_stuck, way_on, way_stop}
 use Rattle.upon_vm.proofs.Fewer.{fewer}
 use Rattle.upon_vm.proofs.run.run.Goals as goal
 
@@ -42,6 +42,14 @@ pub step-requires : goal.step-requires
 step-requires g c κs =
     let h = c.steps.invariant.going c.requires.starts.0 c.requires.starts.1 in
     ((refl, tt), (h.running.lies.active, (h.unbounded, way_frames h)))
+
+pub end_of-requires : goal.end_of-requires
+end_of-requires g c =
+    let known = c.requires.starts.0 in
+    let h = c.steps.invariant.going known c.requires.starts.1 in
+    let did = c.in-Some.ensures.did known.values known.ask (way_asks h) in
+    let next = state_of g.V.ValueSource.value_state g.T.ProgramSource.template_state known.values c.step.new.machine in
+    way_not_stuck h c.in-Some.flow (g.W.Output.given c.step.new.out) next did
 
 pub stopped-requires : goal.stopped-requires
 stopped-requires g c =
