@@ -8,7 +8,7 @@ pub returns : goal.returns
 returns c c' =
     let given = two_seen _ _ _ c'.first-item.is c'.second-item.is c'.in-len2.len_at_least c'.in-len2.len_below in
     let seen = given ∙ ap (λ v. v ∷ cow_view c'.second-item.result ∷ []) (sym c'.deref.ensures)
-        ∙ ap (λ v. view c'.deref.result.now ∷ v ∷ []) (sym c'.deref-2.ensures) in
+    ∙ ap (λ v. view c'.deref.result.now ∷ v ∷ []) (sym c'.deref-2.ensures) in
     let all = of_two c.A.OwnedArgument.misfit c.B.OwnedArgument.misfit (c.C.Call2.meaning c'.args.self.now.callable)
-        _ _ _ _ _ _ _ _ seen c'.in_ok-first.ensures c'.in_ok-second.ensures c'.call.ensures c'.to_value.ensures in
+    _ _ _ _ _ _ _ _ seen c'.in_ok-first.ensures c'.in_ok-second.ensures c'.call.ensures c'.to_value.ensures in
     record { says = all.0; blames_given = all.1 }
