@@ -32,7 +32,7 @@ json_named None text = None
 json_named (Some name) None = None
 json_named (Some name) (Some text) = Some (string_bytes text)
 
--- one of the words can't be split, or memory was out
+-- the failure names one of the words, or memory was out
 abbrev pub IsNoPair : List (Bor (List ℕ)) → Failure → Type 0
 IsNoPair words (NoEquals word) = Contains words word
 IsNoPair words (Fault error) = IsMemory (Fault error)
