@@ -1,3 +1,4 @@
 pub mod Kept
+pub mod Outputs
 pub mod Sent
 pub mod Statuses

@@ -1,9 +1,15 @@
 -- What a rendering on a JSON object answers.
-use Rattle.std.specs.Prelude.{ℕ, List, Bool, true, false, Option, option_map, Result, Ok, Err}
+use Rattle.std.specs.Prelude.{◌≡◌, ℕ, List, Bool, true, false, Option, Some, option_map, Result, Ok, Err}
 use Rattle.std.specs.Borrow.{Bor}
+use Rattle.upon_types.specs.Tree.{Statements}
 use Rattle.upon_types.specs.Val.{Val}
 use Rattle.upon_types.specs.declared.error.Error.{Error}
-use Rattle.upon_json.specs.Context.{IsContext, IsRefusal}
+use Rattle.upon_language_spec.specs.Grammar.{HasTree}
+use Rattle.upon_engine.specs.Texts.{Stored, Texts}
+use Rattle.upon_engine.specs.Theorem.{Sends}
+use Rattle.upon_json.specs.Context.{set_pairs, IsContext, IsRefusal}
+use Rattle.upon_tool.specs.Status.{end_status}
+use Rattle.upon_tool.specs.declared.rendering.Page.{Page}
 use Rattle.upon_tool.specs.declared.failure.Failure.{Failure}
 use Rattle.upon_tool.specs.declared.failure.Failure.TheVariants.{NoEquals, InputTwice, Unreadable, NotText}
 use Rattle.upon_tool.specs.declared.failure.Failure.TheVariants.{Data, Unwritable, Fault}
@@ -24,16 +30,25 @@ is_of_data (Fault error) = false
 
 -- it is shown on the context
 abbrev pub Shows : Option (List ℕ) → List (List ℕ × Val) → (Val → Result (Unit {0}) Error → Type 0) → Type 0
-Shows json pairs Sends = (v : Val) × IsContext json pairs v × Sends v (Ok tt)
+Shows json pairs Sent = (v : Val) × IsContext json pairs v × Sent v (Ok tt)
 
 -- It is shown on the context; or that ends with a fault; or there is no context, or no memory for it.
 abbrev pub Renders : Option (List ℕ) → List (List ℕ × Val) → (Val → Result (Unit {0}) Error → Type 0)
     → Result (Unit {0}) Failure → Type 0
-Renders json pairs Sends (Ok u) = Shows json pairs Sends
-Renders json pairs Sends (Err (Fault e)) = (v : Val) × IsContext json pairs v × Sends v (Err e)
-Renders json pairs Sends (Err (Data name fault)) = IsRefusal json fault
-Renders json pairs Sends (Err (NoEquals word)) = ⊥
-Renders json pairs Sends (Err InputTwice) = ⊥
-Renders json pairs Sends (Err (Unreadable name)) = ⊥
-Renders json pairs Sends (Err (NotText name)) = ⊥
-Renders json pairs Sends (Err (Unwritable name error)) = ⊥
+Renders json pairs Sent (Ok u) = Shows json pairs Sent
+Renders json pairs Sent (Err (Fault e)) = (v : Val) × IsContext json pairs v × Sent v (Err e)
+Renders json pairs Sent (Err (Data name fault)) = IsRefusal json fault
+Renders json pairs Sent (Err (NoEquals word)) = ⊥
+Renders json pairs Sent (Err InputTwice) = ⊥
+Renders json pairs Sent (Err (Unreadable name)) = ⊥
+Renders json pairs Sent (Err (NotText name)) = ⊥
+Renders json pairs Sent (Err (Unwritable name error)) = ⊥
+
+-- A page is shown by an engine that holds these texts. If a text is held under its name, what its tree means was sent on
+-- the context, up to an end that has this status.
+abbrev pub ShowsPage : Texts → Page → ℕ → Option (List ℕ) → Option (List ℕ) → Type 0
+ShowsPage e page status old new = (held : Stored) (tree : Statements) → e.texts page.name.now ≡ Some held
+    → ∥ HasTree held.syntax held.text tree ∥₁
+    → (end : Result (Unit {0}) Failure) × (status ≡ end_status end)
+    × Renders (json_in page.json) (set_pairs page.set.now)
+    (λ v r. Sends e (Some page.name.now) held.text tree v r old new) end

@@ -1,5 +1,8 @@
 -- The statuses of the program.
-use Rattle.std.specs.Prelude.{ℕ}
+use Rattle.std.specs.Prelude.{◌≡◌, ℕ, Bool, true, false, Result, Ok, Err}
+use Rattle.upon_types.specs.Error.{fault_of}
+use Rattle.upon_types.specs.Fault.{Kind, syntax, serialize, render, function, format, io, memory, out_of_memory}
+use Rattle.upon_types.specs.declared.error.Error.{Error}
 use Rattle.upon_tool.specs.declared.failure.Failure.{Failure}
 use Rattle.upon_tool.specs.declared.failure.Failure.TheVariants.{NoEquals, InputTwice, Unreadable, NotText}
 use Rattle.upon_tool.specs.declared.failure.Failure.TheVariants.{Data, Unwritable, Fault}
@@ -13,3 +16,32 @@ status_of (NotText name) = 2
 status_of (Data name fault) = 1
 status_of (Unwritable name error) = 1
 status_of (Fault error) = 1
+
+-- memory was out
+abbrev pub IsMemory : Failure → Type 0
+IsMemory (NoEquals word) = ⊥
+IsMemory InputTwice = ⊥
+IsMemory (Unreadable name) = ⊥
+IsMemory (NotText name) = ⊥
+IsMemory (Data name fault) = ⊥
+IsMemory (Unwritable name error) = ⊥
+IsMemory (Fault error) = fault_of error ≡ out_of_memory
+
+-- the status by how the work ended: 0 if all went well
+abbrev pub end_status : Result (Unit {0}) Failure → ℕ
+end_status (Ok u) = 0
+end_status (Err failure) = status_of failure
+
+-- whether it is said that memory is out
+abbrev pub is_memory_kind : Kind → Bool
+is_memory_kind syntax = false
+is_memory_kind serialize = false
+is_memory_kind render = false
+is_memory_kind function = false
+is_memory_kind format = false
+is_memory_kind io = false
+is_memory_kind memory = true
+
+-- so of an error
+abbrev pub is_memory : Error → Bool
+is_memory error = is_memory_kind (fault_of error).kind

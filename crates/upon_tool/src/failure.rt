@@ -1,6 +1,6 @@
 // Why a run of the program fails, its status, and what is said of it.
 ghost use Rattle.std.specs.Prelude.{◌≡◌};
-ghost use Rattle.upon_tool.specs.Status.{status_of};
+ghost use Rattle.upon_tool.specs.Status.{is_memory, status_of, IsMemory};
 
 use std::alloc::{AllocError, AllocFailed, Global};
 use std::io::{self, Write};
@@ -38,7 +38,7 @@ impl<'a> From<Error> for Failure<'a> {
 }
 
 impl<'a> From<AllocError> for Failure<'a> {
-    ghost from_gives = { λ _ failure. status_of failure ≡ 1 };
+    ghost from_gives = { λ _ failure. IsMemory failure × (status_of failure ≡ 1) };
 
     fn from(error: AllocError) -> Failure<'a> {
         Failure::Fault(error.into())
@@ -46,7 +46,7 @@ impl<'a> From<AllocError> for Failure<'a> {
 }
 
 impl<'a, T: Drop> From<AllocFailed<T>> for Failure<'a> {
-    ghost from_gives = { λ _ failure. status_of failure ≡ 1 };
+    ghost from_gives = { λ _ failure. IsMemory failure × (status_of failure ≡ 1) };
 
     fn from(error: AllocFailed<T>) -> Failure<'a> {
         AllocError::from(error).into()
@@ -112,6 +112,21 @@ pub fn report_fault<E: Write>(alloc: Global, error: &Error, err: &mut E) {
         Ok(text) => writeln!(err, "{text}"),
         Err(_) => writeln!(err, "out of memory"),
     };
+}
+
+/// Returns whether an error says that memory is out.
+pub fn is_memory(error: &Error) -> bool
+    ensures { result ≡ is_memory error.now }
+{
+    match error.kind() {
+        ErrorKind::OutOfMemory => true,
+        ErrorKind::Syntax
+        | ErrorKind::Serialize
+        | ErrorKind::Render
+        | ErrorKind::Function
+        | ErrorKind::Format
+        | ErrorKind::Io(_) => false,
+    }
 }
 
 fn is_broken_pipe(error: &Error) -> bool {

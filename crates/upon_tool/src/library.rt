@@ -1,8 +1,11 @@
 // Templates by their names, with the files that are none.
+ghost use Rattle.std.specs.Prelude.{◌≡◌, ℕ, List, None, Some, IfOk, OnErr, option_map, false};
+ghost use Rattle.upon_tool.specs.Library.{has_name, refusal_of, read_refusal, IsOfAdded};
+
+use crate::failure::is_memory;
 use crate::includes::including;
 use std::alloc::{AllocError, Global};
 use std::collections::{BTreeMap, BTreeSet};
-use upon::error::ErrorKind;
 use upon::{Engine, Error};
 use upon_tool_io::files::ReadFault;
 
@@ -19,7 +22,10 @@ pub enum Refusal {
 
 impl Refusal {
     /// Returns why a file is no template that could not be read as text. It fails if there was no memory.
-    pub fn of_read(fault: ReadFault) -> Result<Refusal, AllocError> {
+    pub fn of_read(fault: ReadFault) -> Result<Refusal, AllocError>
+        ensures read { IfOk result (λ refusal. read_refusal fault ≡ Some refusal) }
+        ensures memory { OnErr result (read_refusal fault ≡ None) }
+    {
         match fault {
             ReadFault::NotText => Ok(Refusal::NotText),
             ReadFault::Unreadable => Ok(Refusal::Unreadable),
@@ -28,14 +34,17 @@ impl Refusal {
     }
 
     /// Returns why a text is no template, or `None` if an engine took it. It fails if there was no memory.
-    pub fn of_added(added: upon::Result<()>) -> Result<Option<Refusal>, AllocError> {
+    pub fn of_added(added: upon::Result<()>) -> Result<Option<Refusal>, AllocError>
+        ensures { IsOfAdded added result }
+    {
         let Err(error) = added else {
             return Ok(None);
         };
-        match error.kind() {
-            ErrorKind::OutOfMemory => Err(AllocError),
-            _ => Ok(Some(Refusal::Fault(error))),
+        if is_memory(&error) {
+            drop(error);
+            return Err(AllocError);
         }
+        Ok(Some(Refusal::Fault(error)))
     }
 }
 
@@ -49,7 +58,10 @@ pub struct Library {
 
 impl Library {
     /// Creates a library without files.
-    pub fn new(alloc: Global) -> Library {
+    pub fn new(alloc: Global) -> Library
+        ensures names { (name : List ℕ) → has_name result name ≡ false }
+        ensures refused { (name : List ℕ) → refusal_of result name ≡ None }
+    {
         Library {
             alloc,
             names: BTreeSet::new(alloc),
@@ -58,12 +70,16 @@ impl Library {
     }
 
     /// Returns the names of the files, in ascending order.
-    pub fn names(&self) -> &BTreeSet<String> {
+    pub fn names(&self) -> &BTreeSet<String>
+        ensures { result.now ≡ self.now.names }
+    {
         &self.names
     }
 
     /// Returns why the file of a name is no template, or `None` if it is one or is not there.
-    pub fn refusal(&self, name: &str) -> Option<&Refusal> {
+    pub fn refusal(&self, name: &str) -> Option<&Refusal>
+        ensures { option_map (λ refusal. refusal.now) result ≡ refusal_of self.now name.now }
+    {
         self.refused.get(name)
     }
 

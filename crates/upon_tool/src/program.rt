@@ -1,5 +1,9 @@
 // The program: from its words to its status.
-ghost use Rattle.std.specs.Prelude.{◌≤◌, IfOk};
+ghost use Rattle.std.specs.Prelude.{◌≡◌, ◌≤◌, IfErr, IfOk, IfSome};
+ghost use Rattle.upon_types.specs.Val.{text_val};
+ghost use Rattle.upon_json.specs.Context.{set_pairs};
+ghost use Rattle.upon_tool.specs.Rendering.{json_in};
+ghost use Rattle.upon_tool.specs.Words.{json_named, pair_of, split_words, IsNoPair};
 
 use crate::failure::{Failure, report};
 use crate::rendering::Page;
@@ -93,7 +97,9 @@ fn run_render<'a, R: Files + AllocGlobal + Clone + Drop, I: Read, O: Write, E: W
 }
 
 // A text that may be there, after its file's name.
-fn named<'a, 't>(name: Option<&'a str>, text: &'t Option<String>) -> Option<(&'a str, &'t str)> {
+fn named<'a, 't>(name: Option<&'a str>, text: &'t Option<String>) -> Option<(&'a str, &'t str)>
+    ensures { json_in result ≡ json_named name.entry text.now }
+{
     match (name, text) {
         (Some(name), Some(text)) => Some((name, text.as_str())),
         _ => None,
@@ -101,15 +107,25 @@ fn named<'a, 't>(name: Option<&'a str>, text: &'t Option<String>) -> Option<(&'a
 }
 
 // The words of `--set`, each split at its first `=`.
-fn pairs<'a>(alloc: Global, words: &[&'a str]) -> Result<Vec<(&'a str, &'a str)>, Failure<'a>> {
+fn pairs<'a>(alloc: Global, words: &[&'a str]) -> Result<Vec<(&'a str, &'a str)>, Failure<'a>>
+    ensures split { IfOk result (λ pairs. set_pairs pairs.items ≡ split_words words.now) }
+    ensures refused { IfErr result (IsNoPair words.now) }
+{
     let mut pairs = Vec::new(alloc);
     for word in words {
-        match word.split_once('=') {
-            Some(pair) => pairs.push(pair)?,
-            None => return Err(Failure::NoEquals(word)),
-        }
+        let Some(pair) = pair_of(word) else {
+            return Err(Failure::NoEquals(word));
+        };
+        pairs.push(pair)?;
     }
     Ok(pairs)
+}
+
+// The key and the text of a word: what is before its first `=`, and what is after it.
+fn pair_of<'a>(word: &'a str) -> Option<(&'a str, &'a str)>
+    ensures { IfSome result (λ pair. (pair.0.now, text_val pair.1.now) ≡ pair_of word.entry) }
+{
+    word.split_once('=')
 }
 
 // Checks, and answers the status.

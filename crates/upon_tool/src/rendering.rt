@@ -1,11 +1,11 @@
 // A template rendered on the value of JSON.
-ghost use Rattle.std.specs.Prelude.{◌≡◌, ◌≤◌, None, Some, IfErr, IsErr, OnOk, option_map, true};
+ghost use Rattle.std.specs.Prelude.{◌≡◌, ◌≤◌, None, Some, IfErr, IsErr, option_map, true};
 ghost use Rattle.upon_types.specs.Tree.{Statements};
 ghost use Rattle.upon_language_spec.specs.Grammar.{HasTree};
 ghost use Rattle.upon_engine.specs.Texts.{Stored};
 ghost use Rattle.upon_engine.specs.Theorem.{Sends};
 ghost use Rattle.upon_json.specs.Context.{set_pairs};
-ghost use Rattle.upon_tool.specs.Rendering.{json_in, is_of_data, Renders, Shows};
+ghost use Rattle.upon_tool.specs.Rendering.{json_in, is_of_data, Renders, Shows, ShowsPage};
 ghost use Rattle.upon_tool.specs.Status.{status_of};
 
 use crate::failure::{Failure, report, report_fault};
@@ -76,12 +76,12 @@ pub fn send<'a, O: io::Write>(
     page: &Page<'a, '_, '_>,
     out: &mut O,
 ) -> Result<(), Failure<'a>>
-    // If a text is held under the name, and all went well, the output has received what its tree means.
+    // If a text is held under the name, the output receives what its tree means on the value of the JSON.
     ensures means { let texts = ⟦<AnyEngine as EngineTexts>⟧.texts engine.now in
         (held : Stored) (tree : Statements) → texts.texts page.now.name.now ≡ Some held
         → ∥ HasTree held.syntax held.text tree ∥₁
-        → OnOk result (Shows (json_in page.now.json) (set_pairs page.now.set.now) (λ v r.
-        Sends texts (Some page.now.name.now) held.text tree v r (O.contents out.old) (O.contents out.new))) }
+        → Renders (json_in page.now.json) (set_pairs page.now.set.now) (λ v r.
+        Sends texts (Some page.now.name.now) held.text tree v r (O.contents out.old) (O.contents out.new)) result }
     // If none is, there is an error.
     ensures absent { let texts = ⟦<AnyEngine as EngineTexts>⟧.texts engine.now in
         texts.texts page.now.name.now ≡ None → IsErr result }
@@ -103,7 +103,14 @@ pub fn show<O: io::Write, E: io::Write>(
     err: &mut E,
 ) -> u8
     ensures range { result ≤ 2 }
-    // If a text is held under the name, and the status is 0, the output has received what its tree means.
+    // If a text is held under the name, the output receives what its tree means, up to an end of this status.
+    ensures ends { ShowsPage
+        (⟦<AnyEngine as EngineTexts>⟧.texts engine.now)
+        page.now
+        result
+        (O.contents out.old)
+        (O.contents out.new) }
+    // So if the status is 0, it has received it whole.
     ensures means { let texts = ⟦<AnyEngine as EngineTexts>⟧.texts engine.now in
         (held : Stored) (tree : Statements) → texts.texts page.now.name.now ≡ Some held
         → ∥ HasTree held.syntax held.text tree ∥₁

@@ -1,4 +1,8 @@
 // The texts that a run reads: files by their names, standard input, and the files of a folder.
+ghost use Rattle.std.specs.Prelude.{◌≡◌, [], false, option_map, IfOk, IsNone, string_bytes};
+ghost use Rattle.upon_tool.specs.Sources.{IsTextAt, IsTextOf, Unread};
+ghost use Rattle.upon_tool.specs.Words.{is_standard};
+
 use crate::failure::Failure;
 use std::alloc::AllocError;
 use std::io::Read;
@@ -21,7 +25,9 @@ pub(crate) struct FolderFile {
 pub(crate) fn files_in<'a, R: Files + AllocGlobal + Clone + Drop>(
     rt: &R,
     folder: Option<&'a str>,
-) -> Result<Vec<FolderFile>, Failure<'a>> {
+) -> Result<Vec<FolderFile>, Failure<'a>>
+    ensures none { IsNone folder.entry → IfOk result (λ files. files.items ≡ []) }
+{
     let alloc = rt.alloc();
     let mut files = Vec::new(alloc);
     let Some(folder) = folder else {
@@ -41,7 +47,10 @@ pub(crate) fn text_at<'a, R: Files + AllocGlobal, I: Read>(
     rt: &R,
     name: Option<&'a str>,
     input: &mut I,
-) -> Result<Option<String>, Failure<'a>> {
+) -> Result<Option<String>, Failure<'a>>
+    ensures text { IfOk result
+        (λ text. IsTextAt name.entry (I.remaining input.old) (option_map string_bytes text)) }
+{
     match name {
         Some(name) => Ok(Some(text_of(rt, name, input)?)),
         None => Ok(None),
@@ -53,7 +62,12 @@ pub(crate) fn text_of<'a, R: Files + AllocGlobal, I: Read>(
     rt: &R,
     name: &'a str,
     input: &mut I,
-) -> Result<String, Failure<'a>> {
+) -> Result<String, Failure<'a>>
+    // The text of standard input is what it has left, if that is known.
+    ensures text { IfOk result (λ text. IsTextOf name.entry.now (I.remaining input.old) (string_bytes text)) }
+    // For a file the input is not read.
+    ensures kept { is_standard name.entry.now ≡ false → I.remaining input.new ≡ I.remaining input.old }
+{
     let alloc = rt.alloc();
     let read = if name == STANDARD {
         read_text(alloc, input)
@@ -64,7 +78,9 @@ pub(crate) fn text_of<'a, R: Files + AllocGlobal, I: Read>(
 }
 
 // Why a file of this name is not read.
-fn failure_of<'a>(name: &'a str, fault: ReadFault) -> Failure<'a> {
+fn failure_of<'a>(name: &'a str, fault: ReadFault) -> Failure<'a>
+    ensures { Unread name.entry fault result }
+{
     match fault {
         ReadFault::Unreadable => Failure::Unreadable(name),
         ReadFault::NotText => Failure::NotText(name),

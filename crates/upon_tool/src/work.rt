@@ -1,6 +1,8 @@
 // What is done with an engine that holds templates. The engine stays in one function: a function that takes `&mut
 // Engine` or returns an engine would have a contract that says nothing of what is behind its `dyn`.
-ghost use Rattle.std.specs.Prelude.{◌≤◌, IfOk};
+ghost use Rattle.std.specs.Prelude.{◌≡◌, ◌≤◌, IfOk, is_some, not, true};
+ghost use Rattle.upon_tool.specs.Rendering.{ShowsPage};
+ghost use Rattle.upon_tool.specs.Work.{to_standard};
 
 use crate::check::{check_file, check_text};
 use crate::failure::Failure;
@@ -12,7 +14,7 @@ use std::alloc::{AllocError, Global};
 use std::borrow::CowStr;
 use std::io::{BufWriter, Read, Write};
 use std::rt::Files;
-use upon::Engine;
+use upon::{AnyEngine, Engine, EngineTexts};
 use upon_html::formatters::{Escape, Verbatim};
 use upon_tool_io::output::Replacement;
 
@@ -88,16 +90,31 @@ fn run_page<R: Files + AllocGlobal, O: Write, E: Write>(
     out: &mut O,
     err: &mut E,
 ) -> u8
-    ensures { result ≤ 2 }
+    ensures range { result ≤ 2 }
+    ensures ends { to_standard path.entry ≡ true → ShowsPage
+        (⟦<AnyEngine as EngineTexts>⟧.texts engine.now)
+        page.now
+        result
+        (O.contents out.old)
+        (O.contents out.new) }
 {
     let alloc = rt.alloc();
-    let path = match path {
-        Some(path) if path != STANDARD => path,
-        _ => return show(alloc, engine, library, page, out, err),
+    let Some(path) = file_of(path) else {
+        return show(alloc, engine, library, page, out, err);
     };
     match write_file(rt, engine, page, path) {
         Ok(()) => 0,
         Err(failure) => explain(alloc, engine, library, &failure, err),
+    }
+}
+
+// The file of an output, if it is not standard output.
+fn file_of<'p>(path: Option<&'p str>) -> Option<&'p str>
+    ensures { is_some result ≡ not (to_standard path.entry) }
+{
+    match path {
+        Some(path) if path != STANDARD => Some(path),
+        _ => None,
     }
 }
 

@@ -1,0 +1,34 @@
+-- The files of a library, and why files are no templates.
+use Rattle.std.specs.Prelude.{◌≡◌, ℕ, List, Bool, true, false, Option, Some, None, Result, Ok, Err}
+use Rattle.std.specs.BTreeMap.{get_by_text}
+use Rattle.std.specs.BTreeSet.{contains_text}
+use Rattle.upon_types.specs.declared.error.Error.{Error}
+use Rattle.upon_tool_io.specs.declared.files.ReadFault.{ReadFault}
+use Rattle.upon_tool_io.specs.declared.files.ReadFault.TheVariants.{Unreadable as FileUnreadable, NotText as FileNotText, OutOfMemory}
+use Rattle.upon_tool.specs.Status.{is_memory}
+use Rattle.upon_tool.specs.declared.library.Library.{Library}
+use Rattle.upon_tool.specs.declared.library.Refusal.{Refusal}
+use Rattle.upon_tool.specs.declared.library.Refusal.TheVariants.{Unreadable, NotText, Fault}
+
+-- whether a file of this name is there
+abbrev pub has_name : Library → List ℕ → Bool
+has_name library name = contains_text library.names name
+
+-- why the file of a name is no template
+abbrev pub refusal_of : Library → List ℕ → Option Refusal
+refusal_of library name = get_by_text library.refused name
+
+-- why a file is no template that was not read; none if memory was out
+abbrev pub read_refusal : ReadFault → Option Refusal
+read_refusal FileUnreadable = Some Unreadable
+read_refusal FileNotText = Some NotText
+read_refusal OutOfMemory = None
+
+-- An engine took the text; or it is refused with the engine's error; or memory was out.
+abbrev pub IsOfAdded : {A E : Type 0} → Result A Error → Result (Option Refusal) E → Type 0
+IsOfAdded (Ok u) (Ok None) = Unit {0}
+IsOfAdded (Ok u) (Ok (Some refusal)) = ⊥
+IsOfAdded (Ok u) (Err failed) = ⊥
+IsOfAdded (Err error) (Ok None) = ⊥
+IsOfAdded (Err error) (Ok (Some refusal)) = (refusal ≡ Fault error) × (is_memory error ≡ false)
+IsOfAdded (Err error) (Err failed) = is_memory error ≡ true
