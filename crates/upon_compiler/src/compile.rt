@@ -51,8 +51,7 @@ impl Compiler {
     fn push(&mut self, instr: Instr) -> Result<(), AllocError>
         ensures { OnOk result (code_of self.new ≡ code_of self.old ++ instr_of instr ∷ []) }
     {
-        self.instrs.reserve(1)?;
-        self.instrs.push_reserved(instr);
+        self.instrs.push(instr)?;
         Ok(())
     }
 

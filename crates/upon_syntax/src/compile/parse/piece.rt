@@ -5,7 +5,7 @@ ghost use Rattle.upon_syntax.specs.Pieces.{pieces_of, LeaveOpen};
 ghost use Rattle.upon_syntax.specs.TagReading.{HasPieces, IsSyntaxError};
 
 use crate::compile::parse::piece_reader::{Next, PieceReader};
-use std::alloc::Global;
+use std::alloc::{AllocError, Global};
 use upon_lexer::compile::search::Searcher;
 use upon_tag_parser::compile::parse::tag::Tag;
 use upon_types::error::Result;
@@ -36,8 +36,7 @@ pub fn read_pieces(alloc: Global, searcher: &Searcher, source: &str) -> Result<V
     'pieces: loop {
         match reader.next()? {
             Next::OnePiece(piece) => {
-                pieces.reserve(1)?;
-                pieces.push_reserved(piece);
+                pieces.push(piece).map_err(AllocError::from)?;
             }
             Next::Comment => {}
             Next::End => return Ok(pieces),

@@ -83,8 +83,7 @@ pub fn read_tokens(
         match read_token(source, lexer, before) {
             Err(ended) => return Ok(ended),
             Ok(found) => {
-                tokens.reserve(1)?;
-                tokens.push_reserved(found);
+                tokens.push(found)?;
                 before = Some(found);
             }
         }

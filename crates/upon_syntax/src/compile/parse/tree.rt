@@ -151,8 +151,7 @@ impl TreeBuilder {
     fn push(mut self, stmt: Stmt) -> Result<TreeBuilder, AllocError>
         ensures { IfOk result (Pushes stmt self) }
     {
-        self.stmts.reserve(1)?;
-        self.stmts.push_reserved(stmt);
+        self.stmts.push(stmt)?;
         Ok(self)
     }
 
@@ -165,8 +164,7 @@ impl TreeBuilder {
             stmts,
             mut blocks,
         } = self;
-        blocks.reserve(1)?;
-        blocks.push_reserved(EndedBlock { end, after: stmts });
+        blocks.push(EndedBlock { end, after: stmts })?;
         Ok(TreeBuilder {
             alloc,
             stmts: Vec::new(alloc),
@@ -260,8 +258,7 @@ fn in_order(mut stmts: Vec<Stmt>) -> Scope
 fn only(alloc: Global, stmt: Stmt) -> Result<Scope, AllocError>
     ensures { IfOk result (λ scope. scope_of scope ≡ statement_then (statement_of stmt) no_statements) }
 {
-    let mut stmts = Vec::with_capacity(alloc, 1)?;
-    stmts.reserve(1)?;
-    stmts.push_reserved(stmt);
+    let mut stmts = Vec::new(alloc);
+    stmts.push(stmt)?;
     Ok(Scope { stmts })
 }

@@ -136,8 +136,7 @@ impl<'a> TagParser<'a> {
         'values: loop {
             let (value, rest) = self.parse_base(left)?;
             let end = value.span().n;
-            values.reserve(1)?;
-            values.push_reserved(value);
+            values.push(value)?;
             match take(Token::Comma, rest) {
                 Some((_, next)) => left = next,
                 None => {

@@ -40,8 +40,7 @@ impl<'a> TagParser<'a> {
                 return Ok((BaseExpr::List(ast::List { items, span }), rest));
             }
             let (item, rest) = self.parse_base(left)?;
-            items.reserve(1)?;
-            items.push_reserved(item);
+            items.push(item)?;
             match take(Token::Comma, rest) {
                 Some((_, next)) => left = next,
                 None => {
@@ -79,8 +78,7 @@ impl<'a> TagParser<'a> {
                 return Ok((BaseExpr::Map(ast::Map { items, span }), rest));
             }
             let (item, rest) = self.parse_item(left)?;
-            items.reserve(1)?;
-            items.push_reserved(item);
+            items.push(item)?;
             match take(Token::Comma, rest) {
                 Some((_, next)) => left = next,
                 None => {

@@ -112,17 +112,6 @@ pub fn take_op(tokens: &[Lexed]) -> Option<((AccessOp, Span), &[Lexed])>
     }
 }
 
-// How many members seem to come, each of two tokens: room is made for so many.
-fn members_ahead(tokens: &[Lexed]) -> usize {
-    for (index, lexed) in tokens.iter().enumerate() {
-        let is_operator = matches!(lexed.token, Token::Dot | Token::QuestionDot);
-        if index % 2 == 0 && !is_operator {
-            return index / 2;
-        }
-    }
-    tokens.len() / 2
-}
-
 /// Reads the tokens of a tag of a text.
 #[derive(Clone, Copy)]
 pub struct TagParser<'a> {
@@ -237,18 +226,15 @@ impl<'a> TagParser<'a> {
         ensures stuck { IfStuck result (λ want left. (from parts : List Part) → TakesOp from parts
             → IsStuck self.now.source.now from tokens.now want left) }
     {
-        let room = members_ahead(tokens).saturating_add(1);
-        let mut path = Vec::with_capacity(self.alloc, room)?;
-        path.reserve(1)?;
-        path.push_reserved(first);
+        let mut path = Vec::new(self.alloc);
+        path.push(first)?;
         let mut left = tokens;
         'members: loop {
             match take_op(left) {
                 None => return Ok((Var { path }, left)),
                 Some(((op, at), rest)) => {
                     let (member, rest) = self.parse_member(op, at, rest)?;
-                    path.reserve(1)?;
-                    path.push_reserved(member);
+                    path.push(member)?;
                     left = rest;
                 }
             }

@@ -7,22 +7,22 @@ use Rattle.upon_syntax.specs.TagReading.{HasPieces}
 use Rattle.upon_syntax.proofs.NextTokens.{over}
 use Rattle.upon_syntax.proofs.compile.parse.piece.read_pieces.Goals as goal
 
-pub pieces-smaller-in-OnePiece : goal.pieces-smaller-in-OnePiece
-pieces-smaller-in-OnePiece c =
+pub pieces-smaller-in-Continue-branch-3 : goal.pieces-smaller-in-Continue-branch-3
+pieces-smaller-in-Continue-branch-3 c =
     let on = rw c.in-OnePiece.is at c.in_ok-piece.ensures.found (pieces_of c.pieces.pieces.items) c.pieces.invariant.so_far in
     let same : length (pieces_text c.next.new.self) ≡ length (pieces_text c.pieces.reader) = ap (λ (s : List ℕ). length s) c.in_ok-piece.ensures.text in
     omega (arith, same, on.further, on.within)
 
-pub pieces-preserved-in-OnePiece : goal.pieces-preserved-in-OnePiece
-pieces-preserved-in-OnePiece c =
+pub pieces-preserved-in-Continue-branch-3 : goal.pieces-preserved-in-Continue-branch-3
+pieces-preserved-in-Continue-branch-3 c =
     let on = rw c.in-OnePiece.is at c.in_ok-piece.ensures.found (pieces_of c.pieces.pieces.items) c.pieces.invariant.so_far in
-    let items = c.push_reserved.ensures.items ∙ ap (λ x. x ++ c.in-OnePiece.piece ∷ []) c.reserve.ensures.items in
+    let items = rw (sym c.in_ok-map_err-in-OnePiece.ensures.variant) at c.push.ensures.items in
     let delimiters = pieces_delimiters c.pieces.reader in
     let s = pieces_text c.pieces.reader in
     let left = pieces_state c.next.new.self in
     let blocks = pieces_blocks c.next.new.self in
-    let all : pieces_of c.push_reserved.new.self.items ≡ pieces_of c.pieces.pieces.items ++ piece_of c.in-OnePiece.piece ∷ [] = ap pieces_of items ∙ map-append piece_of c.pieces.pieces.items (c.in-OnePiece.piece ∷ []) in
-    let F : List DelimiterText → List ℕ → Type 0 = λ x y. PiecesSoFar x y left blocks (pieces_of c.push_reserved.new.self.items) in
+    let all : pieces_of c.push.new.self.items ≡ pieces_of c.pieces.pieces.items ++ piece_of c.in-OnePiece.piece ∷ [] = ap pieces_of items ∙ map-append piece_of c.pieces.pieces.items (c.in-OnePiece.piece ∷ []) in
+    let F : List DelimiterText → List ℕ → Type 0 = λ x y. PiecesSoFar x y left blocks (pieces_of c.push.new.self.items) in
     let G : List Piece → Type 0 = λ z. PiecesSoFar delimiters s left blocks z in
     record {
       text = c.in_ok-piece.ensures.text ∙ c.pieces.invariant.text;

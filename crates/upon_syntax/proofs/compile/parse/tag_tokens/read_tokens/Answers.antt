@@ -39,7 +39,7 @@ tokens-preserved c =
     let inv = c.tokens.invariant in
     let before = lexemes_of c.tokens.tokens.items in
     let found = lexeme_of c.in-Ok.found in
-    let joined : lexemes_of c.push_reserved.new.self.items ≡ before ++ found ∷ [] = ap lexemes_of (c.push_reserved.ensures.items ∙ ap (λ x. x ++ c.in-Ok.found ∷ []) c.reserve.ensures.items) ∙ map-append lexeme_of c.tokens.tokens.items (c.in-Ok.found ∷ []) in
+    let joined : lexemes_of c.push.new.self.items ≡ before ++ found ∷ [] = ap lexemes_of c.in_ok-push-in-Ok.ensures.items ∙ map-append lexeme_of c.tokens.tokens.items (c.in-Ok.found ∷ []) in
     let Each : List Lexeme → Type 0 = λ x. EachTagToken s None x in
     let After : Option Lexeme → Type 0 = λ o. IsTagToken s o found in
     record {

@@ -1,4 +1,4 @@
-use Rattle.std.proofs.Common.{rules, arith, ◌≡◌, List, [], ◌∷◌, ◌++◌, None, Some, refl, sym, ap, ◌∙◌, subst}
+use Rattle.std.proofs.Common.{rules, arith, ◌≡◌, List, ◌∷◌, None, Some, refl, sym, ap, ◌∙◌, subst}
 use Rattle.std.proofs.lemmas.Result.{err_from_is_err_and}
 use Rattle.upon_types.specs.declared.types.Span.{Span}
 use Rattle.upon_types.specs.declared.types.token.Token.TheVariants.{Ident as Identifier, OpenParen, CloseParen, CloseBracket, CloseBrace, Colon, String as Quoted}
@@ -54,18 +54,18 @@ parse_args-returns-in_err-value-clause-stuck t c =
 pub parse_args-values-preserved : goal.parse_args-values-preserved
 parse_args-values-preserved t c =
     record {
-      read = args_comma c.args.self.now.source.now c.values.values.items c.push_reserved.new.self.items c.in_ok-value.value (lexemes_of c.args.tokens.now) (lexemes_of c.values.left.now) (lexemes_of c.in_ok-value.rest.now) (lexemes_of c.in-Some.next.now) c.in-Some.field-0-0 c.values.invariant.read (c.push_reserved.ensures.items ∙ ap (λ x. x ++ c.in_ok-value.value ∷ []) c.reserve.ensures.items) c.in_ok-value.ensures.base c.in-Some.ensures.token;
+      read = args_comma c.args.self.now.source.now c.values.values.items c.push.new.self.items c.in_ok-value.value (lexemes_of c.args.tokens.now) (lexemes_of c.values.left.now) (lexemes_of c.in_ok-value.rest.now) (lexemes_of c.in-Some.next.now) c.in-Some.field-0-0 c.values.invariant.read c.in_ok-push.ensures.items c.in_ok-value.ensures.base c.in-Some.ensures.token;
       rest = rest_then (lexemes_of c.args.tokens.now) (lexemes_of c.values.left.now) (lexemes_of c.in-Some.next.now) c.values.invariant.rest (rest_then (lexemes_of c.values.left.now) (lexemes_of c.in_ok-value.rest.now) (lexemes_of c.in-Some.next.now) c.in_ok-value.ensures.rest (c.in-Some.ensures.rest refl));
       shorter = omega (arith, c.values.invariant.shorter, c.in_ok-value.ensures.shorter, c.in-Some.ensures.shorter);
     }
 
 pub parse_args-returns-in-None-clause-args : goal.parse_args-returns-in-None-clause-args
 parse_args-returns-in-None-clause-args t c =
-    args_last c.args.self.now.source.now c.values.values.items c.push_reserved.new.self.items c.in_ok-value.value (lexemes_of c.args.tokens.now) (lexemes_of c.values.left.now) (lexemes_of c.in_ok-value.rest.now) c.values.invariant.read (c.push_reserved.ensures.items ∙ ap (λ x. x ++ c.in_ok-value.value ∷ []) c.reserve.ensures.items) c.in_ok-value.ensures.base c.in-None.ensures.token
+    args_last c.args.self.now.source.now c.values.values.items c.push.new.self.items c.in_ok-value.value (lexemes_of c.args.tokens.now) (lexemes_of c.values.left.now) (lexemes_of c.in_ok-value.rest.now) c.values.invariant.read c.in_ok-push.ensures.items c.in_ok-value.ensures.base c.in-None.ensures.token
 
 pub parse_args-returns-in-None-clause-end : goal.parse_args-returns-in-None-clause-end
 parse_args-returns-in-None-clause-end t c =
-    args_end c.args.self.now.source.now c.values.values.items c.push_reserved.new.self.items c.in_ok-value.value c.span-end.result.n (c.push_reserved.ensures.items ∙ ap (λ x. x ++ c.in_ok-value.value ∷ []) c.reserve.ensures.items) (ap (λ (x : Span). x.n) c.span-end.ensures)
+    args_end c.args.self.now.source.now c.values.values.items c.push.new.self.items c.in_ok-value.value c.span-end.result.n c.in_ok-push.ensures.items (ap (λ (x : Span). x.n) c.span-end.ensures)
 
 pub parse_args-returns-in-None-clause-rest : goal.parse_args-returns-in-None-clause-rest
 parse_args-returns-in-None-clause-rest t c =
@@ -298,7 +298,7 @@ parse_list-returns-in_err-item-clause-stuck t c =
 pub parse_list-items-preserved : goal.parse_list-items-preserved
 parse_list-items-preserved t c =
     record {
-      read = items_comma c.args.self.now.source.now c.items.items.items c.push_reserved.new.self.items c.in_ok-item.item (lexemes_of c.args.tokens.now) (lexemes_of c.items.left.now) (lexemes_of c.in_ok-item.rest.now) (lexemes_of c.in-Some-take.next.now) c.in-Some-take.field-0-0 c.items.invariant.read (c.push_reserved.ensures.items ∙ ap (λ x. x ++ c.in_ok-item.item ∷ []) c.reserve.ensures.items) c.in_ok-item.ensures.base c.in-Some-take.ensures.token;
+      read = items_comma c.args.self.now.source.now c.items.items.items c.push.new.self.items c.in_ok-item.item (lexemes_of c.args.tokens.now) (lexemes_of c.items.left.now) (lexemes_of c.in_ok-item.rest.now) (lexemes_of c.in-Some-take.next.now) c.in-Some-take.field-0-0 c.items.invariant.read c.in_ok-push.ensures.items c.in_ok-item.ensures.base c.in-Some-take.ensures.token;
       rest = rest_then (lexemes_of c.args.tokens.now) (lexemes_of c.items.left.now) (lexemes_of c.in-Some-take.next.now) c.items.invariant.rest (rest_then (lexemes_of c.items.left.now) (lexemes_of c.in_ok-item.rest.now) (lexemes_of c.in-Some-take.next.now) c.in_ok-item.ensures.rest (c.in-Some-take.ensures.rest refl));
       shorter = omega (arith, c.items.invariant.shorter, c.in_ok-item.ensures.shorter, c.in-Some-take.ensures.shorter);
     }
@@ -313,7 +313,7 @@ pub parse_list-returns-in-None-clause-list : goal.parse_list-returns-in-None-cla
 parse_list-returns-in-None-clause-list t c =
     λ before g.
     let F : Base → Type 0 = λ b. ReadsBase c.args.self.now.source.now b before (lexemes_of c.in_ok-closing-in-None.rest.now) in
-    subst F (sym (view-List _ ∙ list_of-out _)) (list_last c.args.self.now.source.now c.items.items.items c.push_reserved.new.self.items c.in_ok-item.item before (lexemes_of c.args.tokens.now) (lexemes_of c.items.left.now) (lexemes_of c.in_ok-item.rest.now) (lexemes_of c.in_ok-closing-in-None.rest.now) c.args.opening c.in_ok-closing-in-None.closing c.items.invariant.read (c.push_reserved.ensures.items ∙ ap (λ x. x ++ c.in_ok-item.item ∷ []) c.reserve.ensures.items) c.in_ok-item.ensures.base c.in_ok-closing-in-None.ensures.token g)
+    subst F (sym (view-List _ ∙ list_of-out _)) (list_last c.args.self.now.source.now c.items.items.items c.push.new.self.items c.in_ok-item.item before (lexemes_of c.args.tokens.now) (lexemes_of c.items.left.now) (lexemes_of c.in_ok-item.rest.now) (lexemes_of c.in_ok-closing-in-None.rest.now) c.args.opening c.in_ok-closing-in-None.closing c.items.invariant.read c.in_ok-push.ensures.items c.in_ok-item.ensures.base c.in_ok-closing-in-None.ensures.token g)
 
 pub parse_list-returns-in-None-clause-rest : goal.parse_list-returns-in-None-clause-rest
 parse_list-returns-in-None-clause-rest t c =
@@ -342,7 +342,7 @@ parse_map-returns-in_err-item-clause-stuck t c =
 pub parse_map-items-preserved : goal.parse_map-items-preserved
 parse_map-items-preserved t c =
     record {
-      read = entries_comma c.args.self.now.source.now c.items.items.items c.push_reserved.new.self.items c.in_ok-item.item (lexemes_of c.args.tokens.now) (lexemes_of c.items.left.now) (lexemes_of c.in_ok-item.rest.now) (lexemes_of c.in-Some-take.next.now) c.in-Some-take.field-0-0 c.items.invariant.read (c.push_reserved.ensures.items ∙ ap (λ x. x ++ c.in_ok-item.item ∷ []) c.reserve.ensures.items) c.in_ok-item.ensures.item c.in-Some-take.ensures.token;
+      read = entries_comma c.args.self.now.source.now c.items.items.items c.push.new.self.items c.in_ok-item.item (lexemes_of c.args.tokens.now) (lexemes_of c.items.left.now) (lexemes_of c.in_ok-item.rest.now) (lexemes_of c.in-Some-take.next.now) c.in-Some-take.field-0-0 c.items.invariant.read c.in_ok-push.ensures.items c.in_ok-item.ensures.item c.in-Some-take.ensures.token;
       rest = rest_then (lexemes_of c.args.tokens.now) (lexemes_of c.items.left.now) (lexemes_of c.in-Some-take.next.now) c.items.invariant.rest (rest_then (lexemes_of c.items.left.now) (lexemes_of c.in_ok-item.rest.now) (lexemes_of c.in-Some-take.next.now) c.in_ok-item.ensures.rest (c.in-Some-take.ensures.rest refl));
       shorter = omega (arith, c.items.invariant.shorter, c.in_ok-item.ensures.shorter, c.in-Some-take.ensures.shorter);
     }
@@ -357,7 +357,7 @@ pub parse_map-returns-in-None-clause-map : goal.parse_map-returns-in-None-clause
 parse_map-returns-in-None-clause-map t c =
     λ before g.
     let F : Base → Type 0 = λ b. ReadsBase c.args.self.now.source.now b before (lexemes_of c.in_ok-closing-in-None.rest.now) in
-    subst F (sym (view-Map _ ∙ map_of-out _)) (map_last c.args.self.now.source.now c.items.items.items c.push_reserved.new.self.items c.in_ok-item.item before (lexemes_of c.args.tokens.now) (lexemes_of c.items.left.now) (lexemes_of c.in_ok-item.rest.now) (lexemes_of c.in_ok-closing-in-None.rest.now) c.args.opening c.in_ok-closing-in-None.closing c.items.invariant.read (c.push_reserved.ensures.items ∙ ap (λ x. x ++ c.in_ok-item.item ∷ []) c.reserve.ensures.items) c.in_ok-item.ensures.item c.in_ok-closing-in-None.ensures.token g)
+    subst F (sym (view-Map _ ∙ map_of-out _)) (map_last c.args.self.now.source.now c.items.items.items c.push.new.self.items c.in_ok-item.item before (lexemes_of c.args.tokens.now) (lexemes_of c.items.left.now) (lexemes_of c.in_ok-item.rest.now) (lexemes_of c.in_ok-closing-in-None.rest.now) c.args.opening c.in_ok-closing-in-None.closing c.items.invariant.read c.in_ok-push.ensures.items c.in_ok-item.ensures.item c.in_ok-closing-in-None.ensures.token g)
 
 pub parse_map-returns-in-None-clause-rest : goal.parse_map-returns-in-None-clause-rest
 parse_map-returns-in-None-clause-rest t c =

@@ -17,7 +17,7 @@ use Rattle.upon_tag_parser.proofs.compile.parse.path.TagParser.parse_members.Goa
 
 pub members-init : goal.members-init
 members-init c = record {
-  read = ([], c.push_reserved.ensures.items ∙ ap (λ (x : List Member). x ++ c.args.first ∷ []) (c.reserve.ensures.items ∙ c.in_ok-path.ensures.items), refl);
+  read = ([], c.in_ok-push.ensures.items ∙ ap (λ (x : List Member). x ++ c.args.first ∷ []) c.new-path.ensures.items, refl);
   rest = rest_all (lexemes_of c.args.tokens.now);
   shorter = omega arith;
 }
@@ -64,7 +64,7 @@ members-preserved c =
     record {
       read = (
         members ++ member ∷ [],
-        c.push_reserved-in-Some.ensures.items ∙ ap (λ (x : List Member). x ++ member ∷ []) (c.reserve-in-Some.ensures.items ∙ c.members.invariant.read.1),
+        c.in_ok-push-in-Some.ensures.items ∙ ap (λ (x : List Member). x ++ member ∷ []) c.members.invariant.read.1,
         subst (λ x. AreMembers s x all next) (sym (map-append member_of members (member ∷ [])))
             (members_more s (map member_of members) (member_of member) all now next c.members.invariant.read.2 (c.in_ok-member-in-Some.ensures.member now c.in-Some.ensures.op)),
       );
