@@ -15,11 +15,11 @@ and_false : (x : Bool) → (x && false) ≡ false
 and_false true = refl
 and_false false = refl
 
-first_true : (x y : Bool) → (x && y) ≡ true → x ≡ true
+pub first_true : (x y : Bool) → (x && y) ≡ true → x ≡ true
 first_true true y e = refl
 first_true false y e = e
 
-second_true : (x y : Bool) → (x && y) ≡ true → y ≡ true
+pub second_true : (x y : Bool) → (x && y) ≡ true → y ≡ true
 second_true true y e = e
 second_true false y e = absurd cc
 

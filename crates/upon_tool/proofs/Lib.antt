@@ -1,4 +1,12 @@
+pub mod Added
+pub mod Calls
+pub mod Checked
+pub mod CheckedFiles
+pub mod Filled
+pub mod FolderFiles
 pub mod Kept
 pub mod Outputs
+pub mod Refusals
+pub mod Refused
 pub mod Sent
 pub mod Statuses

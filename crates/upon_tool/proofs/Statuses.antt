@@ -25,3 +25,6 @@ most_status (Fault error) = omega arith
 
 pub no_success : (n : ℕ) → 1 ≤ n → n ≡ 0 → ⊥
 no_success n least is = omega arith
+
+pub one_no_success : (n : ℕ) → n ≡ 1 → n ≡ 0 → ⊥
+one_no_success n one is = omega arith

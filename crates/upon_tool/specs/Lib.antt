@@ -1,8 +1,11 @@
 pub mod Status
 pub mod Rendering
+pub mod Library
 pub mod Missing
 pub mod Names
-pub mod Library
 pub mod Words
 pub mod Sources
+pub mod Refusals
+pub mod Filled
 pub mod Work
+pub mod Calls

@@ -1,7 +1,6 @@
 -- The files of a library, and why files are no templates.
-use Rattle.std.specs.Prelude.{◌≡◌, ℕ, List, Bool, true, false, Option, Some, None, Result, Ok, Err}
+use Rattle.std.specs.Prelude.{◌≡◌, ℕ, List, map, true, false, Option, Some, None, Result, Ok, Err, string_bytes}
 use Rattle.std.specs.BTreeMap.{get_by_text}
-use Rattle.std.specs.BTreeSet.{contains_text}
 use Rattle.upon_types.specs.declared.error.Error.{Error}
 use Rattle.upon_tool_io.specs.declared.files.ReadFault.{ReadFault}
 use Rattle.upon_tool_io.specs.declared.files.ReadFault.TheVariants.{Unreadable as FileUnreadable, NotText as FileNotText, OutOfMemory}
@@ -10,9 +9,9 @@ use Rattle.upon_tool.specs.declared.library.Library.{Library}
 use Rattle.upon_tool.specs.declared.library.Refusal.{Refusal}
 use Rattle.upon_tool.specs.declared.library.Refusal.TheVariants.{Unreadable, NotText, Fault}
 
--- whether a file of this name is there
-abbrev pub has_name : Library → List ℕ → Bool
-has_name library name = contains_text library.names name
+-- the names of the files
+abbrev pub library_names : Library → List (List ℕ)
+library_names library = map string_bytes library.names.items
 
 -- why the file of a name is no template
 abbrev pub refusal_of : Library → List ℕ → Option Refusal

@@ -1,19 +1,22 @@
 -- The files that a run reads, and why one is not read.
-use Rattle.std.specs.Prelude.{◌≡◌, ℕ, List, Option, Some, None, true}
+use Rattle.std.specs.Prelude.{◌≡◌, ℕ, List, [], ◌∷◌, Option, Some, None, true, false}
 use Rattle.std.specs.Borrow.{Bor}
 use Rattle.upon_tool_io.specs.declared.files.ReadFault.{ReadFault}
 use Rattle.upon_tool_io.specs.declared.files.ReadFault.TheVariants.{Unreadable as FileUnreadable, NotText as FileNotText, OutOfMemory}
 use Rattle.upon_tool.specs.Status.{IsMemory}
 use Rattle.upon_tool.specs.Words.{is_standard}
 use Rattle.upon_tool.specs.declared.failure.Failure.{Failure}
-use Rattle.upon_tool.specs.declared.failure.Failure.TheVariants.{NoEquals, InputTwice, Unreadable, NotText}
-use Rattle.upon_tool.specs.declared.failure.Failure.TheVariants.{Data, Unwritable, Fault}
+use Rattle.upon_tool.specs.declared.failure.Failure.TheVariants.{Unreadable, NotText}
 
 -- the failure that a fault of reading is
 abbrev pub Unread : Bor (List ℕ) → ReadFault → Failure → Type 0
 Unread name FileUnreadable failure = failure ≡ Unreadable name
 Unread name FileNotText failure = failure ≡ NotText name
 Unread name OutOfMemory failure = IsMemory failure
+
+-- the file was not read, or memory was out
+abbrev pub IsUnread : Bor (List ℕ) → Failure → Type 0
+IsUnread name failure = (fault : ReadFault) × Unread name fault failure
 
 -- the text of a file: of standard input, what that had left, if it is known
 abbrev pub IsTextOf : List ℕ → Option (List ℕ) → List ℕ → Type 0
@@ -25,3 +28,11 @@ abbrev pub IsTextAt : Option (Bor (List ℕ)) → Option (List ℕ) → Option (
 IsTextAt None input text = text ≡ None
 IsTextAt (Some name) input None = ⊥
 IsTextAt (Some name) input (Some text) = IsTextOf name.now input text
+
+-- the texts of files that are read one after the other, by what standard input had left and has left, if that is known
+abbrev pub AreTexts : List (Bor (List ℕ)) → Option (List ℕ) → List (List ℕ) → Option (List ℕ) → Type 0
+AreTexts [] input [] later = later ≡ input
+AreTexts [] input (text ∷ texts) later = ⊥
+AreTexts (name ∷ names) input [] later = ⊥
+AreTexts (name ∷ names) input (text ∷ texts) later = (next : Option (List ℕ)) × IsTextOf name.now input text
+    × (is_standard name.now ≡ false → next ≡ input) × AreTexts names next texts later

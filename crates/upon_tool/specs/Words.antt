@@ -1,7 +1,7 @@
 -- What the words of a call say.
-use Rattle.std.specs.Prelude.{◌≡◌, ◌==◌, ℕ, List, Contains, map, Bool, Option, Some, None, codes, String, string_bytes, bytes_eq}
+use Rattle.std.specs.Prelude.{◌≡◌, ◌==◌, ℕ, List, Contains, map, Bool, false, Option, Some, None, codes, String, string_bytes, bytes_eq}
 use Rattle.std.specs.Borrow.{Bor}
-use Rattle.std.specs.List.{before_first, after_first}
+use Rattle.std.specs.List.{list_any, before_first, after_first}
 use Rattle.std.specs.declared.alloc.Global.{Global}
 use Rattle.upon_types.specs.Bytes.{equals_sign}
 use Rattle.upon_types.specs.Val.{Val, text_val}
@@ -32,9 +32,13 @@ json_named None text = None
 json_named (Some name) None = None
 json_named (Some name) (Some text) = Some (string_bytes text)
 
--- the failure names one of the words, or memory was out
+-- whether a text has a `=`
+abbrev pub has_equals : List ℕ → Bool
+has_equals word = list_any is_equals word
+
+-- one of the words has no `=`, or memory was out
 abbrev pub IsNoPair : List (Bor (List ℕ)) → Failure → Type 0
-IsNoPair words (NoEquals word) = Contains words word
+IsNoPair words (NoEquals word) = Contains words word × (has_equals word.now ≡ false)
 IsNoPair words (Fault error) = IsMemory (Fault error)
 IsNoPair words InputTwice = ⊥
 IsNoPair words (Unreadable name) = ⊥

@@ -1,19 +1,21 @@
 // Templates that are checked: their faults, and the includes that name nothing.
-ghost use Rattle.std.specs.Prelude.{◌≡◌, ◌↔◌, ℕ, List, Contains, IfOk, true};
+ghost use Rattle.std.specs.Prelude.{◌≡◌, ◌↔◌, ℕ, List, Contains, IfOk, None, Some, true};
+ghost use Rattle.upon_meaning_spec.specs.Engine.{Template as TemplateMeant};
 ghost use Rattle.upon_meaning_spec.specs.Includes.{Includes};
-ghost use Rattle.upon_engine.specs.Engine.{engine_templates};
+ghost use Rattle.std.specs.Cow.{cow_str_bytes};
+ghost use Rattle.upon_engine.specs.Engine.{engine_syntax, engine_templates};
 ghost use Rattle.upon_engine.specs.Names.{texts};
 ghost use Rattle.upon_engine.specs.Template.{template_tree};
-ghost use Rattle.upon_tool.specs.Missing.{is_missing};
+ghost use Rattle.upon_tool.specs.Library.{refusal_of};
+ghost use Rattle.upon_tool.specs.Missing.{is_missing, IsRight};
 
-use crate::failure::report_fault;
+use crate::failure::{is_memory, report_fault};
 use crate::includes::show_includes;
 use crate::library::Library;
 use crate::rendering::report_refusal;
 use std::alloc::{AllocError, Global};
 use std::borrow::CowStr;
 use std::io;
-use upon::error::ErrorKind;
 use upon::{Engine, Template};
 
 /// Returns the names that a template includes and that are neither its own nor of a template that the engine holds, in
@@ -53,12 +55,16 @@ pub fn check_text<E: io::Write>(
     name: &str,
     source: CowStr<'_>,
     err: &mut E,
-) -> Result<bool, AllocError> {
+) -> Result<bool, AllocError>
+    ensures { IfOk result (λ is_right. (is_right ≡ true)
+        ↔ IsRight (engine_syntax engine.now) (engine_templates engine.now) name.now (cow_str_bytes source.entry)) }
+{
     let template = match engine.compile(source) {
         Ok(template) => template,
         Err(error) => {
             let error = error.with_name(alloc, name);
-            if let ErrorKind::OutOfMemory = error.kind() {
+            if is_memory(&error) {
+                drop(error);
                 return Err(AllocError);
             }
             report_fault(alloc, &error, err);
@@ -83,7 +89,12 @@ pub fn check_file<E: io::Write>(
     library: &Library,
     name: &str,
     err: &mut E,
-) -> Result<bool, AllocError> {
+) -> Result<bool, AllocError>
+    ensures { let table = engine_templates engine.now in
+        IfOk result (λ is_right. is_right ≡ true → (refusal_of library.now name.now ≡ None)
+        × ((t : TemplateMeant) → table name.now ≡ Some t
+        → IsRight (engine_syntax engine.now) table name.now t.source)) }
+{
     if let Some(refusal) = library.refusal(name) {
         report_refusal(alloc, name, refusal, err);
         return Ok(false);

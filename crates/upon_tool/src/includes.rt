@@ -31,7 +31,8 @@ pub fn show_includes<E: io::Write>(
     let searcher = Searcher::new();
     let mut lexer = Lexer::new(alloc, &searcher, source);
     let mut is_next = false;
-    for _ in 0..u64::MAX {
+    // A token has a byte, so there are at most as many tokens as bytes.
+    for _ in 0..source.len() {
         let Some((token, span)) = lexer.next()? else {
             break;
         };

@@ -1,11 +1,13 @@
 // Templates by their names, with the files that are none.
-ghost use Rattle.std.specs.Prelude.{◌≡◌, ℕ, List, None, Some, IfOk, OnErr, option_map, false};
-ghost use Rattle.upon_tool.specs.Library.{has_name, refusal_of, read_refusal, IsOfAdded};
+ghost use Rattle.std.specs.Prelude.{◌≡◌, ◌++◌, ◌∷◌, [], ℕ, List, map, None, Some, IfOk, OnErr, OnOk, option_map, bytes_eq, string_bytes};
+ghost use Rattle.std.specs.Map.{update};
+ghost use Rattle.upon_types.specs.Conversions.{or_else};
+ghost use Rattle.upon_tool.specs.Library.{library_names, refusal_of, read_refusal, IsOfAdded};
 
 use crate::failure::is_memory;
 use crate::includes::including;
 use std::alloc::{AllocError, Global};
-use std::collections::{BTreeMap, BTreeSet};
+use std::collections::BTreeMap;
 use upon::{Engine, Error};
 use upon_tool_io::files::ReadFault;
 
@@ -52,28 +54,28 @@ impl Refusal {
 #[derive(Drop)]
 pub struct Library {
     alloc: Global,
-    names: BTreeSet<String>,
+    names: Vec<String>,
     refused: BTreeMap<String, Refusal>,
 }
 
 impl Library {
     /// Creates a library without files.
     pub fn new(alloc: Global) -> Library
-        ensures names { (name : List ℕ) → has_name result name ≡ false }
+        ensures names { library_names result ≡ [] }
         ensures refused { (name : List ℕ) → refusal_of result name ≡ None }
     {
         Library {
             alloc,
-            names: BTreeSet::new(alloc),
+            names: Vec::new(alloc),
             refused: BTreeMap::new(alloc),
         }
     }
 
-    /// Returns the names of the files, in ascending order.
-    pub fn names(&self) -> &BTreeSet<String>
-        ensures { result.now ≡ self.now.names }
+    /// Returns the names of the files, in the order in which they were added.
+    pub fn names(&self) -> &[String]
+        ensures { map string_bytes result.now ≡ library_names self.now }
     {
-        &self.names
+        self.names.as_slice()
     }
 
     /// Returns why the file of a name is no template, or `None` if it is one or is not there.
@@ -84,8 +86,14 @@ impl Library {
     }
 
     /// Keeps the name of a file, and the reason why it is no template, if it is none. It fails if there is no memory.
-    pub fn add(&mut self, name: &str, refusal: Option<Refusal>) -> Result<(), AllocError> {
-        self.names.insert(String::from_str(self.alloc, name)?)?;
+    pub fn add(&mut self, name: &str, refusal: Option<Refusal>) -> Result<(), AllocError>
+        // The name is the last of its names.
+        ensures names { OnOk result (library_names self.new ≡ library_names self.old ++ name.now ∷ []) }
+        // At the name is the reason, if one is given, and else what was there; at each other name is what was there.
+        ensures refused { OnOk result ((other : List ℕ) → refusal_of self.new other
+            ≡ update bytes_eq (refusal_of self.old) name.now (or_else refusal (refusal_of self.old name.now)) other) }
+    {
+        self.names.push(String::from_str(self.alloc, name)?)?;
         if let Some(refusal) = refusal {
             let name = String::from_str(self.alloc, name)?;
             drop(self.refused.insert(name, refusal)?);

@@ -1,9 +1,11 @@
 // The program: from its words to its status.
-ghost use Rattle.std.specs.Prelude.{◌≡◌, ◌≤◌, IfErr, IfOk, IfSome};
+ghost use Rattle.std.specs.Prelude.{◌≡◌, ◌≤◌, false, IfErr, IfOk, IfSome, IsNone, OnErr};
 ghost use Rattle.upon_types.specs.Val.{text_val};
 ghost use Rattle.upon_json.specs.Context.{set_pairs};
 ghost use Rattle.upon_tool.specs.Rendering.{json_in};
-ghost use Rattle.upon_tool.specs.Words.{json_named, pair_of, split_words, IsNoPair};
+ghost use Rattle.upon_tool.specs.Calls.{CallEnds, ChecksCall, ListsCall, RefusesCall, RendersCall, Runs};
+ghost use Rattle.upon_tool_io.specs.declared.arguments.Call.TheVariants.{Render as RenderAsked, Check as CheckAsked, Names as NamesAsked};
+ghost use Rattle.upon_tool.specs.Words.{has_equals, json_named, pair_of, split_words, IsNoPair};
 
 use crate::failure::{Failure, report};
 use crate::rendering::Page;
@@ -26,15 +28,46 @@ pub fn run<R: Files + AllocGlobal + Clone + Drop, I: Read, O: Write, E: Write>(
     ensures { result ≤ 2 }
 {
     let alloc = rt.alloc();
-    let done = match arguments::read(alloc, words) {
-        Ok(Call::Render(call)) => run_render(rt, &call, input, out, err),
-        Ok(Call::Check(call)) => run_check(rt, &call, input, out, err),
-        Ok(Call::Names(call)) => run_names(rt, &call, input, out, err),
-        Err(error) => return show_words(alloc, &error, out, err),
-    };
+    match arguments::read(alloc, words) {
+        Ok(call) => run_call(rt, &call, input, out, err),
+        Err(error) => show_words(alloc, &error, out, err),
+    }
+}
+
+/// Does what a call asks for, and returns the status, as [`run`] does.
+pub fn run_call<R: Files + AllocGlobal + Clone + Drop, I: Read, O: Write, E: Write>(
+    rt: &R,
+    call: &Call<'_>,
+    input: &mut I,
+    out: &mut O,
+    err: &mut E,
+) -> u8
+    ensures range { result ≤ 2 }
+    // The work ends in one way of these, and that way has this status.
+    ensures ends { CallEnds call.now (I.remaining input.old) result (O.contents out.old) (O.contents out.new) }
+{
+    let done = work_of(rt, call, input, out, err);
     match done {
         Ok(status) => status,
-        Err(failure) => report(alloc, &failure, err),
+        Err(failure) => report(rt.alloc(), &failure, err),
+    }
+}
+
+// Does what a call asks for, and answers the status.
+fn work_of<'a, R: Files + AllocGlobal + Clone + Drop, I: Read, O: Write, E: Write>(
+    rt: &R,
+    call: &Call<'a>,
+    input: &mut I,
+    out: &mut O,
+    err: &mut E,
+) -> Result<u8, Failure<'a>>
+    ensures range { IfOk result (λ status. status ≤ 2) }
+    ensures ends { Runs call.now (I.remaining input.old) result (O.contents out.old) (O.contents out.new) }
+{
+    match call {
+        Call::Render(call) => run_render(rt, call, input, out, err),
+        Call::Check(call) => run_check(rt, call, input, out, err),
+        Call::Names(call) => run_names(rt, call, input, out, err),
     }
 }
 
@@ -68,7 +101,11 @@ fn run_render<'a, R: Files + AllocGlobal + Clone + Drop, I: Read, O: Write, E: W
     out: &mut O,
     err: &mut E,
 ) -> Result<u8, Failure<'a>>
-    ensures { IfOk result (λ status. status ≤ 2) }
+    ensures range { IfOk result (λ status. status ≤ 2) }
+    ensures ends { IfOk result (λ status.
+        RendersCall call.now (I.remaining input.old) status (O.contents out.old) (O.contents out.new)) }
+    ensures unsent { OnErr result (O.contents out.new ≡ O.contents out.old) }
+    ensures refused { IfErr result (RefusesCall (RenderAsked call.now) (I.remaining input.old)) }
 {
     if call.file == STANDARD && call.data == Some(STANDARD) {
         return Err(Failure::InputTwice);
@@ -76,8 +113,9 @@ fn run_render<'a, R: Files + AllocGlobal + Clone + Drop, I: Read, O: Write, E: W
     let set = pairs(rt.alloc(), call.set.as_slice())?;
     let source = text_of(rt, call.file, input)?;
     let json = text_at(rt, call.data, input)?;
+    let files = files_in(rt, call.templates)?;
     let templates = Templates {
-        files: files_in(rt, call.templates)?,
+        files,
         page: Some((call.file, source)),
         html: call.html,
     };
@@ -123,7 +161,8 @@ fn pairs<'a>(alloc: Global, words: &[&'a str]) -> Result<Vec<(&'a str, &'a str)>
 
 // The key and the text of a word: what is before its first `=`, and what is after it.
 fn pair_of<'a>(word: &'a str) -> Option<(&'a str, &'a str)>
-    ensures { IfSome result (λ pair. (pair.0.now, text_val pair.1.now) ≡ pair_of word.entry) }
+    ensures split { IfSome result (λ pair. (pair.0.now, text_val pair.1.now) ≡ pair_of word.entry) }
+    ensures none { IsNone result → has_equals word.entry.now ≡ false }
 {
     word.split_once('=')
 }
@@ -136,10 +175,14 @@ fn run_check<'a, R: Files + AllocGlobal + Clone + Drop, I: Read, O: Write, E: Wr
     out: &mut O,
     err: &mut E,
 ) -> Result<u8, Failure<'a>>
-    ensures { IfOk result (λ status. status ≤ 2) }
+    ensures range { IfOk result (λ status. status ≤ 2) }
+    ensures unsent { O.contents out.new ≡ O.contents out.old }
+    ensures ends { IfOk result (ChecksCall call.now (I.remaining input.old)) }
+    ensures refused { IfErr result (RefusesCall (CheckAsked call.now) (I.remaining input.old)) }
 {
+    let files = files_in(rt, call.templates)?;
     let templates = Templates {
-        files: files_in(rt, call.templates)?,
+        files,
         page: None,
         html: false,
     };
@@ -161,11 +204,16 @@ fn run_names<'a, R: Files + AllocGlobal + Clone + Drop, I: Read, O: Write, E: Wr
     out: &mut O,
     err: &mut E,
 ) -> Result<u8, Failure<'a>>
-    ensures { IfOk result (λ status. status ≤ 2) }
+    ensures range { IfOk result (λ status. status ≤ 2) }
+    ensures ends { IfOk result (λ status.
+        ListsCall call.now (I.remaining input.old) status (O.contents out.old) (O.contents out.new)) }
+    ensures unsent { OnErr result (O.contents out.new ≡ O.contents out.old) }
+    ensures refused { IfErr result (RefusesCall (NamesAsked call.now) (I.remaining input.old)) }
 {
     let source = text_of(rt, call.file, input)?;
+    let files = files_in(rt, call.templates)?;
     let templates = Templates {
-        files: files_in(rt, call.templates)?,
+        files,
         page: Some((call.file, source)),
         html: false,
     };

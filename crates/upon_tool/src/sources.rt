@@ -1,6 +1,6 @@
 // The texts that a run reads: files by their names, standard input, and the files of a folder.
-ghost use Rattle.std.specs.Prelude.{◌≡◌, [], false, option_map, IfOk, IsNone, string_bytes};
-ghost use Rattle.upon_tool.specs.Sources.{IsTextAt, IsTextOf, Unread};
+ghost use Rattle.std.specs.Prelude.{◌≡◌, [], false, option_map, IfErr, IfOk, IsNone, IsSomeAnd, string_bytes};
+ghost use Rattle.upon_tool.specs.Sources.{IsTextAt, IsTextOf, IsUnread, Unread};
 ghost use Rattle.upon_tool.specs.Words.{is_standard};
 
 use crate::failure::Failure;
@@ -27,13 +27,17 @@ pub(crate) fn files_in<'a, R: Files + AllocGlobal + Clone + Drop>(
     folder: Option<&'a str>,
 ) -> Result<Vec<FolderFile>, Failure<'a>>
     ensures none { IsNone folder.entry → IfOk result (λ files. files.items ≡ []) }
+    ensures unread { IfErr result (λ failure. IsSomeAnd folder.entry (λ folder. IsUnread folder failure)) }
 {
     let alloc = rt.alloc();
     let mut files = Vec::new(alloc);
     let Some(folder) = folder else {
         return Ok(files);
     };
-    let names = files_of(rt, folder).map_err(|fault| failure_of(folder, fault))?;
+    let names = match files_of(rt, folder) {
+        Ok(names) => names,
+        Err(fault) => return Err(failure_of(folder, fault)),
+    };
     for name in names {
         let path = joined(alloc, folder, name.as_str())?;
         let read = read_file(rt, alloc, path.as_str());
@@ -50,6 +54,7 @@ pub(crate) fn text_at<'a, R: Files + AllocGlobal, I: Read>(
 ) -> Result<Option<String>, Failure<'a>>
     ensures text { IfOk result
         (λ text. IsTextAt name.entry (I.remaining input.old) (option_map string_bytes text)) }
+    ensures unread { IfErr result (λ failure. IsSomeAnd name.entry (λ name. IsUnread name failure)) }
 {
     match name {
         Some(name) => Ok(Some(text_of(rt, name, input)?)),
@@ -67,6 +72,7 @@ pub(crate) fn text_of<'a, R: Files + AllocGlobal, I: Read>(
     ensures text { IfOk result (λ text. IsTextOf name.entry.now (I.remaining input.old) (string_bytes text)) }
     // For a file the input is not read.
     ensures kept { is_standard name.entry.now ≡ false → I.remaining input.new ≡ I.remaining input.old }
+    ensures unread { IfErr result (IsUnread name.entry) }
 {
     let alloc = rt.alloc();
     let read = if name == STANDARD {
@@ -74,7 +80,10 @@ pub(crate) fn text_of<'a, R: Files + AllocGlobal, I: Read>(
     } else {
         read_file(rt, alloc, name)
     };
-    read.map_err(|fault| failure_of(name, fault))
+    match read {
+        Ok(text) => Ok(text),
+        Err(fault) => Err(failure_of(name, fault)),
+    }
 }
 
 // Why a file of this name is not read.

@@ -1,8 +1,13 @@
 // What is done with an engine that holds templates. The engine stays in one function: a function that takes `&mut
 // Engine` or returns an engine would have a contract that says nothing of what is behind its `dyn`.
-ghost use Rattle.std.specs.Prelude.{◌≡◌, ◌≤◌, IfOk, is_some, not, true};
+ghost use Rattle.std.specs.Prelude.{◌≡◌, ◌≤◌, ◌↔◌, ℕ, List, IfErr, IfOk, None, OnErr, Some, is_some, not, true};
+ghost use Rattle.upon_engine.specs.Engine.{engine_syntax, engine_templates};
+ghost use Rattle.upon_meaning_spec.specs.Engine.{Template as TemplateMeant};
+ghost use Rattle.upon_tool.specs.Library.{library_names, refusal_of};
+ghost use Rattle.upon_tool.specs.Missing.{EachIsRight, EachName, IsRight, LibraryIsRight};
 ghost use Rattle.upon_tool.specs.Rendering.{ShowsPage};
-ghost use Rattle.upon_tool.specs.Work.{to_standard};
+ghost use Rattle.upon_tool.specs.Sources.{AreTexts};
+ghost use Rattle.upon_tool.specs.Work.{checked_files, to_standard, CarriesOut, ChecksFiles, IsCheck, IsUnreadOf, ListsNames, RefusesWork, Works};
 
 use crate::check::{check_file, check_text};
 use crate::failure::Failure;
@@ -14,7 +19,8 @@ use std::alloc::{AllocError, Global};
 use std::borrow::CowStr;
 use std::io::{BufWriter, Read, Write};
 use std::rt::Files;
-use upon::{AnyEngine, Engine, EngineTexts};
+use upon::{AnyEngine, Engine, EngineTexts, theorem};
+use upon_engine::laws_of_templates;
 use upon_html::formatters::{Escape, Verbatim};
 use upon_tool_io::output::Replacement;
 
@@ -49,7 +55,17 @@ pub(crate) fn carry_out<'a, R: Files + AllocGlobal + Clone + Drop, I: Read, O: W
     out: &mut O,
     err: &mut E,
 ) -> Result<u8, Failure<'a>>
-    ensures { IfOk result (λ status. status ≤ 2) }
+    ensures range { IfOk result (λ status. status ≤ 2) }
+    ensures ends { IfOk result (λ status.
+        CarriesOut
+        templates.entry
+        work.entry
+        (I.remaining input.old)
+        status
+        (O.contents out.old)
+        (O.contents out.new)) }
+    ensures unsent { OnErr result (O.contents out.new ≡ O.contents out.old) }
+    ensures refused { IfErr result (RefusesWork templates.entry work.entry) }
 {
     let alloc = rt.alloc();
     let Templates { files, page, html } = templates;
@@ -59,7 +75,8 @@ pub(crate) fn carry_out<'a, R: Files + AllocGlobal + Clone + Drop, I: Read, O: W
         engine.set_default_formatter(Box::new(alloc, Escape)?);
     }
     let mut library = Library::new(alloc);
-    for FolderFile { name, read } in files {
+    for file in files {
+        let FolderFile { name, read } = file;
         let key = CowStr::Borrowed(name.as_str());
         let refusal = match read {
             Ok(text) => Refusal::of_added(engine.add_template(key, CowStr::Owned(text)))?,
@@ -70,11 +87,62 @@ pub(crate) fn carry_out<'a, R: Files + AllocGlobal + Clone + Drop, I: Read, O: W
     if let Some((name, source)) = page {
         engine.add_template(CowStr::Borrowed(name), CowStr::Owned(source))?;
     }
+    theorem::held_has_tree(&engine);
+    do_work(rt, &engine, &library, work, input, out, err)
+}
+
+// Does a piece of work with an engine, and answers the status.
+fn do_work<'a, R: Files + AllocGlobal + Clone + Drop, I: Read, O: Write, E: Write>(
+    rt: &R,
+    engine: &Engine<'_>,
+    library: &Library,
+    work: Work<'_, 'a>,
+    input: &mut I,
+    out: &mut O,
+    err: &mut E,
+) -> Result<u8, Failure<'a>>
+    ensures range { IfOk result (λ status. status ≤ 2) }
+    ensures ends { IfOk result (λ status. Works
+        work.entry
+        (⟦<AnyEngine as EngineTexts>⟧.texts engine.now)
+        (I.remaining input.old)
+        status
+        (O.contents out.old)
+        (O.contents out.new)) }
+    ensures folder { IfOk result (λ status. IsCheck work.entry → status ≡ 0
+        → LibraryIsRight (⟦<AnyEngine as EngineTexts>⟧.texts engine.now) library.now) }
+    ensures unsent { OnErr result (O.contents out.new ≡ O.contents out.old) }
+    ensures refused { IfErr result (IsUnreadOf (checked_files work.entry)) }
+{
     match work {
-        Work::Render(page, path) => Ok(run_page(rt, &engine, &library, page, path, out, err)),
-        Work::Check(names) => check_all(rt, &engine, &library, names, input, err),
-        Work::Names(name, json) => Ok(names::show(alloc, &engine, &library, name, json, out, err)),
+        Work::Render(page, path) => Ok(run_page(rt, engine, library, page, path, out, err)),
+        Work::Check(names) => check_all(rt, engine, library, names, input, err),
+        Work::Names(name, json) => Ok(list(rt, engine, library, name, json, out, err)),
     }
+}
+
+// Lists what the template of a name needs, and answers the status.
+fn list<R: Files + AllocGlobal, O: Write, E: Write>(
+    rt: &R,
+    engine: &Engine<'_>,
+    library: &Library,
+    name: &str,
+    json: bool,
+    out: &mut O,
+    err: &mut E,
+) -> u8
+    ensures range { result ≤ 2 }
+    ensures lists { ListsNames
+        (⟦<AnyEngine as EngineTexts>⟧.texts engine.now)
+        name.now
+        json
+        result
+        (O.contents out.old)
+        (O.contents out.new) }
+{
+    theorem::one_table(engine);
+    laws_of_templates::templates_are_the_table(engine);
+    names::show(rt.alloc(), engine, library, name, json, out, err)
 }
 
 // How many bytes of output are held until they are written.
@@ -153,7 +221,36 @@ fn check_all<'a, R: Files + AllocGlobal + Clone + Drop, I: Read, E: Write>(
     input: &mut I,
     err: &mut E,
 ) -> Result<u8, Failure<'a>>
-    ensures { IfOk result (λ status. status ≤ 2) }
+    ensures range { IfOk result (λ status. status ≤ 2) }
+    ensures checks { IfOk result (λ status. ChecksFiles
+        (⟦<AnyEngine as EngineTexts>⟧.texts engine.now)
+        names.now
+        (I.remaining input.old)
+        status) }
+    ensures folder { IfOk result (λ status. status ≡ 0
+        → LibraryIsRight (⟦<AnyEngine as EngineTexts>⟧.texts engine.now) library.now) }
+    ensures refused { IfErr result (IsUnreadOf names.now) }
+{
+    theorem::one_table(engine);
+    laws_of_templates::templates_are_the_table(engine);
+    let alloc = rt.alloc();
+    let is_right = check_each(rt, engine, names, input, err)?;
+    let is_whole = check_folder(alloc, engine, library, err)?;
+    Ok(if is_right && is_whole { 0 } else { 1 })
+}
+
+// Whether nothing is wrong with files.
+fn check_each<'a, R: Files + AllocGlobal, I: Read, E: Write>(
+    rt: &R,
+    engine: &Engine<'_>,
+    names: &[&'a str],
+    input: &mut I,
+    err: &mut E,
+) -> Result<bool, Failure<'a>>
+    ensures right { IfOk result (λ is_right. (texts : List (List ℕ))
+        × AreTexts names.now (I.remaining input.old) texts (I.remaining input.new)
+        × ((is_right ≡ true) ↔ EachIsRight (engine_syntax engine.now) (engine_templates engine.now) names.now texts)) }
+    ensures refused { IfErr result (IsUnreadOf names.now) }
 {
     let alloc = rt.alloc();
     let mut is_right = true;
@@ -161,8 +258,7 @@ fn check_all<'a, R: Files + AllocGlobal + Clone + Drop, I: Read, E: Write>(
         let source = text_of(rt, name, input)?;
         is_right &= check_text(alloc, engine, name, CowStr::Owned(source), err)?;
     }
-    is_right &= check_folder(alloc, engine, library, err)?;
-    Ok(if is_right { 0 } else { 1 })
+    Ok(is_right)
 }
 
 // Whether nothing is wrong with the files of the library.
@@ -171,9 +267,15 @@ fn check_folder<E: Write>(
     engine: &Engine<'_>,
     library: &Library,
     err: &mut E,
-) -> Result<bool, AllocError> {
+) -> Result<bool, AllocError>
+    ensures { let table = engine_templates engine.now in
+        IfOk result (λ is_right. is_right ≡ true → EachName (λ name. (refusal_of library.now name ≡ None)
+        × ((t : TemplateMeant) → table name ≡ Some t → IsRight (engine_syntax engine.now) table name t.source))
+        (library_names library.now)) }
+{
+    let names = library.names();
     let mut is_right = true;
-    for name in library.names() {
+    for name in names {
         is_right &= check_file(alloc, engine, library, name.as_str(), err)?;
     }
     Ok(is_right)

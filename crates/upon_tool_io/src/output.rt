@@ -1,7 +1,7 @@
 // A file that is replaced at the good end alone.
-use std::alloc::Global;
-use std::fs::{self, File, OpenFile, OpenOptions};
+use std::fs::{self, OpenFile, OpenOptions};
 use std::io;
+use std::os::unix::fs::OpenOptionsExt;
 use std::rt::Files;
 
 /// Where a text goes before it takes the place of a file.
@@ -15,9 +15,14 @@ pub struct Replacement {
 // How many names of new files are tried.
 const NAMES: usize = 1000;
 
+// The permissions of a new file: its owner's alone, or everybody's that the process allows.
+const OWN: u32 = 0o600;
+
+const ALL: u32 = 0o666;
+
 impl Replacement {
-    /// Opens a new file beside the one of a path, to which a link may lead, with the permissions of that one. What is
-    /// there and is no file, as a terminal, is opened as it is.
+    /// Opens a new file beside the one of a path, to which a link may lead, with the permissions of that one: nobody
+    /// else may read it before. What is there and is no file, as a terminal, is opened as it is.
     pub fn open<R: Files + AllocGlobal>(rt: &R, path: &str) -> io::Result<(Replacement, R::File)> {
         let target = target_of(rt, path)?;
         let (beside, file) = open_for(rt, target.as_str())?;
@@ -50,13 +55,18 @@ impl Replacement {
 fn open_for<R: Files + AllocGlobal>(rt: &R, target: &str) -> io::Result<(Option<String>, R::File)> {
     match fs::metadata(rt, target) {
         Ok(metadata) if metadata.is_file() => {
-            let (beside, file) = new_file(rt, rt.alloc(), target)?;
-            drop(file.set_permissions(metadata.permissions()));
-            Ok((Some(beside), file))
+            let (beside, file) = new_file(rt, target, OWN)?;
+            match file.set_permissions(metadata.permissions()) {
+                Ok(()) => Ok((Some(beside), file)),
+                Err(error) => {
+                    let _ = fs::remove_file(rt, beside.as_str());
+                    Err(error)
+                }
+            }
         }
         Ok(_) => Ok((None, OpenOptions::new().write(true).open(rt, target)?)),
         Err(_) => {
-            let (beside, file) = new_file(rt, rt.alloc(), target)?;
+            let (beside, file) = new_file(rt, target, ALL)?;
             Ok((Some(beside), file))
         }
     }
@@ -75,10 +85,16 @@ fn target_of<R: Files + AllocGlobal>(rt: &R, path: &str) -> io::Result<String> {
 }
 
 // A file that was not there, with its path.
-fn new_file<R: Files>(rt: &R, alloc: Global, target: &str) -> io::Result<(String, R::File)> {
+fn new_file<R: Files + AllocGlobal>(
+    rt: &R,
+    target: &str,
+    mode: u32,
+) -> io::Result<(String, R::File)> {
+    let mut options = OpenOptions::new();
+    options.write(true).create_new(true).mode(mode);
     for number in 0..NAMES {
-        let path = format!(in alloc; "{target}.new-{number}")?;
-        match File::create_new(rt, path.as_str()) {
+        let path = format!(in rt.alloc(); "{target}.new-{number}")?;
+        match options.open(rt, path.as_str()) {
             Ok(file) => return Ok((path, file)),
             Err(error) if error.kind() == io::ErrorKind::AlreadyExists => {}
             Err(error) => return Err(error),

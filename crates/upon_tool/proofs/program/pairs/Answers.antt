@@ -1,4 +1,4 @@
-use Rattle.std.proofs.Common.{◌≡◌, ◌<◌, ◌+◌, ◌∷◌, [], ◌++◌, ℕ, List, Bor, map, length, take, get_or, sym, ap, ◌∙◌}
+use Rattle.std.proofs.Common.{◌≡◌, ◌<◌, ◌+◌, ◌∷◌, [], ◌++◌, ℕ, List, Bor, length, take, get_or, sym, ap, ◌∙◌}
 use Rattle.std.proofs.lemmas.List.{map-append, take_all, take_more}
 use Rattle.upon_types.specs.Val.{text_val}
 use Rattle.upon_json.specs.Context.{set_pairs}
@@ -17,7 +17,7 @@ pairs_step pairs new pair words i d inside so_far is pushed =
     ∙ ap split_words (sym (take_more words i d inside))
 
 pub loop-word-preserved : goal.loop-word-preserved
-loop-word-preserved c = pairs_step c.loop-word.pairs.items _ _ c.args.words.now c.loop-word.word-index _ c.loop-word-test.true c.loop-word.invariant c.in-Some.ensures c.in_ok-push.ensures.items
+loop-word-preserved c = pairs_step c.loop-word.pairs.items _ _ c.args.words.now c.loop-word.word-index _ c.loop-word-test.true c.loop-word.invariant c.in-Some.ensures.split c.in_ok-push.ensures.items
 
 pub returns-clause-split : goal.returns-clause-split
 returns-clause-split c = c.loop-word.invariant ∙ ap split_words (take_all c.loop-word.word-index c.args.words.now c.loop-word-test.false)

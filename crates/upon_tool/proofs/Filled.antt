@@ -1,0 +1,159 @@
+-- What an engine holds as it is filled, and what is shown of it.
+use Rattle.std.proofs.Common.{◌≡◌, ◌∙◌, ◌∷◌, [], ℕ, List, Bool, true, false, Bor, Option, Some, None, Result, Ok, Err, IfErr, IfOk, IsErrAnd, IsSomeAnd, OnErr, String, Global, codes, option_map, string_bytes, refl, sym, ap, subst, inl, inr}
+use Rattle.std.specs.Io.KnownBytes.{Appends}
+use Rattle.std.specs.Str.{bytes_eq}
+use Rattle.std.proofs.lemmas.Map.{update_same}
+use Rattle.std.proofs.lemmas.Slice.Eq.{bytes_eq-Decides}
+use Rattle.upon_types.specs.Answers.{Formatter, formatter}
+use Rattle.upon_types.specs.Error.{fault_of}
+use Rattle.upon_types.specs.Fault.{syntax}
+use Rattle.upon_types.specs.Tree.{Statements}
+use Rattle.upon_types.specs.Val.{Val}
+use Rattle.upon_types.specs.declared.error.Error.{Error}
+use Rattle.upon_language_spec.specs.DefaultDelimiters.{default_delimiters}
+use Rattle.upon_language_spec.specs.Grammar.{HasTree}
+use Rattle.upon_meaning_spec.specs.DefaultFormat.{default_format}
+use Rattle.upon_meaning_spec.specs.Engine.{Table, Template}
+use Rattle.upon_engine.specs.Changes.{empty_engine, unless_refused, with_callable, with_default_formatter, with_text}
+use Rattle.upon_engine.specs.Faults.{IsSyntaxErrorOf}
+use Rattle.upon_engine.specs.Texts.{Stored, Texts}
+use Rattle.upon_engine.specs.Theorem.{IsTable, Sends}
+use Rattle.upon_engine.specs.declared.needs.Needs.{Needs}
+use Rattle.upon_tool_io.specs.declared.files.ReadFault.{ReadFault}
+use Rattle.upon_html.specs.Escaped.{escaped}
+use Rattle.upon_json.specs.Context.{set_pairs}
+use Rattle.upon_tool.specs.Library.{IsOfAdded}
+use Rattle.upon_tool.specs.Names.{needs_text, NeededBy}
+use Rattle.upon_tool.specs.Rendering.{json_in, Renders, ShowsPage}
+use Rattle.upon_tool.specs.Sources.{IsTextAt}
+use Rattle.upon_tool.specs.Status.{end_status}
+use Rattle.upon_tool.specs.Words.{json_named}
+use Rattle.upon_tool.specs.Filled.{html_engine, with_page, EachHasTree, TakesFiles, TakesRead, TakesText}
+use Rattle.upon_tool.specs.Work.{ListsNames, RefusesWork, Works}
+use Rattle.upon_tool.specs.declared.failure.Failure.{Failure}
+use Rattle.upon_tool.specs.declared.failure.Failure.TheVariants.{Fault}
+use Rattle.upon_tool.specs.declared.library.Refusal.{Refusal}
+use Rattle.upon_tool.specs.declared.rendering.Page.{Page}
+use Rattle.upon_tool.specs.declared.sources.FolderFile.{FolderFile}
+use Rattle.upon_tool.specs.declared.work.Templates.{Templates}
+use Rattle.upon_tool.specs.declared.work.Work.{Work}
+use Rattle.upon_tool.specs.declared.work.Work.TheVariants.{Names}
+use Rattle.upon_tool.proofs.Refused.{taken}
+
+-- ---- the delimiters stay
+text_syntax : (name text : List ℕ) (old new : Texts) → TakesText name text old new → new.syntax ≡ old.syntax
+text_syntax name text old new (inl is) = ap (λ e. e.syntax) is
+text_syntax name text old new (inr said) = ap (λ e. e.syntax) said.1
+
+read_syntax : (name : List ℕ) (read : Result (String Global) ReadFault) (old new : Texts) → TakesRead name read old new → new.syntax ≡ old.syntax
+read_syntax name (Ok text) old new takes = text_syntax name (string_bytes text) old new takes
+read_syntax name (Err fault) old new is = ap (λ e. e.syntax) is
+
+takes_syntax : (files : List FolderFile) (old new : Texts) → TakesFiles files old new → new.syntax ≡ old.syntax
+takes_syntax [] old new is = ap (λ e. e.syntax) is
+takes_syntax (file ∷ files) old new takes = takes_syntax files takes.0 new takes.2 ∙ read_syntax (string_bytes file.name) file.read old takes.0 takes.1
+
+html_syntax : (html : Bool) → (html_engine html).syntax ≡ default_delimiters
+html_syntax true = refl
+html_syntax false = refl
+
+-- ---- what is shown
+pub json_is : (name : Option (Bor (List ℕ))) (later : Option (List ℕ)) (text : Option (String Global)) → IsTextAt name later (option_map string_bytes text) → json_named name text ≡ option_map string_bytes text
+json_is None later text is = sym is
+json_is (Some name) later None is = absurd is
+json_is (Some name) later (Some text) is = refl
+
+-- the text of a page that an engine was given last
+pub page_shown : (html : Bool) (files : List FolderFile) (folder e : Texts) (page : Page) (text : List ℕ) (status : ℕ) (old new : Option (List ℕ)) (json : Option (List ℕ)) (pairs : List (List ℕ × Val)) → TakesFiles files (html_engine html) folder
+    → e ≡ with_text page.name.now text folder → EachHasTree e → ShowsPage e page status old new → json_in page.json ≡ json → set_pairs page.set.now ≡ pairs
+    → (tree : Statements) × ∥ HasTree default_delimiters text tree ∥₁
+    × ((end : Result (Unit {0}) Failure) × (status ≡ end_status end) × Renders json pairs (λ v r. Sends (with_text page.name.now text folder) (Some page.name.now) text tree v r old new) end)
+page_shown html files folder e page text status old new json pairs takes is each shows same_json same_pairs =
+    let name = page.name.now in
+    let filled : Texts = with_text name text folder in
+    let held : Stored = record { text = text; syntax = folder.syntax } in
+    let there : filled.texts name ≡ Some held = update_same bytes_eq folder.texts name (Some held) name ((bytes_eq-Decides name name).1 refl) in
+    let has = subst EachHasTree is each name held there in
+    let said = subst (λ e. ShowsPage e page status old new) is shows held has.0 there has.1 in (
+      has.0,
+      subst (λ d. ∥ HasTree d text has.0 ∥₁) (takes_syntax files (html_engine html) folder takes ∙ html_syntax html) has.1,
+      (
+        said.0,
+        said.1,
+        subst (λ json. Renders json pairs (λ v r. Sends filled (Some name) text has.0 v r old new) said.0) same_json
+            (subst (λ pairs. Renders (json_in page.json) pairs (λ v r. Sends filled (Some name) text has.0 v r old new) said.0) same_pairs said.2),
+      ),
+    )
+
+-- ---- what is listed
+pub listed : (e : Texts) (name : List ℕ) (json : Bool) (status : ℕ) (old new : Option (List ℕ)) (mine : Table) → IsTable e.texts mine → (table : Table) × IsTable e.texts table × ((other : Table) → IsTable e.texts other → other ≡ table)
+    → ((t : Template) → mine name ≡ Some t → status ≡ 0 → (needs : Needs) × NeededBy mine t.tree needs × Appends old new (needs_text json needs))
+    → ListsNames e name json status old new
+listed e name json status old new mine is_mine one lists table t is there zero =
+    let same : mine ≡ table = one.2 mine is_mine ∙ sym (one.2 table is) in
+    subst (λ table. (needs : Needs) × NeededBy table t.tree needs × Appends old new (needs_text json needs)) same (lists t (ap (λ table. table name) same ∙ there) zero)
+
+pub work_listed : (work : Work) (name : Bor (List ℕ)) (json : Bool) (e : Texts) (input : Option (List ℕ)) (status : ℕ) (old new : Option (List ℕ)) → work ≡ Names name json → ListsNames e name.now json status old new
+    → Works work e input status old new
+work_listed work name json e input status old new is lists = subst (λ w. Works w e input status old new) (sym is) lists
+
+-- ---- how an engine is filled
+-- its formatters, if values are escaped
+pub with_html : (b a e : Texts) (f g : Formatter) (html : Bool) → html ≡ true → b ≡ empty_engine → a ≡ with_callable (codes "verbatim") (formatter f) b → f ≡ default_format → e ≡ with_default_formatter g a → g ≡ escaped → e ≡ html_engine html
+with_html b a e f g html so before added verbatim set escapes =
+    set
+    ∙ (λ i. with_default_formatter (escapes i) ((added ∙ λ j. with_callable (codes "verbatim") (formatter (verbatim j)) (before j)) i))
+    ∙ ap html_engine (sym so)
+
+pub without_html : (e : Texts) (html : Bool) → html ≡ false → e ≡ empty_engine → e ≡ html_engine html
+without_html e html so is = is ∙ ap html_engine (sym so)
+
+-- a file of the folder
+pub read_taken : {F : Type 0} (key name : List ℕ) (read : Result (String Global) ReadFault) (text : String Global) (old after next : Texts) (added : Result (Unit {0}) Error) (q : Result (Option Refusal) F) (r : Option Refusal) → key ≡ name → read ≡ Ok text → next ≡ after → q ≡ Ok r → IsOfAdded added q
+    → after ≡ unless_refused added (with_text key (string_bytes text)) old → IfErr added (IsSyntaxErrorOf key old.syntax (string_bytes text))
+    → IfErr added (λ e. (fault_of e).kind ≡ syntax → (tree : Statements) → HasTree old.syntax (string_bytes text) tree → ⊥) → TakesRead name read old next
+read_taken key name read text old after next added q r same is ends was of_added put faulty none =
+    let takes = taken key (string_bytes text) old after added q r was of_added put faulty none in
+    let here = subst (λ e. TakesText key (string_bytes text) old e) (sym ends) takes in
+    subst (λ read. TakesRead name read old next) (sym is) (subst (λ key. TakesText key (string_bytes text) old next) same here)
+
+pub read_passed : (name : List ℕ) (read : Result (String Global) ReadFault) (fault : ReadFault) (old new : Texts) → read ≡ Err fault → new ≡ old → TakesRead name read old new
+read_passed name read fault old new is same = subst (λ read. TakesRead name read old new) (sym is) same
+
+pub file_taken : (file : FolderFile) (files rest : List FolderFile) (old next e : Texts) → files ≡ file ∷ rest → TakesRead (string_bytes file.name) file.read old next → TakesFiles rest next e → TakesFiles files old e
+file_taken file files rest old next e is takes others = subst (λ files. TakesFiles files old e) (sym is) (next, takes, others)
+
+pub none_taken : (files : List FolderFile) (e : Texts) → files ≡ [] → TakesFiles files e e
+none_taken files e is = subst (λ files. TakesFiles files e e) (sym is) refl
+
+pub taken_from : (files listed : List FolderFile) (old start e : Texts) → listed ≡ files → start ≡ old → TakesFiles listed start e → TakesFiles files old e
+taken_from files listed old start e same begun takes = subst (λ old. TakesFiles files old e) begun (subst (λ files. TakesFiles files start e) same takes)
+
+-- the template over the files
+pub page_put : (page : Option (Bor (List ℕ) × String Global)) (name : Bor (List ℕ)) (source : String Global) (folder e : Texts) → page ≡ Some (name, source) → e ≡ with_text name.now (string_bytes source) folder → e ≡ with_page page folder
+page_put page name source folder e there is = is ∙ ap (λ page. with_page page folder) (sym there)
+
+pub no_page : (page : Option (Bor (List ℕ) × String Global)) (folder e : Texts) → page ≡ None → e ≡ folder → e ≡ with_page page folder
+no_page page folder e none is = is ∙ ap (λ page. with_page page folder) (sym none)
+
+-- which is refused for its fault
+pub page_refused : (templates : Templates) (work : Work) (name : Bor (List ℕ)) (source : String Global) (folder : Texts) (e : Error) (r : Result ℕ Failure) → templates.page ≡ Some (name, source) → IsErrAnd r (λ f. f ≡ Fault e)
+    → IsSyntaxErrorOf name.now folder.syntax (string_bytes source) e → TakesFiles templates.files.items (html_engine templates.html) folder → IfErr r (RefusesWork templates work)
+page_refused templates work name source folder e (Ok status) there is faulty takes = absurd is
+page_refused templates work name source folder e (Err f) there is faulty takes =
+    let same = takes_syntax templates.files.items (html_engine templates.html) folder takes ∙ html_syntax templates.html in
+    let fault = subst (λ d. IsSyntaxErrorOf name.now d (string_bytes source) e) same faulty in
+    let said = subst (λ page. IsSomeAnd page (λ page. IsSyntaxErrorOf page.0.now default_delimiters (string_bytes page.1) e)) (sym there) fault in
+    subst (RefusesWork templates work) (sym is) (inr said)
+
+-- ---- of calls
+pub if_both : {A E : Type 0} (P Q : A → Type 0) (r : Result A E) → IfOk r P → IfOk r Q → IfOk r (λ a. P a × Q a)
+if_both P Q (Ok a) p q = (p, q)
+if_both P Q (Err e) p q = tt
+
+pub names_listed : (e e' : Texts) (name : List ℕ) (json : Bool) (status : ℕ) (old new : Option (List ℕ)) → e ≡ e' → ListsNames e name json status old new → ListsNames e' name json status old new
+names_listed e e' name json status old new is lists = subst (λ e. ListsNames e name json status old new) is lists
+
+pub nothing_sent : {F : Type 0} {P : ℕ → Type 0} (r : Result ℕ F) (old new : Option (List ℕ)) → IfOk r P → ((status : ℕ) → P status → new ≡ old) → OnErr r (new ≡ old) → new ≡ old
+nothing_sent (Ok status) old new done so failed = so status done
+nothing_sent (Err failure) old new done so failed = failed

@@ -1,0 +1,85 @@
+-- Texts that are refused, and texts that are right.
+use Rattle.std.proofs.Common.{arith, ◌≡◌, ◌⊎◌, ◌↔◌, ◌<◌, ◌≤◌, ◌==◌, ◌∙◌, ◌∷◌, [], length, ℕ, List, Bool, true, false, Bor, Contains, Option, Some, None, Result, Ok, Err, IfErr, refl, sym, ap, subst, inl, inr}
+use Rattle.std.proofs.lemmas.Bool.{eqb-true}
+use Rattle.upon_types.specs.Error.{fault_of}
+use Rattle.upon_types.specs.Fault.{syntax, out_of_memory, fault_with_name, OrMemory}
+use Rattle.upon_types.specs.Tree.{Statements}
+use Rattle.upon_types.specs.declared.error.Error.{Error}
+use Rattle.upon_language_spec.specs.Grammar.{HasTree}
+use Rattle.upon_language_spec.specs.Search.{DelimiterText}
+use Rattle.upon_meaning_spec.specs.Engine.{Table}
+use Rattle.upon_meaning_spec.specs.Includes.{Includes}
+use Rattle.upon_engine.specs.Changes.{unless_refused, with_text}
+use Rattle.upon_engine.specs.Faults.{IsSyntaxErrorOf}
+use Rattle.upon_engine.specs.Names.{texts}
+use Rattle.upon_engine.specs.Texts.{Texts}
+use Rattle.upon_tool.specs.Library.{IsOfAdded}
+use Rattle.upon_tool.specs.Missing.{is_missing, IsRight}
+use Rattle.upon_tool.specs.Status.{is_memory, is_memory_kind}
+use Rattle.upon_tool.specs.Filled.{TakesText}
+use Rattle.upon_tool.specs.declared.library.Refusal.{Refusal}
+use Rattle.upon_tool.proofs.Statuses.{no_success}
+
+not_memory : (e : Error) → is_memory e ≡ false → fault_of e ≡ out_of_memory → ⊥
+not_memory e is out = let no : true ≡ false = sym (ap (λ f. is_memory_kind f.kind) out) ∙ is in absurd cc
+
+-- a text was added, or is refused for its fault
+pub taken : {F : Type 0} (name text : List ℕ) (old new : Texts) (added : Result (Unit {0}) Error) (q : Result (Option Refusal) F) (r : Option Refusal) → q ≡ Ok r → IsOfAdded added q
+    → new ≡ unless_refused added (with_text name text) old → IfErr added (IsSyntaxErrorOf name old.syntax text)
+    → IfErr added (λ e. (fault_of e).kind ≡ syntax → (tree : Statements) → HasTree old.syntax text tree → ⊥) → TakesText name text old new
+taken name text old new (Ok u) q r was of_added is faulty none = inl is
+taken name text old new (Err e) q None was of_added is faulty none = absurd (subst (IsOfAdded {A = Unit {0}} (Err e)) was of_added)
+taken name text old new (Err e) q (Some refusal) was of_added is (inl out) none = absurd (not_memory e (subst (IsOfAdded {A = Unit {0}} (Err e)) was of_added).1 out)
+taken name text old new (Err e) q (Some refusal) was of_added is (inr first) none = inr (none (ap (λ f. f.kind) first.3), is)
+
+-- ---- a text is checked
+-- it is refused for its fault, and then it is not right
+pub not_compiled : (delimiters : List DelimiterText) (table : Table) (name text : List ℕ) (e named : Error) {First : Type 0} → is_memory named ≡ false → OrMemory (fault_with_name name (fault_of e)) (fault_of named) → (fault_of e ≡ out_of_memory) ⊎ First
+    → ((fault_of e).kind ≡ syntax → (tree : Statements) → HasTree delimiters text tree → ⊥) → (First → (fault_of e).kind ≡ syntax) → (false ≡ true) ↔ IsRight delimiters table name text
+not_compiled delimiters table name text e named is (inr out) faulty none kind = absurd (not_memory named is out)
+not_compiled delimiters table name text e named is (inl same) (inl out) none kind =
+    let no : true ≡ false = sym (ap (λ f. is_memory_kind f.kind) (same ∙ ap (fault_with_name name) out)) ∙ is in absurd cc
+not_compiled delimiters table name text e named is (inl same) (inr first) none kind =
+    (λ no. absurd cc, λ right. absurd (none (kind first) right.0 right.1))
+
+no_member : (name : List ℕ) → Contains [] name → ⊥
+no_member name c = let inside : c.0 < 0 = c.1 in omega arith
+
+unmissed : (b : Bool) → (b ≡ true → ⊥) → b ≡ false
+unmissed true never = absurd (never refl)
+unmissed false never = refl
+
+no_names : (items : List (Bor (List ℕ))) (n : ℕ) → n ≡ length items → (n == 0) ≡ true → texts items ≡ []
+no_names [] n len is = refl
+no_names (item ∷ items) n len is =
+    let none : n ≡ 0 = eqb-true n 0 is in
+    absurd (no_success n (subst (λ n. 1 ≤ n) (sym len) (omega arith)) none)
+
+-- no include names nothing
+none_missing : (delimiters : List DelimiterText) (table : Table) (own text : List ℕ) (tree : Statements) (names : List (List ℕ)) → names ≡ [] → HasTree delimiters text tree
+    → ((name : List ℕ) → Contains names name ↔ (Includes name tree × (is_missing own table name ≡ true))) → (true ≡ true) ↔ IsRight delimiters table own text
+none_missing delimiters table own text tree names no_name has each =
+    (λ e. (tree, has, λ name included. unmissed (is_missing own table name) (λ is. no_member name (subst (λ names. Contains names name) no_name ((each name).1 (included, is))))), λ right. refl)
+
+pub no_name_missing : (delimiters : List DelimiterText) (table : Table) (own text : List ℕ) (tree : Statements) (items : List (Bor (List ℕ))) (n : ℕ) → n ≡ length items → (n == 0) ≡ true → HasTree delimiters text tree
+    → ((name : List ℕ) → Contains (texts items) name ↔ (Includes name tree × (is_missing own table name ≡ true))) → (true ≡ true) ↔ IsRight delimiters table own text
+no_name_missing delimiters table own text tree items n len is has each =
+    none_missing delimiters table own text tree (texts items) (no_names items n len is) has each
+
+-- one does
+one_missing : (delimiters : List DelimiterText) (table : Table) (own text : List ℕ) (tree : Statements) (name : List ℕ) (names : List (List ℕ)) → ((other : Statements) → HasTree delimiters text other → other ≡ tree)
+    → ((other : List ℕ) → Contains (name ∷ names) other ↔ (Includes other tree × (is_missing own table other ≡ true))) → (false ≡ true) ↔ IsRight delimiters table own text
+one_missing delimiters table own text tree name names only each =
+    let here = (each name).0 (0, omega arith, refl) in (
+      λ e. absurd cc,
+      λ right.
+          let is : true ≡ false = sym here.1 ∙ right.2 name (subst (Includes name) (sym (only right.0 right.1)) here.0) in absurd cc,
+    )
+
+pub some_missing : (delimiters : List DelimiterText) (table : Table) (own text : List ℕ) (tree : Statements) (items : List (Bor (List ℕ))) (n : ℕ) → n ≡ length items → (n == 0) ≡ false
+    → ((other : Statements) → HasTree delimiters text other → other ≡ tree)
+    → ((other : List ℕ) → Contains (texts items) other ↔ (Includes other tree × (is_missing own table other ≡ true))) → (false ≡ true) ↔ IsRight delimiters table own text
+some_missing delimiters table own text tree [] n len is only each =
+    let no : true ≡ false = sym (ap (λ n. n == 0) len) ∙ is in absurd cc
+some_missing delimiters table own text tree (item ∷ items) n len is only each =
+    one_missing delimiters table own text tree item.now (texts items) only each

@@ -1,0 +1,20 @@
+use Rattle.std.proofs.Common.{string_bytes}
+use Rattle.std.proofs.lemmas.Result.{IfOk-weaker}
+use Rattle.upon_tool.proofs.Calls.{unread_included}
+use Rattle.upon_tool.proofs.Filled.{names_listed}
+use Rattle.upon_tool.proofs.program.run_names.Goals as goal
+
+pub returns-in_err-files-clause-refused : goal.returns-in_err-files-clause-refused
+returns-in_err-files-clause-refused g c =
+    unread_included c.args.call.now (g.I.Read.remaining c.args.input.now) c.in_err-files.field-0.0 c.from_residual-in_err-files.result c.from_residual-in_err-files.ensures.1 c.in_err-files.ensures.unread
+
+pub returns-clause-ends : goal.returns-clause-ends
+returns-clause-ends g c = IfOk-weaker c.carry_out.result _ _ (λ status said. record {
+  text = string_bytes c.in_ok-source.source;
+  files = c.in_ok-files.files.items;
+  folder = said.1.0;
+  read = c.in_ok-source.ensures.text;
+  no_folder = c.in_ok-files.ensures.none;
+  taken = said.1.1;
+  listed = names_listed said.0 _ _ _ status _ _ said.1.2 said.3;
+}) c.carry_out.ensures.ends

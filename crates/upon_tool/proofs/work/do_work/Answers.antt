@@ -1,0 +1,10 @@
+use Rattle.std.proofs.Common.{IfErr, sym, subst}
+use Rattle.upon_tool.specs.Work.{checked_files, IsUnreadOf}
+use Rattle.upon_tool.proofs.Filled.{work_listed}
+use Rattle.upon_tool.proofs.work.do_work.Goals as goal
+
+pub returns-in-Names-clause-ends : goal.returns-in-Names-clause-ends
+returns-in-Names-clause-ends g c = work_listed c.args.work c.in-Names.name c.in-Names.json _ _ c.list.result _ _ c.in-Names.is c.list.ensures.lists
+
+pub returns-in-Check-clause-refused : goal.returns-in-Check-clause-refused
+returns-in-Check-clause-refused g c = subst (λ work. IfErr c.check_all.result (IsUnreadOf (checked_files work))) (sym c.in-Check.is) c.check_all.ensures.refused

@@ -1,0 +1,51 @@
+-- What an engine holds as it is filled: its formatters, the files of a folder, and a template.
+use Rattle.std.specs.Prelude.{◌≡◌, ◌⊎◌, ℕ, List, [], ◌∷◌, Bool, if◌then◌else◌, codes, Option, Some, None, Result, Ok, Err, String, string_bytes}
+use Rattle.std.specs.Borrow.{Bor}
+use Rattle.std.specs.declared.alloc.Global.{Global}
+use Rattle.upon_types.specs.Answers.{formatter}
+use Rattle.upon_types.specs.Tree.{Statements}
+use Rattle.upon_language_spec.specs.Grammar.{HasTree}
+use Rattle.upon_meaning_spec.specs.DefaultFormat.{default_format}
+use Rattle.upon_engine.specs.Changes.{empty_engine, with_callable, with_default_formatter, with_text}
+use Rattle.upon_engine.specs.Texts.{Stored, Texts}
+use Rattle.upon_html.specs.Escaped.{escaped}
+use Rattle.upon_tool_io.specs.declared.files.ReadFault.{ReadFault}
+use Rattle.upon_tool.specs.declared.sources.FolderFile.{FolderFile}
+use Rattle.upon_tool.specs.declared.work.Templates.{Templates}
+
+-- what an engine holds before its templates: with `--html` the formatter that escapes, and `verbatim`
+abbrev pub html_engine : Bool → Texts
+html_engine html = if html
+    then with_default_formatter escaped (with_callable (codes "verbatim") (formatter default_format) empty_engine)
+    else empty_engine
+
+-- a text is held under a name, or it has no tree and nothing changes
+abbrev pub TakesText : List ℕ → List ℕ → Texts → Texts → Type 0
+TakesText name text old new =
+    (new ≡ with_text name text old) ⊎ (((tree : Statements) → HasTree old.syntax text tree → ⊥) × (new ≡ old))
+
+-- what was read is taken, if it is a text
+abbrev pub TakesRead : List ℕ → Result (String Global) ReadFault → Texts → Texts → Type 0
+TakesRead name (Ok text) old new = TakesText name (string_bytes text) old new
+TakesRead name (Err fault) old new = new ≡ old
+
+-- the files of a folder are taken, one after the other
+abbrev pub TakesFiles : List FolderFile → Texts → Texts → Type 0
+TakesFiles [] old new = new ≡ old
+TakesFiles (file ∷ files) old new =
+    (next : Texts) × TakesRead (string_bytes file.name) file.read old next × TakesFiles files next new
+
+-- with a template under its name, if one is given
+abbrev pub with_page : Option (Bor (List ℕ) × String Global) → Texts → Texts
+with_page None e = e
+with_page (Some page) e = with_text page.0.now (string_bytes page.1) e
+
+-- an engine holds the files of a folder, and then a template in place of one of its name
+abbrev pub Fills : Templates → Texts → Type 0
+Fills templates e = (folder : Texts) × TakesFiles templates.files.items (html_engine templates.html) folder
+    × (e ≡ with_page templates.page folder)
+
+-- each text that is held has a tree
+abbrev pub EachHasTree : Texts → Type 0
+EachHasTree e = (name : List ℕ) (held : Stored) → e.texts name ≡ Some held
+    → (tree : Statements) × ∥ HasTree held.syntax held.text tree ∥₁
