@@ -3,7 +3,9 @@
    COUNT=FILE writes to FILE how many calls there were.
    USED_UP=FILE refuses a call of half a tebibyte, by which a test asks whether memory can be used up (`Hoard` of
    upon_callable_tests), and then all that does not fit in what was given back since, until the last large block before
-   it is given back. It writes to FILE how many calls that refused, the first one aside. */
+   it is given back. It writes to FILE how many calls that refused, the first one aside.
+   MODE=FILE writes to FILE the permissions that a file has before its own are set, as an octal number; with REFUSE_MODE
+   set they can't be set. */
 #define _GNU_SOURCE
 #include <dlfcn.h>
 #include <errno.h>
@@ -11,6 +13,7 @@
 #include <malloc.h>
 #include <stdio.h>
 #include <stdlib.h>
+#include <sys/stat.h>
 #include <unistd.h>
 
 static long calls, refused;
@@ -96,17 +99,32 @@ void free(void *block) {
     if (next_free) next_free(block);
 }
 
-/* Writes a number to the file that a variable names, if it is set. */
-static void write_number(const char *variable, long number) {
+/* Writes a number to the file that a variable names, if it is set, in this form. */
+static void write_as(const char *form, const char *variable, long number) {
     const char *name = getenv(variable);
     char text[32];
     int length, file;
     if (!name) return;
-    length = snprintf(text, sizeof text, "%ld\n", number);
+    length = snprintf(text, sizeof text, form, number);
     file = open(name, O_WRONLY | O_CREAT | O_TRUNC, 0600);
     if (file < 0) return;
     if (write(file, text, length) < 0) _exit(1);
     close(file);
+}
+
+static void write_number(const char *variable, long number) {
+    write_as("%ld\n", variable, number);
+}
+
+int fchmod(int file, mode_t mode) {
+    int (*next_fchmod)(int, mode_t) = dlsym(RTLD_NEXT, "fchmod");
+    struct stat found;
+    if (fstat(file, &found) == 0) write_as("%lo\n", "MODE", found.st_mode & 07777);
+    if (getenv("REFUSE_MODE")) {
+        errno = EPERM;
+        return -1;
+    }
+    return next_fchmod(file, mode);
 }
 
 __attribute__((destructor)) static void write_count(void) {
