@@ -3,10 +3,10 @@ use Rattle.std.proofs.Common.{◌≡◌, ℕ, ◌+◌, List, [], ◌∷◌, ◌+
 use Rattle.std.specs.Prelude.{slice_set}
 use Rattle.std.proofs.Math.Seq.{set-append_seam}
 use Rattle.upon_types.specs.declared.types.Span.{Span}
-use Rattle.upon_types.specs.Path.{Ident, LoopVars}
+use Rattle.upon_types.specs.Path.{LoopVars}
 use Rattle.upon_types.specs.Tree.{Statement, Statements, statement_then, no_else, otherwise}
-use Rattle.upon_machine_spec.specs.Instr.{Instr, jump, loop_start, loop_else, loop_next, with_start, with_end}
-use Rattle.upon_machine_spec.specs.Code.{statement_code, statements_code, jump_unless, if_code, turns, for_code, with_code}
+use Rattle.upon_machine_spec.specs.Instr.{Instr, jump, loop_start, loop_else, loop_next}
+use Rattle.upon_machine_spec.specs.Code.{statement_code, statements_code, jump_unless, if_code, turns, for_code}
 
 -- what comes after the instructions of a value
 pub after_value : (base value code all : List Instr) (rest : ℕ → List Instr) → code ≡ base ++ value → all ≡ code ++ rest (length code)
@@ -141,14 +141,3 @@ loop_otherwise base c1 c2 c3 c4 c5 c6 names at body other none next from end is1
     ∙ append_assoc c1 (away ∷ []) (loop_next past ∷ (round ++ outer))
     ∙ ap (λ c. c ++ away ∷ loop_next past ∷ (round ++ outer)) is1
     ∙ append_assoc base (start ∷ []) (away ∷ loop_next past ∷ (round ++ outer))
-
--- a `with`
-pub whole_with : (base c1 c2 c3 : List Instr) (word : Ident) (body : Statements)
-    → c1 ≡ base ++ with_start word ∷ [] → c2 ≡ c1 ++ statements_code (length c1) body → c3 ≡ c2 ++ with_end ∷ []
-    → c3 ≡ base ++ with_code word (statements_code (length base + 1) body)
-whole_with base c1 c2 c3 word body is1 is2 is3 =
-    let inner = statements_code (length base + 1) body in
-    let k1 : length c1 ≡ length base + 1 = omega (arith, ap length is1, length-append base (with_start word ∷ [])) in
-    is3
-    ∙ ap (λ c. c ++ with_end ∷ []) (is2 ∙ ap (λ n. c1 ++ statements_code n body) k1 ∙ ap (λ c. c ++ inner) is1 ∙ append_assoc base (with_start word ∷ []) inner)
-    ∙ append_assoc base (with_start word ∷ inner) (with_end ∷ [])

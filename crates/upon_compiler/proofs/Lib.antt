@@ -1,2 +1,6 @@
+mod Branches
 mod Jumps
+mod Opened
+mod Parts
 mod Rows
+mod Steps

@@ -1,5 +1,5 @@
--- Arguments, one after the other, and the cases of an `if`.
-use Rattle.std.proofs.Common.{◌≡◌, suc, List, [], ◌∷◌, ◌++◌, length, Option, Some, None, refl, ap, ◌∙◌, append_assoc}
+-- Arguments, one after the other, and the cases of an `if` and a `for`.
+use Rattle.std.proofs.Common.{◌≡◌, suc, List, [], ◌∷◌, length, Option, Some, None, refl, ap, ◌∙◌}
 use Rattle.upon_types.proofs.Trees.{arguments_of-out, for_of-out, if_of-out}
 use Rattle.upon_types.specs.Ast.{for_of, if_of, else_of, scope_of}
 use Rattle.upon_types.specs.AstExpression.{bases_of, expression_of, maybe_arguments_of}
@@ -14,7 +14,6 @@ use Rattle.upon_types.specs.declared.types.ast.expression.Args.{Args}
 use Rattle.upon_types.specs.declared.types.ast.expression.BaseExpr.{BaseExpr}
 use Rattle.upon_types.specs.declared.types.ast.expression.BaseExpr.TheViews.{out-Args}
 use Rattle.upon_machine_spec.specs.Code.{count_bases}
-use Rattle.upon_machine_spec.specs.Instr.{Instr}
 
 -- there are as many values as expressions
 pub count_bases-of : (bs : List BaseExpr) → count_bases (bases_of bs) ≡ length bs
@@ -53,11 +52,3 @@ pub for_of-some : (f : ForLoop) (other : Scope) → (out-ForLoop f).else_branch 
 for_of-some f other is =
     for_of-out f
     ∙ ap (λ o. for_loop (loop_vars_of (out-ForLoop f).vars) (expression_of (out-ForLoop f).iterable) (scope_of (out-ForLoop f).body) (else_of o)) is
-
--- the operands of a filter, and then what applies it
-pub filter_part : (old c1 c2 receiver args : List Instr) (last : Instr) → c1 ≡ old ++ receiver → c2 ≡ c1 ++ args
-    → c2 ++ last ∷ [] ≡ old ++ (receiver ++ (args ++ last ∷ []))
-filter_part old c1 c2 receiver args last is1 is2 =
-    ap (λ c. c ++ last ∷ []) (is2 ∙ ap (λ c. c ++ args) is1)
-    ∙ append_assoc (old ++ receiver) args (last ∷ [])
-    ∙ append_assoc old receiver (args ++ last ∷ [])

@@ -1,2 +1,4 @@
 pub mod Compiler
-pub mod Application
+pub mod Parts
+pub mod Branches
+pub mod Steps

@@ -14,6 +14,7 @@ use upon_types::types::ast::Template;
 /// A compiler, with the instructions so far.
 #[derive(Drop)]
 pub struct Compiler {
+    alloc: Global,
     instrs: Vec<Instr>,
 }
 
@@ -25,6 +26,7 @@ impl Compiler {
         ensures { code_of result ≡ [] }
     {
         Compiler {
+            alloc,
             instrs: Vec::new(alloc),
         }
     }
@@ -36,7 +38,7 @@ impl Compiler {
     {
         let mut compiler = self;
         compiler.compile_scope(template.scope)?;
-        let Compiler { instrs } = compiler;
+        let Compiler { instrs, .. } = compiler;
         Ok(instrs)
     }
 

@@ -1,154 +1,221 @@
-// The instructions of expressions.
-ghost use Rattle.std.specs.Prelude.{◌≡◌, ◌+◌, ◌++◌, ◌<◌, ◌^◌, [], ◌∷◌, IfOk, OnOk};
-ghost use Rattle.upon_machine_spec.specs.Code.{arguments_code, base_code, base_emission_code, count, emission_code, expression_code};
-ghost use Rattle.upon_types.specs.AstExpression.{base_of, call_of, expression_of, filter_of, list_of, map_of, maybe_arguments_of};
+// The instructions of expressions, without recursion: what is left to append is on a stack. Names and literals need none.
+ghost use Rattle.std.specs.Prelude.{◌≡◌, ◌++◌, ◌<◌, ◌+◌, ◌^◌, OnOk, suc, [], ◌∷◌};
+ghost use Rattle.upon_machine_spec.specs.Code.{arguments_code, base_code, count, emission_code, expression_code};
+ghost use Rattle.upon_types.specs.AstExpression.{base_of, expression_of, maybe_arguments_of};
+ghost use Rattle.upon_compiler.specs.Parts.{Puts, arguments_size, part_code, part_size};
 
 use super::Compiler;
 use std::alloc::AllocError;
+use std::vec::IntoIter;
 use upon_instructions::types::program::Instr;
-use upon_types::types::Span;
-use upon_types::types::ast::{Args, BaseExpr, Call, Expr, Filter, Ident, List, Map};
+use upon_types::types::ast::{Args, BaseExpr, Call, Expr, Filter, String};
 
-/// What is applied to the operands on top: its name, how many there are, and where the whole is.
+/// A part of an expression whose instructions are not there yet.
 #[derive(Drop)]
-pub struct Application {
-    name: Ident,
-    count: usize,
-    span: Span,
+enum Part {
+    /// What leaves the value of an expression.
+    Value(Expr),
+    /// What shows an expression: its outermost call or filter is shown where it is applied.
+    Shown(Expr),
+    /// What leaves the values of the arguments that are left.
+    Args(IntoIter<BaseExpr>),
+    /// What puts the items that are left into the list on top.
+    Items(IntoIter<BaseExpr>),
+    /// What puts the entries that are left into the map on top.
+    Entries(IntoIter<(String, BaseExpr)>),
+    /// An instruction.
+    Last(Instr),
+}
+
+/// How many arguments there are.
+fn count(args: &Option<Args>) -> usize
+    ensures same { result ≡ count (maybe_arguments_of args.now) }
+    ensures small { result + 1 < 2 ^ 64 }
+{
+    match args {
+        None => 0,
+        Some(args) => args.values.len(),
+    }
+}
+
+/// Puts a part on the stack.
+fn put(part: Part, left: &mut Vec<Part>) -> Result<(), AllocError>
+    ensures { OnOk result (Puts (part_code part) (part_size part) left.old.items left.new.items) }
+{
+    left.push(part)?;
+    Ok(())
+}
+
+/// Puts arguments on the stack, if there are some.
+fn put_args(args: Option<Args>, left: &mut Vec<Part>) -> Result<(), AllocError>
+    ensures { OnOk result (Puts (arguments_code (maybe_arguments_of args)) (arguments_size (maybe_arguments_of args))
+        left.old.items left.new.items) }
+{
+    let Some(args) = args else {
+        return Ok(());
+    };
+    put(Part::Args(args.values.into_iter()), left)
 }
 
 impl Compiler {
     ghost use Rattle.upon_compiler.specs.Compiler.{code_of};
-    ghost use Rattle.upon_compiler.specs.Application.{Lacks, LacksBase};
+    ghost use Rattle.upon_compiler.specs.Parts.{Begins, base_size, expression_size, parts_code};
 
     /// Appends the instructions that leave the value of an expression.
-    #[cycle(expression)]
     pub fn compile_expr(&mut self, expr: Expr) -> Result<(), AllocError>
         ensures { OnOk result (code_of self.new ≡ code_of self.old ++ expression_code (expression_of expr)) }
     {
         match expr {
-            Expr::Base(base) => self.compile_base_expr(base),
-            Expr::Filter(filter) => {
-                let applied = self.compile_filter(filter)?;
-                self.push(Instr::Apply(applied.name, applied.count, applied.span))
+            Expr::Base(BaseExpr::Var(var)) => self.push(Instr::ExprStartVar(var)),
+            Expr::Base(BaseExpr::Literal(literal)) => self.push(Instr::ExprStartLiteral(literal)),
+            expr => {
+                let mut left = Vec::new(self.alloc);
+                self.compile_value(expr, &mut left)?;
+                self.compile_parts(left)
             }
         }
-    }
-
-    /// Appends the instructions that leave the value of an expression without a filter.
-    #[cycle(expression)]
-    fn compile_base_expr(&mut self, base: BaseExpr) -> Result<(), AllocError>
-        ensures { OnOk result (code_of self.new ≡ code_of self.old ++ base_code (base_of base)) }
-    {
-        match base {
-            BaseExpr::Var(var) => self.push(Instr::ExprStartVar(var)),
-            BaseExpr::Literal(literal) => self.push(Instr::ExprStartLiteral(literal)),
-            BaseExpr::List(list) => self.compile_list(list),
-            BaseExpr::Map(map) => self.compile_map(map),
-            BaseExpr::Paren(paren) => self.compile_expr(Box::into_inner(paren.expr)),
-            BaseExpr::Call(call) => {
-                let applied = self.compile_call(call)?;
-                self.push(Instr::Apply(applied.name, applied.count, applied.span))
-            }
-        }
-    }
-
-    /// Appends the instructions of a filter, but for the last, which applies it.
-    #[cycle(expression)]
-    fn compile_filter(&mut self, filter: Filter) -> Result<Application, AllocError>
-        ensures { IfOk result (λ applied. Lacks applied (filter_of filter) (code_of self.old) (code_of self.new)) }
-    {
-        let Filter {
-            name,
-            args,
-            receiver,
-            span,
-        } = filter;
-        self.compile_expr(Box::into_inner(receiver))?;
-        let count = self.compile_args(args)? + 1;
-        Ok(Application { name, count, span })
-    }
-
-    /// Appends the instructions of a call, but for the last, which applies the function.
-    #[cycle(expression)]
-    fn compile_call(&mut self, call: Call) -> Result<Application, AllocError>
-        ensures { IfOk result (λ applied. LacksBase applied (call_of call) (code_of self.old) (code_of self.new)) }
-    {
-        let Call { name, args, span } = call;
-        let count = self.compile_args(args)?;
-        Ok(Application { name, count, span })
-    }
-
-    /// Appends the instructions that leave the values of arguments, and returns how many these are.
-    #[cycle(expression)]
-    fn compile_args(&mut self, args: Option<Args>) -> Result<usize, AllocError>
-        ensures count { IfOk result (λ n. (n ≡ count (maybe_arguments_of args)) × (n + 1 < 2 ^ 64)) }
-        ensures code { OnOk result (code_of self.new ≡ code_of self.old ++ arguments_code (maybe_arguments_of args)) }
-    {
-        let Some(args) = args else {
-            return Ok(0);
-        };
-        let count = args.values.len();
-        for value in args.values {
-            self.compile_base_expr(value)?;
-        }
-        Ok(count)
-    }
-
-    /// Appends the instructions that leave a list.
-    #[cycle(expression)]
-    fn compile_list(&mut self, list: List) -> Result<(), AllocError>
-        ensures { OnOk result (code_of self.new ≡ code_of self.old ++ base_code (list_of list)) }
-    {
-        self.push(Instr::ExprStartList(list.span))?;
-        for item in list.items {
-            self.compile_base_expr(item)?;
-            self.push(Instr::ExprListPush)?;
-        }
-        Ok(())
-    }
-
-    /// Appends the instructions that leave a map.
-    #[cycle(expression)]
-    fn compile_map(&mut self, map: Map) -> Result<(), AllocError>
-        ensures { OnOk result (code_of self.new ≡ code_of self.old ++ base_code (map_of map)) }
-    {
-        self.push(Instr::ExprStartMap(map.span))?;
-        for (key, value) in map.items {
-            self.compile_base_expr(value)?;
-            self.push(Instr::ExprMapInsert(key))?;
-        }
-        Ok(())
     }
 
     /// Appends the instructions that show an expression: its outermost call or filter is shown where it is applied.
-    #[cycle(emission)]
     pub fn compile_emission(&mut self, expr: Expr) -> Result<(), AllocError>
         ensures { OnOk result (code_of self.new ≡ code_of self.old ++ emission_code (expression_of expr)) }
     {
         match expr {
-            Expr::Base(base) => self.compile_base_emission(base),
-            Expr::Filter(filter) => {
-                let applied = self.compile_filter(filter)?;
-                self.push(Instr::EmitWith(applied.name, applied.count, applied.span))
+            Expr::Base(BaseExpr::Var(var)) => {
+                self.push(Instr::ExprStartVar(var))?;
+                self.push(Instr::Emit)
+            }
+            expr => {
+                let mut left = Vec::new(self.alloc);
+                self.compile_shown(expr, &mut left)?;
+                self.compile_parts(left)
             }
         }
     }
 
-    /// Appends the instructions that show an expression without a filter.
-    #[cycle(emission)]
-    fn compile_base_emission(&mut self, base: BaseExpr) -> Result<(), AllocError>
-        ensures { OnOk result (code_of self.new ≡ code_of self.old ++ base_emission_code (base_of base)) }
+    /// Appends the instructions of parts, the last one's first.
+    fn compile_parts(&mut self, mut left: Vec<Part>) -> Result<(), AllocError>
+        ensures { OnOk result (code_of self.new ≡ code_of self.old ++ parts_code left.items) }
+    {
+        while let Some(part) = left.pop() {
+            self.compile_part(part, &mut left)?;
+        }
+        Ok(())
+    }
+
+    /// Appends the first instructions of a part, and puts what is left of it on the stack.
+    fn compile_part(&mut self, part: Part, left: &mut Vec<Part>) -> Result<(), AllocError>
+        ensures { OnOk result (Begins (part_code part) (part_size part)
+            (code_of self.old) (code_of self.new) left.old.items left.new.items) }
+    {
+        match part {
+            Part::Value(expr) => self.compile_value(expr, left),
+            Part::Shown(expr) => self.compile_shown(expr, left),
+            Part::Args(mut values) => {
+                let Some(value) = values.next() else {
+                    return Ok(());
+                };
+                put(Part::Args(values), left)?;
+                self.compile_base_expr(value, left)
+            }
+            Part::Items(mut items) => {
+                let Some(item) = items.next() else {
+                    return Ok(());
+                };
+                put(Part::Items(items), left)?;
+                put(Part::Last(Instr::ExprListPush), left)?;
+                self.compile_base_expr(item, left)
+            }
+            Part::Entries(mut entries) => {
+                let Some((key, value)) = entries.next() else {
+                    return Ok(());
+                };
+                put(Part::Entries(entries), left)?;
+                put(Part::Last(Instr::ExprMapInsert(key)), left)?;
+                self.compile_base_expr(value, left)
+            }
+            Part::Last(instr) => self.push(instr),
+        }
+    }
+
+    /// Appends the first instructions that leave the value of an expression.
+    fn compile_value(&mut self, expr: Expr, left: &mut Vec<Part>) -> Result<(), AllocError>
+        ensures { OnOk result (Begins (expression_code (expression_of expr)) (expression_size (expression_of expr))
+            (code_of self.old) (code_of self.new) left.old.items left.new.items) }
+    {
+        match expr {
+            Expr::Base(base) => self.compile_base_expr(base, left),
+            Expr::Filter(filter) => {
+                let Filter {
+                    name,
+                    args,
+                    receiver,
+                    span,
+                } = filter;
+                let count = count(&args) + 1;
+                put(Part::Last(Instr::Apply(name, count, span)), left)?;
+                put_args(args, left)?;
+                put(Part::Value(Box::into_inner(receiver)), left)
+            }
+        }
+    }
+
+    /// Appends the first instructions that leave the value of an expression without a filter.
+    fn compile_base_expr(&mut self, base: BaseExpr, left: &mut Vec<Part>) -> Result<(), AllocError>
+        ensures { OnOk result (Begins (base_code (base_of base)) (base_size (base_of base))
+            (code_of self.old) (code_of self.new) left.old.items left.new.items) }
     {
         match base {
-            BaseExpr::Paren(paren) => self.compile_emission(Box::into_inner(paren.expr)),
-            BaseExpr::Call(call) => {
-                let applied = self.compile_call(call)?;
-                self.push(Instr::EmitWith(applied.name, applied.count, applied.span))
+            BaseExpr::Var(var) => self.push(Instr::ExprStartVar(var)),
+            BaseExpr::Literal(literal) => self.push(Instr::ExprStartLiteral(literal)),
+            BaseExpr::List(list) => {
+                self.push(Instr::ExprStartList(list.span))?;
+                put(Part::Items(list.items.into_iter()), left)
             }
-            base => {
-                self.compile_base_expr(base)?;
-                self.push(Instr::Emit)
+            BaseExpr::Map(map) => {
+                self.push(Instr::ExprStartMap(map.span))?;
+                put(Part::Entries(map.items.into_iter()), left)
+            }
+            BaseExpr::Paren(paren) => put(Part::Value(Box::into_inner(paren.expr)), left),
+            BaseExpr::Call(call) => {
+                let Call { name, args, span } = call;
+                let count = count(&args);
+                put(Part::Last(Instr::Apply(name, count, span)), left)?;
+                put_args(args, left)
+            }
+        }
+    }
+
+    /// Appends the first instructions that show an expression.
+    fn compile_shown(&mut self, expr: Expr, left: &mut Vec<Part>) -> Result<(), AllocError>
+        ensures { OnOk result (Begins (emission_code (expression_of expr)) (expression_size (expression_of expr))
+            (code_of self.old) (code_of self.new) left.old.items left.new.items) }
+    {
+        match expr {
+            Expr::Base(BaseExpr::Paren(paren)) => {
+                put(Part::Shown(Box::into_inner(paren.expr)), left)
+            }
+            Expr::Base(BaseExpr::Call(call)) => {
+                let Call { name, args, span } = call;
+                let count = count(&args);
+                put(Part::Last(Instr::EmitWith(name, count, span)), left)?;
+                put_args(args, left)
+            }
+            Expr::Base(base) => {
+                put(Part::Last(Instr::Emit), left)?;
+                self.compile_base_expr(base, left)
+            }
+            Expr::Filter(filter) => {
+                let Filter {
+                    name,
+                    args,
+                    receiver,
+                    span,
+                } = filter;
+                let count = count(&args) + 1;
+                put(Part::Last(Instr::EmitWith(name, count, span)), left)?;
+                put_args(args, left)?;
+                put(Part::Value(Box::into_inner(receiver)), left)
             }
         }
     }
