@@ -1,9 +1,8 @@
 -- Which templates begin such a path: among some names, and along a loop over them.
-use Rattle.std.proofs.Common.{◌≡◌, ◌⊎◌, ◌↔◌, ◌<◌, ◌+◌, ◌||◌, ◌∷◌, ◌++◌, [], ℕ, List, take, length, get_or, Option, Some, None, Bool, true, false, not, is_some, option_map, String, Contains, Bor, bytes_eq, inl, inr, refl, sym, ap, ◌∙◌, subst}
+use Rattle.std.proofs.Common.{◌≡◌, ◌⊎◌, ◌↔◌, ◌||◌, ◌∷◌, ◌++◌, [], ℕ, List, Option, Some, None, Bool, true, false, not, is_some, String, Contains, Bor, bytes_eq, inl, inr, refl, sym, ap, ◌∙◌, subst}
 use Rattle.std.specs.BTreeMap.{BTreeMap}
 use Rattle.std.specs.BTreeSet.{BTreeSet}
 use Rattle.std.specs.List.{list_any}
-use Rattle.std.proofs.lemmas.List.{take_more}
 use Rattle.upon_types.specs.Tree.{Statements}
 use Rattle.upon_meaning_spec.specs.Engine.{Table, Template}
 use Rattle.upon_meaning_spec.specs.Includes.{Reaches}
@@ -14,11 +13,10 @@ use Rattle.upon_engine.specs.EngineNeeds.{table_in, start_of, HeldBegins, OneBeg
 use Rattle.upon_engine.specs.Names.{texts, has}
 use Rattle.upon_engine.specs.Template.{template_of, template_tree}
 use Rattle.upon_engine.specs.declared.template.Template.{Template as Held}
-use Rattle.upon_engine.specs.declared.needs.Links.TheVariants.{All, Passing}
+use Rattle.upon_engine.specs.declared.needs.Links.TheVariants.{All, Passing, Free}
 use Rattle.upon_engine.specs.declared.starts.PathStart.{PathStart}
 use Rattle.upon_engine.specs.declared.starts.PathStart.TheVariants.{Name}
-use Rattle.upon_engine.proofs.Links.{either_true, first_true, second_true, linked_reached, passed_reached, needs_begun}
-use Rattle.upon_engine.proofs.NeededNames.{Chosen}
+use Rattle.upon_engine.proofs.Links.{either_true, first_true, second_true, linked_reached, passed_reached, needs_begun, begun_needed}
 use Rattle.upon_engine.proofs.SearchSteps.{lists_last, lists_before, before_or_last}
 use Rattle.upon_engine.proofs.SetsOfNames.{has_listed, listed_contains}
 
@@ -171,6 +169,18 @@ needed_all table tree reached begun all so names same name = (
   λ w. ((same name).0 w).1,
   λ h. (same name).1 (needed_begun table tree reached begun all so (record { ref_ptr = (0, 0); now = name }) h, h),
 )
+
+-- what begins in the tree, or in templates that a search has seen which pass every path, is needed
+pub surely : (table : Table) (tree : Statements) (seen begun : BTreeSet (Bor (List ℕ))) (reached : List (Bor (List ℕ))) → ((name : List ℕ) → (has seen name ≡ true) ↔ Linked table Free tree name) → ((name : List ℕ) → Contains (texts reached) name ↔ (has seen name ≡ true)) → BegunIn table tree begun reached → (name : List ℕ) → has begun name ≡ true → NeedsName table tree name
+surely table tree seen begun reached all same so name e = begun_needed table (record { ref_ptr = (0, 0); now = name }) tree (linked ((so name).0 e))
+  where
+    linked : StatementsBegin (a_name name) tree ⊎ OneBegins table (Lists (texts reached)) (a_name name) → StatementsBegin (a_name name) tree ⊎ OneBegins table (Linked table Free tree) (a_name name)
+    linked (inl b) = inl b
+    linked (inr h) = inr (h.0, (all h.0).0 ((same h.0).0 ((listed_contains (texts reached) h.0).1 h.1)), h.2)
+
+-- one that surely is needed
+pub needed_surely : (P : Type 0) → P → (true ≡ true) ↔ P
+needed_surely P p = (λ e. p, λ h. refl)
 
 none_there : (o : Option Template) → is_some o ≡ false → o ≡ None
 none_there None e = refl

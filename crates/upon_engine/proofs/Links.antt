@@ -1,15 +1,17 @@
 -- Searches along links from template to template: what is seen in the end, and what is needed by that.
-use Rattle.std.proofs.Common.{◌≡◌, ◌⊎◌, ◌↔◌, ℕ, List, [], ◌∷◌, ◌++◌, Option, Some, None, Bool, true, false, ◌||◌, is_some, bytes_eq, inl, inr, refl, sym, ap, ◌∙◌, subst}
+use Rattle.std.proofs.Common.{◌≡◌, ◌⊎◌, ◌↔◌, ℕ, List, [], ◌∷◌, ◌++◌, Option, Some, None, Bool, true, false, ◌||◌, is_some, Bor, bytes_eq, inl, inr, refl, sym, ap, ◌∙◌, subst}
 use Rattle.std.specs.List.{list_any}
 use Rattle.upon_types.specs.Tree.{Statement, raw, inline_expr, include, if_else, for_loop, with, Statements, no_statements, statement_then, Else, no_else, otherwise}
 use Rattle.upon_meaning_spec.specs.Engine.{Table, Template}
 use Rattle.upon_meaning_spec.specs.Includes.{StatementIncludes, Includes, ElseIncludes, ReachesBy, Reaches}
-use Rattle.upon_meaning_spec.specs.Needs.{Start, StatementsBegin, StatementPasses, StatementsPass, ElsePasses, NeedsBy, Needs}
+use Rattle.upon_meaning_spec.specs.Needs.{Start, a_name, StatementsBegin, StatementPasses, StatementsPass, ElsePasses, NeedsBy, Needs, NeedsName}
 use Rattle.upon_machine_spec.specs.ProgramNames.{Lists}
 use Rattle.upon_engine.specs.EngineNeeds.{start_of, link, LinkedBy, Linked, HeldBegins, OneBegins, Searched, Marked}
 use Rattle.upon_engine.specs.declared.needs.Links.{Links}
-use Rattle.upon_engine.specs.declared.needs.Links.TheVariants.{All, Passing}
+use Rattle.upon_engine.specs.declared.needs.Links.TheVariants.{All, Passing, Free}
 use Rattle.upon_engine.specs.declared.starts.PathStart.{PathStart}
+use Rattle.upon_engine.specs.declared.starts.PathStart.TheVariants.{Name}
+use Rattle.upon_engine.proofs.OpenBlocks.{free_passes}
 
 pub either_true : (x y : Bool) → (x || y) ≡ true → (x ≡ true) ⊎ (y ≡ true)
 either_true true y e = inl refl
@@ -200,3 +202,13 @@ module _ (table : Table) (start : PathStart) where
 
   pub needs_begun : (tree : Statements) → Needs table tree (start_of start) ↔ Begun tree
   needs_begun tree = (λ h. begun_by tree h.0 h.1, from_begun tree)
+
+-- what begins here, or in a template to which every path is passed, is needed
+module _ (table : Table) (word : Bor (List ℕ)) where
+  each_passes : (tree : Statements) (names : List (List ℕ)) (name : List ℕ) → LinkedBy table Free tree names name → LinkedBy table (Passing (Name word)) tree names name
+  each_passes tree [] name h = free_passes word.now name tree h
+  each_passes tree (via ∷ names) name h = (free_passes word.now via tree h.0, (h.1.0, h.1.1, each_passes h.1.0.tree names name h.1.2))
+
+  pub begun_needed : (tree : Statements) → StatementsBegin (a_name word.now) tree ⊎ OneBegins table (Linked table Free tree) (a_name word.now) → NeedsName table tree word.now
+  begun_needed tree (inl b) = (needs_begun table (Name word) tree).1 (inl b)
+  begun_needed tree (inr h) = (needs_begun table (Name word) tree).1 (inr (h.0, (h.1.0, each_passes tree h.1.0 h.0 h.1.1), h.2))

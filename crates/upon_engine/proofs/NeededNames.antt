@@ -1,20 +1,14 @@
 -- Names that are chosen from a list: those that begin a path in a program outside of what binds them.
-use Rattle.std.proofs.Common.{◌≡◌, ◌⊎◌, ◌↔◌, ◌<◌, ◌≤◌, ◌+◌, ◌-◌, ◌||◌, ◌&&◌, ℕ, zero, suc, leb, if◌then◌else◌, List, [], ◌∷◌, ◌++◌, map, length, get_or, drop, filter_map, Option, Some, None, Bool, true, false, Bor, nat_cmp, bytes_eq, inl, inr, refl, sym, ap, ◌∙◌, subst, arith}
+use Rattle.std.proofs.Common.{◌≡◌, ◌⊎◌, ◌↔◌, ◌<◌, ◌≤◌, ◌+◌, ◌-◌, ◌||◌, ◌&&◌, ℕ, zero, suc, leb, if◌then◌else◌, List, [], ◌∷◌, ◌++◌, length, get_or, drop, Bool, true, false, Bor, bytes_eq, inl, inr, refl, sym, ap, ◌∙◌, subst, arith}
 use Rattle.std.specs.BTreeSet.{BTreeSet}
 use Rattle.std.specs.List.{list_any}
 use Rattle.std.proofs.lemmas.List.{drop_more}
-use Rattle.std.proofs.lemmas.List.Folds.{list_any-append}
 use Rattle.std.proofs.lemmas.Slice.Eq.{bytes_eq-Decides}
-use Rattle.upon_types.specs.Tree.{Statements}
-use Rattle.upon_meaning_spec.specs.Needs.{a_name, StatementsBegin}
-use Rattle.upon_machine_spec.specs.Code.{program_of}
 use Rattle.upon_machine_spec.specs.Instr.{Instr, jump, with_start, with_end, loop_start}
-use Rattle.upon_machine_spec.specs.ProgramNames.{block_begins, loop_binds, count_after, unbound, path_name, is_this, path_names, begins}
-use Rattle.upon_machine_spec.proofs.NamesOfTree.{listed, tree_begins}
+use Rattle.upon_machine_spec.specs.ProgramNames.{block_begins, loop_binds, count_after, unbound, path_name, is_this}
 use Rattle.upon_instructions.specs.Program.{instr_of, program_view}
 use Rattle.upon_instructions.specs.declared.types.program.Instr.{Instr as CodeInstr}
 use Rattle.upon_engine.specs.Names.{texts, has}
-use Rattle.upon_engine.proofs.SetsOfNames.{has_listed}
 
 -- an instruction at which no path begins so is passed
 past : (name : List ℕ) (at count : ℕ) (i : Instr) (is : List Instr) → (count ≡ 0 → is_this name (path_name i) ≡ false) → list_any (λ i. is_this name (path_name i)) (unbound name at count (i ∷ is)) ≡ list_any (λ i. is_this name (path_name i)) (unbound name (at + 1) (count_after name at i count) is)
@@ -45,22 +39,13 @@ count_grows name at (jump to) n = jump_grows (leb to at) n
 count_grows name at _ n = omega arith
 
 -- what is found in fewer instructions is found in all
-either_way : (a b c : Bool) → (b ≡ true → c ≡ true) → (a || b) ≡ true → (a || c) ≡ true
+pub either_way : (a b c : Bool) → (b ≡ true → c ≡ true) → (a || b) ≡ true → (a || c) ≡ true
 either_way true b c h e = refl
 either_way false b c h e = h e
 
-weaker : (a b c : Bool) → (b ≡ true → c ≡ true) → b ≡ true → (a || c) ≡ true
+pub weaker : (a b c : Bool) → (b ≡ true → c ≡ true) → b ≡ true → (a || c) ≡ true
 weaker true b c h e = refl
 weaker false b c h e = h e
-
-in_unbound : (f : Instr → Bool) (name : List ℕ) (at count : ℕ) (is : List Instr) → list_any f (unbound name at count is) ≡ true → list_any f is ≡ true
-in_unbound f name at count [] e = e
-in_unbound f name at zero (i ∷ is) e = either_way (f i) (list_any f (unbound name (at + 1) (count_after name at i zero) is)) (list_any f is) (in_unbound f name (at + 1) (count_after name at i zero) is) e
-in_unbound f name at (suc count) (i ∷ is) e = weaker (f i) (list_any f (unbound name (at + 1) (count_after name at i (suc count)) is)) (list_any f is) (in_unbound f name (at + 1) (count_after name at i (suc count)) is) e
-
--- a name that begins a path outside of what binds it begins one
-pub begun_read : (name : List ℕ) (code : List Instr) → begins name code ≡ true → list_any (bytes_eq name) (path_names code) ≡ true
-begun_read name code e = listed path_name name code ∙ in_unbound (λ i. is_this name (path_name i)) name 0 0 code e
 
 -- a set has the names of a list that are so
 abbrev pub Chosen : (List ℕ → Type 0) → BTreeSet (Bor (List ℕ)) → List (Bor (List ℕ)) → Type 0
@@ -132,14 +117,3 @@ module _ (P : List ℕ → Type 0) where
         with_false : (x : Bool) → (x || false) ≡ x
         with_false true = refl
         with_false false = refl
-
--- the names chosen of all that begin paths in a tree's program are those that the tree begins paths with
-pub chosen_needed : (old all chosen : BTreeSet (Bor (List ℕ))) (yielded : List (Bor (List ℕ))) (tree : Statements) (names : List (List ℕ)) → old.keys ≡ [] → names ≡ path_names (program_of tree)
-    → ((name : List ℕ) → has all name ≡ (has old name || list_any (bytes_eq name) names)) → yielded ≡ all.keys
-    → Chosen (λ name. begins name (program_of tree) ≡ true) chosen yielded → (name : List ℕ) → (has chosen name ≡ true) ↔ StatementsBegin (a_name name) tree
-chosen_needed old all chosen yielded tree names empty same puts done picks name =
-    let law = tree_begins name tree in
-    let every : has all name ≡ list_any (bytes_eq name) (path_names (program_of tree)) =
-    puts name ∙ (λ i. has (record { keys = empty i }) name || list_any (bytes_eq name) (same i)) in
-    let seen : has all name ≡ list_any (bytes_eq name) (texts yielded) = has_listed all.keys name ∙ ap (λ ks. list_any (bytes_eq name) (texts ks)) (sym done) in
-    (λ e. law.0 ((picks name).0 e).1, λ h. let is = law.1 h in (picks name).1 (sym seen ∙ every ∙ begun_read name (program_of tree) is, is))

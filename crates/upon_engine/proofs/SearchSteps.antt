@@ -1,6 +1,6 @@
 -- How the set of names that a search has seen grows, and what waits.
-use Rattle.std.proofs.Common.{◌≡◌, ◌⊎◌, ◌↔◌, ◌≤◌, ◌+◌, ◌||◌, ◌&&◌, ℕ, zero, suc, if◌then◌else◌, List, [], ◌∷◌, ◌++◌, length, length-append, map, cond, Option, Some, None, Bool, true, false, not, is_some, option_map, Bor, String, string_bytes, nat_cmp, bytes_eq, inl, inr, refl, sym, ap, ◌∙◌, subst, arith}
-use Rattle.std.specs.BTreeMap.{BTreeMap, get_by_text, is_at, keys}
+use Rattle.std.proofs.Common.{◌≡◌, ◌⊎◌, ◌↔◌, ◌≤◌, ◌+◌, ◌||◌, ◌&&◌, ℕ, suc, if◌then◌else◌, List, [], ◌∷◌, ◌++◌, length, length-append, cond, Option, Some, None, Bool, true, false, not, is_some, option_map, Bor, String, string_bytes, nat_cmp, bytes_eq, inl, inr, refl, sym, ap, ◌∙◌, subst, arith}
+use Rattle.std.specs.BTreeMap.{BTreeMap, get_by_text, is_at}
 use Rattle.std.specs.BTreeSet.{BTreeSet, Updates}
 use Rattle.std.specs.Cmp.Lexicographic.{slice_cmp}
 use Rattle.std.specs.List.{list_any}

@@ -1,5 +1,5 @@
 -- Sets of names, and the names that a list has.
-use Rattle.std.proofs.Common.{◌≡◌, ◌↔◌, ◌||◌, ◌&&◌, ℕ, List, [], ◌∷◌, ◌++◌, map, cond, length, get_or, Bool, true, false, Contains, Less, Bor, nat_cmp, bytes_eq, refl, sym, ap, ◌∙◌, subst}
+use Rattle.std.proofs.Common.{◌≡◌, ◌↔◌, ◌||◌, ℕ, List, [], ◌∷◌, cond, get_or, Bool, true, false, Contains, Less, Bor, nat_cmp, bytes_eq, refl, sym, ap, ◌∙◌, subst}
 use Rattle.std.specs.BTreeSet.{BTreeSet, Updates}
 use Rattle.upon_types.specs.Tree.{Statements}
 use Rattle.upon_meaning_spec.specs.Includes.{Includes}

@@ -6,10 +6,13 @@ use Rattle.upon_types.specs.Tree.{Statements}
 use Rattle.upon_meaning_spec.specs.Engine.{Table, Template}
 use Rattle.upon_meaning_spec.specs.Includes.{Includes}
 use Rattle.upon_meaning_spec.specs.Needs.{Start, a_name, an_index, StatementsBegin, StatementsPass}
+use Rattle.upon_machine_spec.specs.Code.{program_of}
+use Rattle.upon_machine_spec.specs.ProgramNames.{Lists}
 use Rattle.upon_engine.specs.Names.{texts}
+use Rattle.upon_engine.specs.OpenBlocks.{free_includes}
 use Rattle.upon_engine.specs.Template.{template_of}
 use Rattle.upon_engine.specs.declared.needs.Links.{Links}
-use Rattle.upon_engine.specs.declared.needs.Links.TheVariants.{All, Passing}
+use Rattle.upon_engine.specs.declared.needs.Links.TheVariants.{All, Passing, Free}
 use Rattle.upon_engine.specs.declared.needs.Needs.{Needs}
 use Rattle.upon_engine.specs.declared.starts.PathStart.{PathStart}
 use Rattle.upon_engine.specs.declared.starts.PathStart.TheVariants.{Name, Index}
@@ -40,10 +43,11 @@ abbrev pub start_of : PathStart → Start
 start_of (Name name) = a_name name.now
 start_of Index = an_index
 
--- from a tree to a name by a link: an include, or one that passes what begins a path
+-- from a tree to a name by a link: an include, one that passes what begins a path, or one outside of each block
 abbrev pub link : Links → Statements → List ℕ → Type 0
 link All tree name = Includes name tree
 link (Passing start) tree name = StatementsPass (start_of start) name tree
+link Free tree name = Lists (free_includes (program_of tree)) name
 
 -- the tree has a link to the first of the names, which the table holds; its tree has one to the next, and so on to the
 -- last, and to this name

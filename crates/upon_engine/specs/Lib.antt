@@ -16,6 +16,7 @@ pub mod Changes
 pub mod Theorem
 pub mod Names
 pub mod IndexStarts
+pub mod OpenBlocks
 pub mod Unseen
 pub mod EngineNeeds
 pub mod RenderingLaws

@@ -36,6 +36,8 @@ pub(crate) enum Links<'n> {
     All,
     /// Those without a value outside of what binds such a path.
     Passing(PathStart<'n>),
+    /// Those without a value outside of each block, which pass every path.
+    Free,
 }
 
 impl<'n> Needs<'n> {
@@ -79,6 +81,7 @@ impl<'s> Template<'s> {
         match by {
             Links::All => self.each_include(),
             Links::Passing(start) => self.passes_by(start),
+            Links::Free => self.free_includes(),
         }
     }
 }
@@ -255,6 +258,37 @@ fn begun<'t, 'e>(
     Ok(begun)
 }
 
+/// Returns names that are needed without a question: those that begin paths, outside of what binds them, in a template
+/// or in those that it reaches by includes which pass every path.
+fn surely_needed<'t, 'e>(
+    templates: &'t BTreeMap<String, Template<'e>>,
+    from: &'t Template<'e>,
+) -> Result<BTreeSet<&'t str>, AllocError>
+    ensures { IfOk result (λ sure. (name : List ℕ) → has sure name ≡ true
+        → NeedsName (table_in templates.now) (template_tree from.now) name) }
+{
+    let seen = search(templates, from, Links::Free)?;
+    let reached = ascending(from.alloc(), seen)?;
+    begun(templates, from, reached.as_slice())
+}
+
+/// Returns whether a name is needed. One that surely is, is not searched for.
+fn is_name_needed<'t, 'e>(
+    templates: &'t BTreeMap<String, Template<'e>>,
+    from: &'t Template<'e>,
+    sure: bool,
+    name: &str,
+) -> Result<bool, AllocError>
+    requires { sure ≡ true → NeedsName (table_in templates.now) (template_tree from.now) name.now }
+    ensures { IfOk result (λ needed. (needed ≡ true)
+        ↔ NeedsName (table_in templates.now) (template_tree from.now) name.now) }
+{
+    if sure {
+        return Ok(true);
+    }
+    is_needed(templates, from, PathStart::Name(name))
+}
+
 /// Those of some names that are needed, in ascending order.
 fn needed<'t, 'e>(
     templates: &'t BTreeMap<String, Template<'e>>,
@@ -266,9 +300,10 @@ fn needed<'t, 'e>(
     ensures rise { IfOk result (λ v. Rise (texts v.items)) }
 {
     let alloc = from.alloc();
+    let sure = surely_needed(templates, from)?;
     let mut needed = BTreeSet::new(alloc);
     for name in names {
-        let so = is_needed(templates, from, PathStart::Name(name))?;
+        let so = is_name_needed(templates, from, sure.contains(name), name)?;
         insert_if(&mut needed, name, so)?;
     }
     ascending(alloc, needed)
@@ -341,7 +376,8 @@ impl<'e> Engine<'e> {
     /// Returns what the template of a name needs, or `None` if there is none of this name: the names that it takes from
     /// its context, itself or through the templates that it includes; these templates; and the names of includes that
     /// no template of the engine has. Includes may come back to a template. An error comes only when memory is out. It
-    /// takes time in proportion to the names times the instructions of the template and those that it reaches.
+    /// takes time in proportion to the instructions of the template and those that it reaches, and as much again for
+    /// each name that begins paths only behind an include that has a value or is in a `with` or `for`.
     pub fn needs(&self, name: &str) -> Option<Result<Needs<'_>, AllocError>>
         // A name is among those needed exactly if the template needs it of its context.
         ensures names { let table = engine_templates self.now in

@@ -7,6 +7,7 @@ ghost use Rattle.upon_instructions.specs.Program.{instr_of};
 ghost use Rattle.upon_engine.specs.EngineNeeds.{start_of};
 ghost use Rattle.upon_engine.specs.IndexStarts.{begins_by_index, has_index, plain_includes};
 ghost use Rattle.upon_engine.specs.Names.{texts};
+ghost use Rattle.upon_engine.specs.OpenBlocks.{depth_after, free_includes};
 ghost use Rattle.upon_engine.specs.Template.{template_tree};
 
 use crate::template::Template;
@@ -42,6 +43,26 @@ fn plain_include(instr: &Instr) -> Option<&str>
     match instr {
         Instr::Include(name) => Some(name.value.as_str()),
         _ => None,
+    }
+}
+
+/// Returns how many blocks are open after an instruction at an offset.
+fn depth_after(at: usize, instr: &Instr, depth: usize) -> usize
+    requires { depth < 2 ^ 64 - 1 }
+    ensures { result ≡ depth_after at (instr_of instr.now) depth }
+{
+    match instr {
+        Instr::WithStart(_) => depth + 1,
+        Instr::WithEnd => depth.saturating_sub(1),
+        Instr::LoopStart(_, _) => depth + 1,
+        Instr::Jump(to) => {
+            if *to <= at {
+                depth.saturating_sub(1)
+            } else {
+                depth
+            }
+        }
+        _ => depth,
     }
 }
 
@@ -87,6 +108,24 @@ impl<'s> Template<'s> {
                 }
             }
             count = count_after(name, at, instr, count);
+        }
+        Ok(names)
+    }
+
+    /// Returns the names of the templates that are included without a value outside of each block, in order.
+    pub(crate) fn free_includes(&self) -> Result<Vec<&str>, AllocError>
+        ensures { IfOk result (λ v. texts v.items ≡ free_includes (program_of (template_tree self.now))) }
+    {
+        let instrs = self.instrs();
+        let mut names = Vec::new(self.alloc());
+        let mut depth = 0;
+        for (at, instr) in instrs.iter().enumerate() {
+            if let Some(via) = plain_include(instr) {
+                if depth == 0 {
+                    names.push(via)?;
+                }
+            }
+            depth = depth_after(at, instr, depth);
         }
         Ok(names)
     }

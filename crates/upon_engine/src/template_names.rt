@@ -1,14 +1,15 @@
 // The names that a template needs, and the templates that it includes, by walks along its instructions.
-ghost use Rattle.std.specs.Prelude.{◌≡◌, ◌||◌, ◌&&◌, ◌↔◌, ◌<◌, ◌-◌, ◌^◌, ℕ, List, Contains, IfOk, OnOk, option_map, true, bytes_eq};
+ghost use Rattle.std.specs.Prelude.{◌≡◌, ◌||◌, ◌&&◌, ◌↔◌, ◌<◌, ◌-◌, ◌^◌, ℕ, List, Contains, IfOk, OnOk, option_map, not, true, bytes_eq};
 ghost use Rattle.std.specs.List.{list_any};
 ghost use Rattle.upon_types.specs.AstPath.{loop_vars_of};
 ghost use Rattle.upon_meaning_spec.specs.Includes.{Includes};
 ghost use Rattle.upon_meaning_spec.specs.Needs.{a_name, StatementsBegin};
 ghost use Rattle.upon_machine_spec.specs.Code.{program_of};
-ghost use Rattle.upon_machine_spec.specs.ProgramNames.{loop_binds, count_after, path_name, is_this, any_include, path_names, begins, includes};
+ghost use Rattle.upon_machine_spec.specs.ProgramNames.{loop_binds, count_after, path_name, is_this, any_include, begins, includes};
 ghost use Rattle.upon_machine_spec.specs.ProgramNames.{block_begins as count_at_begin};
 ghost use Rattle.upon_instructions.specs.Program.{instr_of};
 ghost use Rattle.upon_engine.specs.Names.{texts, has, Rise};
+ghost use Rattle.upon_engine.specs.OpenBlocks.{binds, blocks, closes, open_count, opens};
 ghost use Rattle.upon_engine.specs.Template.{template_tree};
 
 use crate::template::Template;
@@ -98,6 +99,84 @@ pub(crate) fn count_after(name: &str, at: usize, instr: &Instr, count: usize) ->
     }
 }
 
+/// Returns whether an instruction begins a block.
+fn opens(instr: &Instr) -> bool
+    ensures { result ≡ opens (instr_of instr.now) }
+{
+    match instr {
+        Instr::WithStart(_) => true,
+        Instr::LoopStart(_, _) => true,
+        _ => false,
+    }
+}
+
+/// Returns whether an instruction at an offset ends a block.
+fn closes(at: usize, instr: &Instr) -> bool
+    ensures { result ≡ closes at (instr_of instr.now) }
+{
+    match instr {
+        Instr::WithEnd => true,
+        Instr::Jump(to) => *to <= at,
+        _ => false,
+    }
+}
+
+/// Returns whether an instruction begins a block that binds the name.
+fn binds(name: &str, block: &Instr) -> bool
+    ensures { result ≡ binds name.now (instr_of block.now) }
+{
+    match block {
+        Instr::WithStart(word) => word.name.as_str() == name,
+        Instr::LoopStart(vars, _) => loop_binds(name, vars),
+        _ => false,
+    }
+}
+
+/// Returns whether one of the open blocks binds the name.
+fn is_bound(name: &str, opened: &[&Instr]) -> bool
+    ensures { result ≡ list_any (binds name.now) (blocks opened.now) }
+{
+    for block in opened {
+        if binds(name, block) {
+            return true;
+        }
+    }
+    false
+}
+
+/// Makes the open blocks those after an instruction at an offset.
+fn open_after<'i>(
+    opened: &mut Vec<&'i Instr>,
+    at: usize,
+    instr: &'i Instr,
+) -> Result<(), AllocError>
+    ensures { OnOk result ((name : List ℕ) → open_count name 0 (blocks opened.new.items)
+        ≡ count_after name at (instr_of instr.now) (open_count name 0 (blocks opened.old.items))) }
+{
+    if opens(instr) {
+        opened.push(instr)?;
+    } else if closes(at, instr) {
+        opened.pop();
+    }
+    Ok(())
+}
+
+/// Puts the name that begins an instruction's path into a set, if no open block binds it.
+fn insert_free<'i>(
+    names: &mut BTreeSet<&'i str>,
+    instr: &'i Instr,
+    opened: &[&Instr],
+) -> Result<(), AllocError>
+    ensures { OnOk result ((name : List ℕ)
+        → has names.new name ≡ (has names.old name
+        || (not (list_any (binds name) (blocks opened.now)) && is_this name (path_name (instr_of instr.now))))) }
+{
+    let Some(name) = path_name(instr) else {
+        return Ok(());
+    };
+    insert_if(names, name, !is_bound(name, opened))
+}
+
 /// Puts names into a set.
 pub(crate) fn insert_all<'n>(
     names: &mut BTreeSet<&'n str>,
@@ -175,36 +254,30 @@ impl<'s> Template<'s> {
         Ok(names)
     }
 
-    /// Returns the names that begin paths, in order, whatever binds them.
-    pub(crate) fn each_path_name(&self) -> Result<Vec<&str>, AllocError>
-        ensures { IfOk result (λ v. texts v.items ≡ path_names (program_of (template_tree self.now))) }
+    /// Returns the names that begin paths outside of what binds them.
+    fn free_names(&self) -> Result<BTreeSet<&str>, AllocError>
+        ensures { IfOk result (λ names. (name : List ℕ)
+            → has names name ≡ begins name (program_of (template_tree self.now))) }
     {
         let instrs = self.instrs();
-        let mut names = Vec::new(self.alloc());
-        for instr in instrs {
-            if let Some(name) = path_name(instr) {
-                names.push(name)?;
-            }
+        let mut names = BTreeSet::new(self.alloc());
+        let mut opened = Vec::new(self.alloc());
+        for (at, instr) in instrs.iter().enumerate() {
+            insert_free(&mut names, instr, opened.as_slice())?;
+            open_after(&mut opened, at, instr)?;
         }
         Ok(names)
     }
 
     /// Returns the names that the template takes from its context, in ascending order, each once: those that begin a
     /// path outside of each `with` and `for` that binds them. Included templates are not looked into. An error comes
-    /// only when memory is out. It takes time in proportion to the names of paths times the instructions.
+    /// only when memory is out. It takes time in proportion to the instructions, and to the blocks around each path.
     pub fn names_needed(&self) -> Result<Vec<&str>, AllocError>
         ensures needed { IfOk result (λ names. (name : List ℕ)
             → Contains (texts names.items) name ↔ StatementsBegin (a_name name) (template_tree self.now)) }
         ensures rise { IfOk result (λ names. Rise (texts names.items)) }
     {
-        let alloc = self.alloc();
-        let mut candidates = BTreeSet::new(alloc);
-        insert_all(&mut candidates, self.each_path_name()?)?;
-        let mut needed = BTreeSet::new(alloc);
-        for name in candidates {
-            insert_if(&mut needed, name, self.begins(name))?;
-        }
-        ascending(alloc, needed)
+        ascending(self.alloc(), self.free_names()?)
     }
 
     /// Returns the names of the templates that the template includes, in ascending order, each once; what they include

@@ -33,6 +33,28 @@ fn a_ring(rt: HostRuntime) -> Result<(), Fail> {
     Ok(())
 }
 
+// Many names in one template, in loops too: each is needed.
+#[test]
+fn many_names(rt: HostRuntime) -> Result<(), Fail> {
+    let alloc = rt.alloc();
+    let mut source = String::new(alloc);
+    for i in 0..2_000 {
+        let one = format!(in alloc; "{{{{ n{i} }}}}")?;
+        source.push_str(one.as_str())?;
+    }
+    let looped = format!(in alloc; "{{% for x in xs %}}{{{{ x }}}}{source}{{% endfor %}}")?;
+    let mut engine = Engine::new(alloc);
+    engine.add_template(CowStr::Borrowed("plain"), CowStr::Owned(source))?;
+    engine.add_template(CowStr::Borrowed("looped"), CowStr::Owned(looped))?;
+    for (name, many) in [("plain", 2_000), ("looped", 2_001)] {
+        let Some(needs) = engine.needs(name) else {
+            return Err(Fail::new("there is such a template"));
+        };
+        assert_eq!(&rt; needs?.names().len(), many);
+    }
+    Ok(())
+}
+
 // A name may be long: of the context, and of a template.
 #[test]
 fn long_names(rt: HostRuntime) -> Result<(), Fail> {

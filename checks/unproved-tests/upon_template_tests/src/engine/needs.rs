@@ -77,6 +77,16 @@ fn names(rt: HostRuntime) -> Result<(), Fail> {
             "s t",
         ),
         ("{% if false %}{% include \"zz\" %}{% endif %}", "", "zz"),
+        (
+            "{% with a as x %}{% with b as x %}{{ x }}{% endwith %}{{ x }}{% endwith %}{{ y }}",
+            "a b y",
+            "",
+        ),
+        (
+            "{% for x in xs %}{% with y as z %}{{ x }}{{ z }}{{ u }}{% endwith %}{{ z }}{% else %}{{ x }}{% endfor %}{{ loop }}",
+            "loop u x xs y z",
+            "",
+        ),
     ] {
         says(alloc, &engine, source, needed, included)?;
     }
@@ -193,6 +203,55 @@ fn reached(rt: HostRuntime) -> Result<(), Fail> {
         ("index", " |  |  | whole"),
         ("by_index", " | index |  | whole"),
         ("on_value", "v | index | "),
+    ] {
+        engine_says(alloc, &engine, name, wanted)?;
+    }
+    Ok(())
+}
+
+// Names that begin paths where every path is passed on, and those for which a block, a value or a ring stands between.
+#[test]
+fn passed_on(rt: HostRuntime) -> Result<(), Fail> {
+    let alloc = rt.alloc();
+    let engine = engine_of(
+        alloc,
+        &[
+            ("a", "{{ a }}"),
+            ("b", "{{ b }}{{ c }}"),
+            (
+                "free",
+                "{{ r }}{% if x %}{% include \"a\" %}{% endif %}{% include \"b\" %}",
+            ),
+            (
+                "below_for",
+                "{% for a in list %}{{ a }}{{ n }}{% include \"a\" %}{% include \"b\" %}{% endfor %}",
+            ),
+            (
+                "below_with",
+                "{% with w as b %}{% include \"a\" %}{% include \"b\" %}{% endwith %}",
+            ),
+            ("on_value", "{% include \"b\" with v.x %}"),
+            (
+                "after",
+                "{% for y in xs %}{% endfor %}{% with v as z %}{% endwith %}{% include \"free\" %}",
+            ),
+            ("first", "{{ r1 }}{% include \"second\" %}"),
+            (
+                "second",
+                "{{ r2 }}{% with q as r3 %}{% include \"third\" %}{% endwith %}",
+            ),
+            ("third", "{{ r3 }}{{ r4 }}{% include \"first\" %}"),
+        ],
+    )?;
+    for (name, wanted) in [
+        ("free", "a b c r x | a b | "),
+        ("below_for", "b c list n | a b | "),
+        ("below_with", "a c w | a b | "),
+        ("on_value", "v | b | "),
+        ("after", "a b c r v x xs | a b free | "),
+        ("first", "q r1 r2 r4 | first second third | "),
+        ("second", "q r1 r2 r4 | first second third | "),
+        ("third", "q r1 r2 r3 r4 | first second third | "),
     ] {
         engine_says(alloc, &engine, name, wanted)?;
     }

@@ -1,4 +1,4 @@
-use Rattle.std.proofs.Common.{rules, arith, ◌≡◌, ◌⊎◌, ◌↔◌, ◌<◌, ◌+◌, ◌∷◌, [], length, take, get_or, true, sym, subst}
+use Rattle.std.proofs.Common.{rules, arith, ◌≡◌, ◌⊎◌, ◌↔◌, ◌<◌, [], length, take, get_or, true, sym, subst}
 use Rattle.std.proofs.lemmas.List.{take_all, take_more}
 use Rattle.upon_meaning_spec.specs.Needs.{a_name}
 use Rattle.upon_engine.specs.EngineNeeds.{table_in, HeldBegins}

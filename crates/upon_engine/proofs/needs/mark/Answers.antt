@@ -1,4 +1,4 @@
-use Rattle.std.proofs.Common.{rules, arith, ◌≡◌, ◌||◌, ◌<◌, ◌+◌, [], ◌∷◌, ◌∙◌, ap, sym, subst, bytes_eq, length, take, get_or}
+use Rattle.std.proofs.Common.{rules, arith, ◌≡◌, ◌||◌, ◌<◌, ◌+◌, ◌∙◌, ap, sym, subst, bytes_eq, length, take}
 use Rattle.std.specs.List.{list_any}
 use Rattle.std.proofs.lemmas.List.{take_all, take_more}
 use Rattle.upon_engine.specs.Names.{texts, has}

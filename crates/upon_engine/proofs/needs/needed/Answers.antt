@@ -1,9 +1,9 @@
-use Rattle.std.proofs.Common.{rules, ◌≡◌, ◌∷◌, [], ◌++◌, ◌∙◌, append_assoc, ap, sym, bytes_eq, true}
+use Rattle.std.proofs.Common.{rules, ◌≡◌, ◌∷◌, [], ◌++◌, ◌∙◌, append_assoc, ap, sym, bytes_eq}
 use Rattle.std.specs.List.{list_any}
 use Rattle.std.proofs.lemmas.Result.{IfOk-weaker}
 use Rattle.upon_meaning_spec.specs.Needs.{NeedsName}
 use Rattle.upon_engine.specs.EngineNeeds.{table_in}
-use Rattle.upon_engine.specs.Names.{texts, has}
+use Rattle.upon_engine.specs.Names.{texts}
 use Rattle.upon_engine.specs.Template.{template_tree}
 use Rattle.upon_engine.proofs.NeededNames.{chosen_step}
 use Rattle.upon_engine.proofs.SetsOfNames.{has_listed}

@@ -1,4 +1,4 @@
-use Rattle.std.proofs.Common.{◌≡◌, ◌↔◌, ℕ, List, Contains, true, sym, subst}
+use Rattle.std.proofs.Common.{◌≡◌, ◌↔◌, Contains, true, sym, subst}
 use Rattle.upon_engine.specs.EngineNeeds.{table_in}
 use Rattle.upon_engine.specs.Names.{texts, has}
 use Rattle.upon_engine.specs.Template.{template_tree}

@@ -1,8 +1,8 @@
-use Rattle.std.proofs.Common.{rules, arith, ◌≡◌, ◌↔◌, subst, ℕ, List, [], ◌∷◌, ◌++◌, true, false, sym, ap, ◌∙◌, bytes_eq, length, length-append}
+use Rattle.std.proofs.Common.{rules, ◌≡◌, ◌↔◌, subst, [], ◌∷◌, ◌++◌, sym, bytes_eq}
 use Rattle.std.specs.List.{list_any}
 use Rattle.upon_machine_spec.specs.ProgramNames.{Lists}
 use Rattle.upon_engine.specs.EngineNeeds.{link}
-use Rattle.upon_engine.specs.Names.{texts, has}
+use Rattle.upon_engine.specs.Names.{texts}
 use Rattle.upon_engine.specs.Template.{template_tree}
 use Rattle.upon_engine.proofs.Links.{search_begins, search_ends}
 use Rattle.upon_engine.proofs.SearchSteps.{waited_by, nobody_waits, nothing_seen}

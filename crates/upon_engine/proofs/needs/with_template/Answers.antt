@@ -1,4 +1,4 @@
-use Rattle.std.proofs.Common.{rules, arith, ℕ, List, ◌≡◌, ◌<◌, ◌+◌, [], ◌∷◌, length, take, get_or, is_some, sym, subst}
+use Rattle.std.proofs.Common.{rules, arith, ℕ, List, ◌≡◌, ◌<◌, [], length, take, get_or, is_some, sym, subst}
 use Rattle.std.proofs.lemmas.List.{take_all, take_more}
 use Rattle.std.proofs.lemmas.Result.{IfOk-weaker}
 use Rattle.upon_engine.specs.EngineNeeds.{table_in}

@@ -1,4 +1,4 @@
-use Rattle.std.proofs.Common.{rules, ◌≡◌, ◌↔◌, ◌++◌, Contains, sym, subst, ap, ◌∙◌, true}
+use Rattle.std.proofs.Common.{rules, ◌≡◌, ◌↔◌, Contains, sym, subst, ◌∙◌, true}
 use Rattle.upon_engine.specs.Names.{texts, has, Rise}
 use Rattle.upon_engine.proofs.SetsOfNames.{keys_rise, has_listed, listed_contains}
 use Rattle.upon_engine.proofs.template_names.ascending.Goals as goal

@@ -1,4 +1,4 @@
-use Rattle.std.proofs.Common.{◌≡◌, ◌↔◌, ◌∙◌, ℕ, List, Some, None, IfOk, Contains, is_some, true}
+use Rattle.std.proofs.Common.{◌≡◌, ◌↔◌, ℕ, List, IfOk, Contains, is_some, true}
 use Rattle.upon_meaning_spec.specs.Includes.{Reaches}
 use Rattle.upon_meaning_spec.specs.Missing.{Missing}
 use Rattle.upon_meaning_spec.specs.Needs.{NeedsAll, NeedsName}

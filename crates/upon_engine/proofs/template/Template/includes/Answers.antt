@@ -1,7 +1,4 @@
-use Rattle.std.proofs.Common.{◌≡◌, ◌↔◌, ℕ, List, Contains, true}
 use Rattle.std.proofs.lemmas.Result.{IfOk-weaker}
-use Rattle.upon_meaning_spec.specs.Includes.{Includes}
-use Rattle.upon_engine.specs.Names.{texts, has}
 use Rattle.upon_engine.specs.Template.{template_tree}
 use Rattle.upon_engine.proofs.SetsOfNames.{has_includes}
 use Rattle.upon_engine.proofs.template.Template.includes.Goals as goal

@@ -1,4 +1,4 @@
-use Rattle.std.proofs.Common.{◌≡◌, ◌↔◌, ℕ, List, IfOk, sym, subst}
+use Rattle.std.proofs.Common.{◌↔◌, ℕ, List, IfOk, sym, subst}
 use Rattle.std.proofs.lemmas.Result.{IfOk-weaker}
 use Rattle.upon_meaning_spec.specs.Needs.{a_name, an_index, StatementsPass}
 use Rattle.upon_machine_spec.specs.ProgramNames.{Lists}
