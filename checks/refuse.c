@@ -5,7 +5,9 @@
    upon_callable_tests), and then all that does not fit in what was given back since, until the last large block before
    it is given back. It writes to FILE how many calls that refused, the first one aside.
    MODE=FILE writes to FILE the permissions that a file has before its own are set, as an octal number; with REFUSE_MODE
-   set they can't be set. */
+   set they can't be set.
+   ORDER=FILE writes to FILE a line for each call of fsync and rename; with REFUSE_SYNC set no file is written to the
+   disk. */
 #define _GNU_SOURCE
 #include <dlfcn.h>
 #include <errno.h>
@@ -125,6 +127,31 @@ int fchmod(int file, mode_t mode) {
         return -1;
     }
     return next_fchmod(file, mode);
+}
+
+/* Writes a line to the end of the file that ORDER names. */
+static void write_call(const char *name) {
+    const char *order = getenv("ORDER");
+    int file = order ? open(order, O_WRONLY | O_CREAT | O_APPEND, 0600) : -1;
+    if (file < 0) return;
+    if (dprintf(file, "%s\n", name) < 0) _exit(1);
+    close(file);
+}
+
+int fsync(int file) {
+    int (*next_fsync)(int) = dlsym(RTLD_NEXT, "fsync");
+    write_call("fsync");
+    if (getenv("REFUSE_SYNC")) {
+        errno = EIO;
+        return -1;
+    }
+    return next_fsync(file);
+}
+
+int rename(const char *from, const char *to) {
+    int (*next_rename)(const char *, const char *) = dlsym(RTLD_NEXT, "rename");
+    write_call("rename");
+    return next_rename(from, to);
 }
 
 __attribute__((destructor)) static void write_count(void) {

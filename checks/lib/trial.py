@@ -21,14 +21,14 @@ class Result:
 class Trial:
     """The trial of one crate's edits."""
 
-    def __init__(self, module, crate, kept):
+    def __init__(self, module, crate, kept, known):
         self.module, self.crate, self.kept = module, crate, kept
         self.functions = functions_in(crate)
         folder = f"{crate.folder}/edits"
         paths = [f"{folder}/{name}" for name in sorted(os.listdir(folder)) if name.endswith(".edit")]
         self.edits = [edits_module.Edit(path, crate.folder, self.functions) for path in paths]
         self.results = {it.name: Result(False, f"BAD EDIT: {it.bad}") for it in self.edits if it.bad}
-        self.known, self.seconds, self.batches, self.astray = set(), 0.0, 0, []
+        self.known, self.seconds, self.batches, self.astray = set(known), 0.0, 0, []
         self.alone = [it for it in self.edits if not it.bad and not it.is_of_functions()]
 
     def run(self):
@@ -74,7 +74,7 @@ class Trial:
         return [edit for edit in batch if not self.is_told(edit, said, is_last)]
 
     def scope(self, batch):
-        """Returns what a check of these edits has to read: at first whole modules, as no names are known yet, then functions."""
+        """Returns what a check of these edits has to read: functions, or whole modules where their names are not known yet."""
         functions = {it for edit in batch for it in edit.functions}
         names = [functions_module.name_of(it, self.crate.name, self.known) for it in functions]
         if all(names):

@@ -1,7 +1,7 @@
 // The callers that build an engine, run.
-use crate::built;
 use std::process::Abort;
 use std::test::Fail;
+use upon_users::built;
 
 #[test]
 fn by_a_template(rt: HostRuntime) -> Result<(), Fail> {

@@ -1,5 +1,4 @@
 // Contexts and templates from functions.
-use crate::users::on_source;
 use std::alloc::{AllocError, Global};
 use std::borrow::CowStr;
 use std::collections::BTreeMap;
@@ -7,6 +6,7 @@ use std::test::Fail;
 use upon::render::{CallName, CallPath, SourceError, TemplateFn, TemplateMap, ValueFn};
 use upon::{Engine, Template, Value, ValueMember};
 use upon_testing::answers::line_of;
+use upon_users::users::on_source;
 
 // A function that answers 1, 2, .. in turn.
 #[derive(Drop)]

@@ -1,4 +1,4 @@
-// Callers of an engine whose formatters escape, and what is written for texts that would be markup.
+// Tests of what is written for texts that would be markup.
 #![tactic(auto)]
 
 #[cfg(test)]
@@ -7,4 +7,3 @@ mod guest_book;
 mod hostile;
 #[cfg(test)]
 mod memory;
-pub mod pages;

@@ -1,7 +1,6 @@
 // Tests of the store.
 #![tactic(auto)]
 
-pub mod built;
 #[cfg(test)]
 mod documents;
 #[cfg(test)]

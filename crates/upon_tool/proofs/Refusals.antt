@@ -2,7 +2,7 @@
 use Rattle.std.proofs.Common.{◌≡◌, ◌<◌, arith, ℕ, List, [], Bor, Contains, Option, Some, None, Result, Ok, Err, IfErr, IsErrAnd, IsSomeAnd, refl, sym, subst, inl, inr}
 use Rattle.upon_types.specs.declared.error.Error.{Error}
 use Rattle.upon_tool_io.specs.declared.files.ReadFault.{ReadFault}
-use Rattle.upon_tool_io.specs.declared.files.ReadFault.TheVariants.{Unreadable as FileUnreadable, NotText as FileNotText, OutOfMemory}
+use Rattle.upon_tool_io.specs.declared.files.ReadFault.TheVariants.{Unreadable as FileUnreadable, NotText as FileNotText, Outside as FileOutside, OutOfMemory}
 use Rattle.upon_tool.specs.Refusals.{Refuses}
 use Rattle.upon_tool.specs.Sources.{IsUnread, Unread}
 use Rattle.upon_tool.specs.Status.{status_of, IsMemory}
@@ -38,6 +38,7 @@ module _ (set : List (Bor (List ℕ))) (Twice : Type 0) (Named : Bor (List ℕ) 
   unread_so : (name : Bor (List ℕ)) (fault : ReadFault) (f : Failure) → Named name → Unread name fault f → Refuses set Twice Named Faulty f
   unread_so name FileUnreadable f named is = subst (Refuses set Twice Named Faulty) (sym is) named
   unread_so name FileNotText f named is = subst (Refuses set Twice Named Faulty) (sym is) named
+  unread_so name FileOutside f named is = subst (Refuses set Twice Named Faulty) (sym is) named
   unread_so name OutOfMemory f named is = of_memory f is
 
   pub of_unread : (name : Bor (List ℕ)) (f : Failure) → Named name → IsUnread name f → Refuses set Twice Named Faulty f

@@ -3,11 +3,11 @@ use Rattle.std.specs.Prelude.{◌≡◌, ℕ, List, map, true, false, Option, So
 use Rattle.std.specs.BTreeMap.{get_by_text}
 use Rattle.upon_types.specs.declared.error.Error.{Error}
 use Rattle.upon_tool_io.specs.declared.files.ReadFault.{ReadFault}
-use Rattle.upon_tool_io.specs.declared.files.ReadFault.TheVariants.{Unreadable as FileUnreadable, NotText as FileNotText, OutOfMemory}
+use Rattle.upon_tool_io.specs.declared.files.ReadFault.TheVariants.{Unreadable as FileUnreadable, NotText as FileNotText, Outside as FileOutside, OutOfMemory}
 use Rattle.upon_tool.specs.Status.{is_memory}
 use Rattle.upon_tool.specs.declared.library.Library.{Library}
 use Rattle.upon_tool.specs.declared.library.Refusal.{Refusal}
-use Rattle.upon_tool.specs.declared.library.Refusal.TheVariants.{Unreadable, NotText, Fault}
+use Rattle.upon_tool.specs.declared.library.Refusal.TheVariants.{Unreadable, NotText, Outside, Fault}
 
 -- the names of the files
 abbrev pub library_names : Library → List (List ℕ)
@@ -21,6 +21,7 @@ refusal_of library name = get_by_text library.refused name
 abbrev pub read_refusal : ReadFault → Option Refusal
 read_refusal FileUnreadable = Some Unreadable
 read_refusal FileNotText = Some NotText
+read_refusal FileOutside = Some Outside
 read_refusal OutOfMemory = None
 
 -- An engine took the text; or it is refused with the engine's error; or memory was out.

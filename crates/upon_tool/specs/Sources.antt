@@ -2,7 +2,7 @@
 use Rattle.std.specs.Prelude.{◌≡◌, ℕ, List, [], ◌∷◌, Option, Some, None, true, false}
 use Rattle.std.specs.Borrow.{Bor}
 use Rattle.upon_tool_io.specs.declared.files.ReadFault.{ReadFault}
-use Rattle.upon_tool_io.specs.declared.files.ReadFault.TheVariants.{Unreadable as FileUnreadable, NotText as FileNotText, OutOfMemory}
+use Rattle.upon_tool_io.specs.declared.files.ReadFault.TheVariants.{Unreadable as FileUnreadable, NotText as FileNotText, Outside as FileOutside, OutOfMemory}
 use Rattle.upon_tool.specs.Status.{IsMemory}
 use Rattle.upon_tool.specs.Words.{is_standard}
 use Rattle.upon_tool.specs.declared.failure.Failure.{Failure}
@@ -12,6 +12,7 @@ use Rattle.upon_tool.specs.declared.failure.Failure.TheVariants.{Unreadable, Not
 abbrev pub Unread : Bor (List ℕ) → ReadFault → Failure → Type 0
 Unread name FileUnreadable failure = failure ≡ Unreadable name
 Unread name FileNotText failure = failure ≡ NotText name
+Unread name FileOutside failure = failure ≡ Unreadable name
 Unread name OutOfMemory failure = IsMemory failure
 
 -- the file was not read, or memory was out

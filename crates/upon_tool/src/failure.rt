@@ -2,11 +2,13 @@
 ghost use Rattle.std.specs.Prelude.{◌≡◌};
 ghost use Rattle.upon_tool.specs.Status.{is_memory, status_of, IsMemory};
 
+use crate::picture::shown;
 use std::alloc::{AllocError, AllocFailed, Global};
 use std::io::{self, Write};
 use upon::Error;
 use upon::error::ErrorKind;
 use upon_json::context::DataFault;
+use upon_tool_io::output::WriteFault;
 
 /// Why a run fails.
 #[derive(Drop)]
@@ -22,7 +24,7 @@ pub enum Failure<'a> {
     /// The file of this name is no context.
     Data(&'a str, DataFault),
     /// The file of this name could not be written.
-    Unwritable(&'a str, io::Error),
+    Unwritable(&'a str, WriteFault),
     /// A template was refused, could not be rendered or not be shown.
     Fault(Error),
 }
@@ -78,8 +80,8 @@ pub fn report<E: Write>(alloc: Global, failure: &Failure<'_>, err: &mut E) -> u8
             report_data(name, fault, err);
             1
         }
-        Failure::Unwritable(name, error) => {
-            let _ = writeln!(err, "upon-tool: cannot write {name}: {error}");
+        Failure::Unwritable(name, fault) => {
+            report_unwritable(name, fault, err);
             1
         }
         Failure::Fault(error) => {
@@ -87,6 +89,21 @@ pub fn report<E: Write>(alloc: Global, failure: &Failure<'_>, err: &mut E) -> u8
             1
         }
     }
+}
+
+// Says why a file could not be written.
+fn report_unwritable<E: Write>(name: &str, fault: &WriteFault, err: &mut E) {
+    let _ = match fault {
+        WriteFault::Io(error) => writeln!(err, "upon-tool: cannot write {name}: {error}"),
+        WriteFault::OtherOwner => writeln!(
+            err,
+            "upon-tool: cannot write {name}: it belongs to another user or group"
+        ),
+        WriteFault::SeveralNames => writeln!(
+            err,
+            "upon-tool: cannot write {name}: it has several names, by hard links"
+        ),
+    };
 }
 
 // Says why a file is no context: with its line and column, if they are known.
@@ -107,11 +124,16 @@ pub fn report_fault<E: Write>(alloc: Global, error: &Error, err: &mut E) {
     if is_broken_pipe(error) {
         return;
     }
-    let _ = match error.pretty(alloc) {
-        Ok(text) if text.ends_with('\n') => write!(err, "{text}"),
-        Ok(text) => writeln!(err, "{text}"),
+    let _ = match told(alloc, error) {
+        Ok(text) => write!(err, "{text}"),
         Err(_) => writeln!(err, "out of memory"),
     };
+}
+
+// What an error is, with its picture, ended by a newline.
+fn told(alloc: Global, error: &Error) -> Result<String, AllocError> {
+    let text = error.pretty(alloc)?;
+    shown(alloc, text.as_str())
 }
 
 /// Returns whether an error says that memory is out.

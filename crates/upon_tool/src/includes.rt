@@ -4,6 +4,7 @@ ghost use Rattle.upon_types.specs.Span.{LiesIn};
 use crate::failure::report_fault;
 use std::alloc::Global;
 use std::borrow::CowStr;
+use std::collections::BTreeMap;
 use std::io;
 use upon::error::ErrorKind;
 use upon::types::Span;
@@ -20,7 +21,8 @@ pub fn including(alloc: Global, quoted: &str) -> Result<Template<'static>> {
     Engine::new(alloc).compile(CowStr::Owned(source))
 }
 
-/// Shows each include of a text that has one of these names, as the error with which a rendering would end there.
+/// Shows the first include of each of these names in a text, as the error with which a rendering would end there, and
+/// says how many more there are.
 pub fn show_includes<E: io::Write>(
     alloc: Global,
     name: &str,
@@ -28,6 +30,7 @@ pub fn show_includes<E: io::Write>(
     missing: &[&str],
     err: &mut E,
 ) -> Result<()> {
+    let mut counts = counts(alloc, source, missing)?;
     let searcher = Searcher::new();
     let mut lexer = Lexer::new(alloc, &searcher, source);
     let mut is_next = false;
@@ -37,12 +40,45 @@ pub fn show_includes<E: io::Write>(
             break;
         };
         let text = source.get(span.m..span.n).unwrap_or_default();
-        if is_next && includes_one(alloc, text, missing)? {
-            show_include(alloc, name, source, span, err);
+        if is_next {
+            if let Some(count) = counts.remove(included(alloc, text)?.as_str()) {
+                show_include(alloc, name, source, span, err);
+                show_count(name, count, err);
+            }
         }
         is_next = matches!(token, Token::Keyword) && text == "include";
     }
     Ok(())
+}
+
+// How many includes of each of these names a text has.
+fn counts(alloc: Global, source: &str, names: &[&str]) -> Result<BTreeMap<String, usize>> {
+    let mut counts = zeros(alloc, names)?;
+    let searcher = Searcher::new();
+    let mut lexer = Lexer::new(alloc, &searcher, source);
+    let mut is_next = false;
+    for _ in 0..source.len() {
+        let Some((token, span)) = lexer.next()? else {
+            break;
+        };
+        let text = source.get(span.m..span.n).unwrap_or_default();
+        if is_next {
+            if let Some(count) = counts.get_mut(included(alloc, text)?.as_str()) {
+                *count = count.saturating_add(1);
+            }
+        }
+        is_next = matches!(token, Token::Keyword) && text == "include";
+    }
+    Ok(counts)
+}
+
+// No include of each of these names.
+fn zeros(alloc: Global, names: &[&str]) -> Result<BTreeMap<String, usize>> {
+    let mut counts = BTreeMap::new(alloc);
+    for name in names {
+        drop(counts.insert(String::from_str(alloc, name)?, 0)?);
+    }
+    Ok(counts)
 }
 
 // Shows an include at a span.
@@ -54,9 +90,17 @@ fn show_include<E: io::Write>(alloc: Global, name: &str, source: &str, span: Spa
     report_fault(alloc, &error.with_name(alloc, name), err);
 }
 
-// Whether a quoted name is one of these.
-fn includes_one(alloc: Global, quoted: &str, names: &[&str]) -> Result<bool> {
+// Says that there are so many includes of what was shown, if there are more than one.
+fn show_count<E: io::Write>(name: &str, count: usize, err: &mut E) {
+    if count > 1 {
+        let _ = writeln!(err, "upon-tool: {name} includes it {count} times");
+    }
+}
+
+// The name that a quoted string denotes.
+fn included(alloc: Global, quoted: &str) -> Result<String> {
     let template = including(alloc, quoted)?;
-    let included = template.includes()?;
-    Ok(included.iter().any(|name| names.contains(name)))
+    let names = template.includes()?;
+    let name = names.first().copied().unwrap_or_default();
+    Ok(String::from_str(alloc, name)?)
 }

@@ -18,6 +18,8 @@ pub enum Refusal {
     Unreadable,
     /// It is not UTF-8.
     NotText,
+    /// It is a link that leads out of the folder.
+    Outside,
     /// Its text is no template.
     Fault(Error),
 }
@@ -30,6 +32,7 @@ impl Refusal {
     {
         match fault {
             ReadFault::NotText => Ok(Refusal::NotText),
+            ReadFault::Outside => Ok(Refusal::Outside),
             ReadFault::Unreadable => Ok(Refusal::Unreadable),
             ReadFault::OutOfMemory => Err(AllocError),
         }
@@ -101,22 +104,50 @@ impl Library {
         Ok(())
     }
 
-    /// Returns the file that is no template and that a rendering reached, if that is why it ended with this error.
-    pub fn reached(&self, engine: &Engine<'_>, error: &Error) -> Option<(&str, &Refusal)> {
-        if error.reason() != Some("unknown template") {
-            return None;
+    /// Returns the file that is no template and that a rendering reached, or the folder on the way to it that can't be
+    /// read, if that is why it ended with this error. It fails if there is no memory.
+    pub fn reached(
+        &self,
+        engine: &Engine<'_>,
+        error: &Error,
+    ) -> Result<Option<(&str, &Refusal)>, AllocError> {
+        match included(engine, error) {
+            Some(quoted) => self.refusal_at(quoted),
+            None => Ok(None),
         }
-        let template = engine.get_template(error.template_name()?)?;
-        let place = error.place()?;
-        let quoted = template.source().get(place.m..place.n)?;
-        self.refusal_at(quoted)
     }
 
-    // The file that is no template of the name that a quoted string denotes.
-    fn refusal_at(&self, quoted: &str) -> Option<(&str, &Refusal)> {
-        let template = including(self.alloc, quoted).ok()?;
-        let names = template.includes().ok()?;
-        let (name, refusal) = self.refused.get_key_value(*names.first()?)?;
-        Some((name.as_str(), refusal))
+    // The same of the name that a quoted string denotes.
+    fn refusal_at(&self, quoted: &str) -> Result<Option<(&str, &Refusal)>, AllocError> {
+        let Ok(template) = including(self.alloc, quoted) else {
+            return Err(AllocError);
+        };
+        let names = template.includes()?;
+        match names.first() {
+            Some(name) => Ok(self.refused_on_way(name)),
+            None => Ok(None),
+        }
     }
+
+    /// Returns the file of a name that is no template, or the folder on the way to it that can't be read.
+    pub(crate) fn refused_on_way(&self, name: &str) -> Option<(&str, &Refusal)> {
+        let mut path = name;
+        for _ in 0..name.len() {
+            if let Some((found, refusal)) = self.refused.get_key_value(path) {
+                return Some((found.as_str(), refusal));
+            }
+            (path, _) = path.rsplit_once('/')?;
+        }
+        None
+    }
+}
+
+// The quoted name of the include that found no template, if that is what an error says.
+fn included<'n>(engine: &'n Engine<'_>, error: &Error) -> Option<&'n str> {
+    if error.reason() != Some("unknown template") {
+        return None;
+    }
+    let template = engine.get_template(error.template_name()?)?;
+    let place = error.place()?;
+    template.source().get(place.m..place.n)
 }

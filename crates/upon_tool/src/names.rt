@@ -75,8 +75,8 @@ fn report_refused<E: io::Write>(
 ) -> bool {
     let mut is_refused = false;
     for name in names {
-        if let Some(refusal) = library.refusal(name) {
-            report_refusal(alloc, name, refusal, err);
+        if let Some((found, refusal)) = library.refused_on_way(name) {
+            report_refusal(alloc, found, refusal, err);
             is_refused = true;
         }
     }

@@ -10,6 +10,7 @@ ghost use Rattle.upon_tool.specs.Words.{has_equals, json_named, pair_of, split_w
 use crate::failure::{Failure, report};
 use crate::rendering::Page;
 use crate::sources::{STANDARD, files_in, text_at, text_of};
+use crate::terminal::Terminal;
 use crate::work::{Templates, Work, carry_out};
 use std::alloc::Global;
 use std::io::{Read, Write};
@@ -17,7 +18,8 @@ use std::rt::Files;
 use upon_tool_io::arguments::{self, Call, CheckCall, NamesCall, RenderCall};
 
 /// Does what the words ask for, of which the first is the program's name, and returns the status. Templates and
-/// contexts come from files, and from `input` if their name is `-`.
+/// contexts come from files, and from `input` if their name is `-`. What goes to `err` has its control characters
+/// spelled.
 pub fn run<R: Files + AllocGlobal + Clone + Drop, I: Read, O: Write, E: Write>(
     rt: &R,
     words: &[String],
@@ -28,9 +30,10 @@ pub fn run<R: Files + AllocGlobal + Clone + Drop, I: Read, O: Write, E: Write>(
     ensures { result ≤ 2 }
 {
     let alloc = rt.alloc();
+    let mut err = Terminal::new(err);
     match arguments::read(alloc, words) {
-        Ok(call) => run_call(rt, &call, input, out, err),
-        Err(error) => show_words(alloc, &error, out, err),
+        Ok(call) => run_call(rt, &call, input, out, &mut err),
+        Err(error) => show_words(alloc, &error, out, &mut err),
     }
 }
 
@@ -113,7 +116,7 @@ fn run_render<'a, R: Files + AllocGlobal + Clone + Drop, I: Read, O: Write, E: W
     let set = pairs(rt.alloc(), call.set.as_slice())?;
     let source = text_of(rt, call.file, input)?;
     let json = text_at(rt, call.data, input)?;
-    let files = files_in(rt, call.templates)?;
+    let files = files_in(rt, call.templates, call.follow)?;
     let templates = Templates {
         files,
         page: Some((call.file, source)),
@@ -180,7 +183,7 @@ fn run_check<'a, R: Files + AllocGlobal + Clone + Drop, I: Read, O: Write, E: Wr
     ensures ends { IfOk result (ChecksCall call.now (I.remaining input.old)) }
     ensures refused { IfErr result (RefusesCall (CheckAsked call.now) (I.remaining input.old)) }
 {
-    let files = files_in(rt, call.templates)?;
+    let files = files_in(rt, call.templates, call.follow)?;
     let templates = Templates {
         files,
         page: None,
@@ -211,7 +214,7 @@ fn run_names<'a, R: Files + AllocGlobal + Clone + Drop, I: Read, O: Write, E: Wr
     ensures refused { IfErr result (RefusesCall (NamesAsked call.now) (I.remaining input.old)) }
 {
     let source = text_of(rt, call.file, input)?;
-    let files = files_in(rt, call.templates)?;
+    let files = files_in(rt, call.templates, call.follow)?;
     let templates = Templates {
         files,
         page: Some((call.file, source)),

@@ -139,13 +139,17 @@ pub fn explain<E: io::Write>(
 ) -> u8
     ensures { result ≡ status_of failure.now }
 {
-    if let Failure::Fault(error) = failure {
-        if let Some((name, refusal)) = library.reached(engine, error) {
-            report_refusal(alloc, name, refusal, err);
-            return 1;
+    let Failure::Fault(error) = failure else {
+        return report(alloc, failure, err);
+    };
+    match library.reached(engine, error) {
+        Ok(Some((name, refusal))) => report_refusal(alloc, name, refusal, err),
+        Ok(None) => report_fault(alloc, error, err),
+        Err(_) => {
+            let _ = writeln!(err, "out of memory");
         }
     }
-    report(alloc, failure, err)
+    1
 }
 
 /// Says why a file is no template.
@@ -157,6 +161,12 @@ pub fn report_refusal<E: io::Write>(alloc: Global, name: &str, refusal: &Refusal
         }
         Refusal::NotText => {
             let _ = writeln!(err, "upon-tool: {name} is not UTF-8");
+        }
+        Refusal::Outside => {
+            let _ = writeln!(
+                err,
+                "upon-tool: {name} is a link out of the folder (--follow follows it)"
+            );
         }
     }
 }

@@ -7,7 +7,8 @@ use crate::failure::Failure;
 use std::alloc::AllocError;
 use std::io::Read;
 use std::rt::Files;
-use upon_tool_io::files::{ReadFault, files_of, joined, read_file, read_text};
+use upon_tool_io::files::{ReadFault, joined, read_file, read_text};
+use upon_tool_io::folder::files_of;
 
 /// The name that stands for standard input or output.
 pub(crate) const STANDARD: &str = "-";
@@ -21,10 +22,11 @@ pub(crate) struct FolderFile {
     pub(crate) read: Result<String, ReadFault>,
 }
 
-/// Reads the files of a folder, if one is given.
+/// Reads the files of a folder, if one is given; those that links out of it lead to, if such links are followed.
 pub(crate) fn files_in<'a, R: Files + AllocGlobal + Clone + Drop>(
     rt: &R,
     folder: Option<&'a str>,
+    follows: bool,
 ) -> Result<Vec<FolderFile>, Failure<'a>>
     ensures none { IsNone folder.entry → IfOk result (λ files. files.items ≡ []) }
     ensures unread { IfErr result (λ failure. IsSomeAnd folder.entry (λ folder. IsUnread folder failure)) }
@@ -34,13 +36,16 @@ pub(crate) fn files_in<'a, R: Files + AllocGlobal + Clone + Drop>(
     let Some(folder) = folder else {
         return Ok(files);
     };
-    let names = match files_of(rt, folder) {
+    let names = match files_of(rt, folder, follows) {
         Ok(names) => names,
         Err(fault) => return Err(failure_of(folder, fault)),
     };
-    for name in names {
+    for (name, fault) in names {
         let path = joined(alloc, folder, name.as_str())?;
-        let read = read_file(rt, alloc, path.as_str());
+        let read = match fault {
+            Some(fault) => Err(fault),
+            None => read_file(rt, alloc, path.as_str()),
+        };
         files.push(FolderFile { name, read })?;
     }
     Ok(files)
@@ -91,7 +96,7 @@ fn failure_of<'a>(name: &'a str, fault: ReadFault) -> Failure<'a>
     ensures { Unread name.entry fault result }
 {
     match fault {
-        ReadFault::Unreadable => Failure::Unreadable(name),
+        ReadFault::Unreadable | ReadFault::Outside => Failure::Unreadable(name),
         ReadFault::NotText => Failure::NotText(name),
         ReadFault::OutOfMemory => AllocError.into(),
     }

@@ -22,7 +22,7 @@ use std::rt::Files;
 use upon::{AnyEngine, Engine, EngineTexts, theorem};
 use upon_engine::laws_of_templates;
 use upon_html::formatters::{Escape, Verbatim};
-use upon_tool_io::output::Replacement;
+use upon_tool_io::output::{Replacement, WriteFault};
 
 /// What an engine is to hold.
 #[derive(Drop)]
@@ -194,17 +194,20 @@ fn write_file<'a, R: Files + AllocGlobal>(
     path: &'a str,
 ) -> Result<(), Failure<'a>> {
     let alloc = rt.alloc();
-    let (replacement, file) = Replacement::open(rt, path).map_err(|error| Failure::Unwritable(
-        path, error,
+    let (replacement, file) = Replacement::open(rt, path).map_err(|fault| Failure::Unwritable(
+        path, fault,
     ))?;
-    let sent = match BufWriter::with_capacity(alloc, OUTPUT_BUFFER, file) {
-        Ok(mut writer) => send(alloc, engine, page, &mut writer),
-        Err(error) => Err(Failure::Unwritable(path, error)),
+    let mut writer = match BufWriter::with_capacity(alloc, OUTPUT_BUFFER, file) {
+        Ok(writer) => writer,
+        Err(error) => {
+            replacement.discard(rt);
+            return Err(Failure::Unwritable(path, WriteFault::Io(error)));
+        }
     };
-    match sent {
+    match send(alloc, engine, page, &mut writer) {
         Ok(()) => replacement
-            .keep(rt)
-            .map_err(|error| Failure::Unwritable(path, error)),
+            .keep(rt, writer.get_ref())
+            .map_err(|error| Failure::Unwritable(path, WriteFault::Io(error))),
         Err(failure) => {
             replacement.discard(rt);
             Err(failure)

@@ -19,9 +19,16 @@ fn main(rt: HostRuntime) -> ExitCode {
         let _ = writeln!(err, "out of memory");
         return ExitCode::FAILURE;
     };
-    let Ok(words) = env::args(&rt) else {
-        let _ = writeln!(err, "upon-tool: an argument is not UTF-8, or memory is out");
-        return ExitCode::from(UNREADABLE_ARGUMENTS);
+    let words = match env::args(&rt) {
+        Ok(words) => words,
+        Err(error) if error.kind() == io::ErrorKind::OutOfMemory => {
+            let _ = writeln!(err, "out of memory");
+            return ExitCode::FAILURE;
+        }
+        Err(_) => {
+            let _ = writeln!(err, "upon-tool: an argument is not UTF-8");
+            return ExitCode::from(UNREADABLE_ARGUMENTS);
+        }
     };
     let Ok(words) = words.collect::<Vec<String>>(alloc) else {
         let _ = writeln!(err, "out of memory");

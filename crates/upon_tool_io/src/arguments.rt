@@ -25,6 +25,8 @@ pub struct RenderCall<'a> {
     pub set: Vec<&'a str>,
     /// The folder of the templates that can be included.
     pub templates: Option<&'a str>,
+    /// Whether links out of the folder are followed.
+    pub follow: bool,
     /// Whether values are escaped for HTML.
     pub html: bool,
     /// Where the text goes; none and `-` are standard output.
@@ -38,6 +40,8 @@ pub struct CheckCall<'a> {
     pub files: Vec<&'a str>,
     /// The folder of the templates that can be included, which are checked too.
     pub templates: Option<&'a str>,
+    /// Whether links out of the folder are followed.
+    pub follow: bool,
 }
 
 /// A list that is asked for, of what a template needs.
@@ -47,6 +51,8 @@ pub struct NamesCall<'a> {
     pub file: &'a str,
     /// The folder of the templates that can be included.
     pub templates: Option<&'a str>,
+    /// Whether links out of the folder are followed.
+    pub follow: bool,
     /// Whether the list is JSON.
     pub json: bool,
 }
@@ -58,6 +64,8 @@ const DATA: &str = "data";
 const SET: &str = "set";
 
 const TEMPLATES: &str = "templates";
+
+const FOLLOW: &str = "follow";
 
 const HTML: &str = "html";
 
@@ -113,6 +121,7 @@ fn render_call<'a>(alloc: Global, matches: &ArgMatches<'a>) -> Result<RenderCall
         data: matches.get_str(DATA),
         set: words(alloc, matches.get_strs(SET))?,
         templates: matches.get_str(TEMPLATES),
+        follow: matches.get_flag(FOLLOW),
         html: matches.get_flag(HTML),
         out: matches.get_str(OUT),
     })
@@ -123,6 +132,7 @@ fn check_call<'a>(alloc: Global, matches: &ArgMatches<'a>) -> Result<CheckCall<'
     Ok(CheckCall {
         files: words(alloc, matches.get_strs(FILE))?,
         templates: matches.get_str(TEMPLATES),
+        follow: matches.get_flag(FOLLOW),
     })
 }
 
@@ -131,6 +141,7 @@ fn names_call<'a>(matches: &ArgMatches<'a>) -> NamesCall<'a> {
     NamesCall {
         file: matches.get_str(FILE).unwrap_or_default(),
         templates: matches.get_str(TEMPLATES),
+        follow: matches.get_flag(FOLLOW),
         json: matches.get_flag(JSON),
     }
 }
@@ -180,6 +191,7 @@ fn render_command<'a>(alloc: Global) -> Result<Command<'a>, AllocError> {
         ))?
         .arg(set(alloc))?
         .arg(templates(alloc))?
+        .arg(follow(alloc))?
         .arg(html(alloc))?
         .arg(option(
             alloc,
@@ -198,7 +210,8 @@ fn check_command<'a>(alloc: Global) -> Result<Command<'a>, AllocError> {
     Command::new(alloc, CHECK)
         .about("Shows each error of templates, and each include that names none")
         .arg(files)?
-        .arg(templates(alloc))
+        .arg(templates(alloc))?
+        .arg(follow(alloc))
 }
 
 fn names_command<'a>(alloc: Global) -> Result<Command<'a>, AllocError> {
@@ -208,6 +221,7 @@ fn names_command<'a>(alloc: Global) -> Result<Command<'a>, AllocError> {
         )
         .arg(file(alloc))?
         .arg(templates(alloc))?
+        .arg(follow(alloc))?
         .arg(json(alloc))
 }
 
@@ -236,18 +250,28 @@ fn set<'a>(alloc: Global) -> Arg<'a> {
     .action(ArgAction::Append)
 }
 
+fn follow<'a>(alloc: Global) -> Arg<'a> {
+    flag(alloc, FOLLOW, "Follow links that lead out of DIR")
+}
+
 fn html<'a>(alloc: Global) -> Arg<'a> {
-    Arg::new(alloc, HTML)
-        .long(HTML)
-        .action(ArgAction::SetTrue)
-        .help("Escape values for HTML; the formatter verbatim leaves one as it is")
+    flag(
+        alloc,
+        HTML,
+        "Escape values for HTML; the formatter verbatim leaves one as it is",
+    )
 }
 
 fn json<'a>(alloc: Global) -> Arg<'a> {
-    Arg::new(alloc, JSON)
-        .long(JSON)
+    flag(alloc, JSON, "Write one JSON object in place of lines")
+}
+
+// An argument by a name, without a value.
+fn flag<'a>(alloc: Global, name: &'a str, help: &'a str) -> Arg<'a> {
+    Arg::new(alloc, name)
+        .long(name)
         .action(ArgAction::SetTrue)
-        .help("Write one JSON object in place of lines")
+        .help(help)
 }
 
 // An argument by a name, with one value.

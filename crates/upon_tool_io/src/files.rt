@@ -1,12 +1,11 @@
-// Files that are read, and the files of a folder.
+// Files that are read as texts.
 ghost use Rattle.std.specs.Prelude.{◌≡◌, Err, IfOk, IfSome, string_bytes};
 ghost use Rattle.std.specs.Str.{IsUtf8};
 ghost use Rattle.upon_tool_io.specs.Paths.{joined};
 ghost use Rattle.upon_tool_io.specs.declared.files.ReadFault.TheVariants.{NotText, OutOfMemory as MemoryIsOut};
 
 use std::alloc::{AllocError, AllocFailed, Global};
-use std::collections::BTreeSet;
-use std::fs::{self, DirEntry, File};
+use std::fs::File;
 use std::io::{self, Read};
 use std::rt::Files;
 
@@ -17,6 +16,8 @@ pub enum ReadFault {
     Unreadable,
     /// It is not UTF-8.
     NotText,
+    /// It is a link that leads out of the folder that it is in.
+    Outside,
     /// There was no memory.
     OutOfMemory,
 }
@@ -68,75 +69,6 @@ pub fn read_text<I: Read>(alloc: Global, reader: &mut I) -> Result<String, ReadF
 pub fn read_file<R: Files>(rt: &R, alloc: Global, path: &str) -> Result<String, ReadFault> {
     let mut file = File::open(rt, path)?;
     read_text(alloc, &mut file)
-}
-
-/// Returns the paths of the files of a folder and of its subfolders, as they are in it, in ascending order. A link to a
-/// file is one, and so is a link to nothing; links to folders are not followed, and what is no file is left out.
-pub fn files_of<R: Files + AllocGlobal + Clone + Drop>(
-    rt: &R,
-    folder: &str,
-) -> Result<BTreeSet<String>, ReadFault> {
-    let alloc = rt.alloc();
-    let mut listing = Listing {
-        files: BTreeSet::new(alloc),
-        folders: Vec::new(alloc),
-    };
-    listing.folders.push(String::new(alloc))?;
-    for _ in 0..u64::MAX {
-        let Some(inside) = listing.folders.pop() else {
-            break;
-        };
-        list(rt, folder, inside.as_str(), &mut listing)?;
-    }
-    Ok(listing.files)
-}
-
-// The files that were found, and the folders that wait to be read, by their paths in the folder.
-#[derive(Drop)]
-struct Listing {
-    files: BTreeSet<String>,
-    folders: Vec<String>,
-}
-
-// Lists what is in a folder of the folder.
-fn list<R: Files + AllocGlobal + Clone + Drop>(
-    rt: &R,
-    folder: &str,
-    inside: &str,
-    listing: &mut Listing,
-) -> Result<(), ReadFault> {
-    let alloc = rt.alloc();
-    let path = joined(alloc, folder, inside)?;
-    for entry in fs::read_dir(rt, path.as_str())? {
-        let entry = entry?;
-        let name = joined(alloc, inside, entry.file_name())?;
-        put(rt, &entry, name, listing)?;
-    }
-    Ok(())
-}
-
-// Puts an entry where it belongs.
-fn put<R: Files + AllocGlobal + Clone + Drop>(
-    rt: &R,
-    entry: &DirEntry<R, R::A>,
-    name: String,
-    listing: &mut Listing,
-) -> Result<(), ReadFault> {
-    let kind = entry.file_type()?;
-    if kind.is_dir() {
-        listing.folders.push(name)?;
-    } else if kind.is_file() || kind.is_symlink() && leads_to_file(rt, entry.path().as_str()) {
-        listing.files.insert(name)?;
-    }
-    Ok(())
-}
-
-// Whether a link leads to a file, or to nothing.
-fn leads_to_file<R: Files>(rt: &R, path: &str) -> bool {
-    match fs::metadata(rt, path) {
-        Ok(metadata) => metadata.is_file(),
-        Err(_) => true,
-    }
 }
 
 /// Returns the path of a name in a folder; if the folder's name is empty, the name. It fails if there is no memory.

@@ -3,4 +3,5 @@
 
 pub mod arguments;
 pub mod files;
+pub mod folder;
 pub mod output;

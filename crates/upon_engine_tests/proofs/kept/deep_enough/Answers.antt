@@ -1,5 +1,0 @@
-use Rattle.upon_engine_tests.proofs.KeptTexts.{deeper}
-use Rattle.upon_engine_tests.proofs.kept.deep_enough.Goals as goal
-
-pub returns : goal.returns
-returns g c depth le = deeper _ depth _ _ c.rendered.result c.rendered.ensures.means (c.rendered.ensures.laws.depths _ depth le)

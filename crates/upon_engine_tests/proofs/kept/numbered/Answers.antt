@@ -1,5 +1,0 @@
-use Rattle.std.proofs.Common.{refl}
-use Rattle.upon_engine_tests.proofs.kept.numbered.Goals as goal
-
-pub returns : goal.returns
-returns g c number k is below = c.rendered.ensures.laws.numbered _ number k refl is below

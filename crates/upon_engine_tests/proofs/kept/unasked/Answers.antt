@@ -1,4 +1,0 @@
-use Rattle.upon_engine_tests.proofs.kept.unasked.Goals as goal
-
-pub returns : goal.returns
-returns g c v is = c.to_string.ensures.laws.source_stays v is

@@ -1,3 +1,0 @@
-pub mod OnValue
-pub mod Greeting
-pub mod Page

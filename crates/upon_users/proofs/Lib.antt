@@ -1,0 +1,9 @@
+pub mod Before
+pub mod KeptTexts
+pub mod OnCalls
+pub mod BuiltEngines
+pub mod Greeting
+pub mod Hello
+pub mod Page
+pub mod Answered
+pub mod StoredHello

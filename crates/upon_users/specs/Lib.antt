@@ -1,0 +1,4 @@
+pub mod Greeting
+pub mod OnValue
+pub mod Page
+pub mod Pages
