@@ -1,2 +1,5 @@
-pub mod Joined
+pub mod Examples
+pub mod Numbers
+pub mod Reading
+pub mod Rising
 pub mod SetOver

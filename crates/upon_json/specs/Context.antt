@@ -1,22 +1,43 @@
 -- The context of a text of JSON, or of none, with texts set over it.
-use Rattle.std.specs.Prelude.{◌≡◌, ◌⊎◌, ℕ, List, map, Bool, true, false, Option, Some, None, IsTrue}
+use Rattle.std.specs.Prelude.{◌≡◌, ℕ, nat_eq, List, [], ◌∷◌, drop, map, codes, Bool, true, false, Option, Some, None, option_and_then, IsTrue, if◌then◌else◌}
 use Rattle.std.specs.Borrow.{Bor}
-use Rattle.serde_json.specs.Data.{Data, null, boolean, number, string, array, object}
-use Rattle.serde_json.specs.Read.{read}
+use Rattle.std.specs.List.{starts_with}
+use Rattle.json.specs.Lex.{tokens}
 use Rattle.upon_types.specs.Conversions.{last_at, or_else}
-use Rattle.upon_types.specs.Val.{Val, text_val, map_val, Entries, no_entries, entry_at, rises}
-use Rattle.upon_json.specs.Value.{value_of}
+use Rattle.upon_types.specs.Val.{Val, none_val, bool_val, int_val, text_val, list_val, map_val, Entries, no_entries, entry_then, entry_at, rises}
+use Rattle.upon_json.specs.Reads.{reads_whole}
 use Rattle.upon_json.specs.declared.context.DataFault.{DataFault}
-use Rattle.upon_json.specs.declared.context.DataFault.TheVariants.{Refused, NotInteger, NotObject, OutOfMemory}
+use Rattle.upon_json.specs.declared.context.DataFault.TheVariants.{Refused, NotObject, OutOfMemory}
 
 -- keys with the texts that are set
 abbrev pub set_pairs : List (Bor (List ℕ) × Bor (List ℕ)) → List (List ℕ × Val)
 set_pairs set = map (λ pair. (pair.0.now, text_val pair.1.now)) set
 
--- the entries of the object that a text of JSON is; of no text, none
+-- the bytes of a byte order mark, which is U+FEFF
+abbrev pub byte_order_mark : List ℕ
+byte_order_mark = 239 ∷ 187 ∷ 191 ∷ []
+
+-- a text without a byte order mark at its begin
+abbrev pub without_mark : List ℕ → List ℕ
+without_mark text = if starts_with nat_eq text byte_order_mark then drop 3 text else text
+
+-- the value that a text of JSON is, passing over a byte order mark
+abbrev pub text_value : List ℕ → Option Val
+text_value text = reads_whole (tokens (without_mark text))
+
+-- the entries of a context: those of a map, or of a list the one entry `items`
+abbrev pub entries_in : Val → Option Entries
+entries_in none_val = None
+entries_in (bool_val b) = None
+entries_in (int_val n) = None
+entries_in (text_val text) = None
+entries_in (list_val vs) = Some (entry_then (codes "items") (list_val vs) no_entries)
+entries_in (map_val es) = Some es
+
+-- the entries of the object or the list that a text of JSON is; of no text, none
 abbrev pub HasEntries : Option (List ℕ) → Entries → Type 0
 HasEntries None es = es ≡ no_entries
-HasEntries (Some text) es = (d : Data) × (read text ≡ Some d) × (value_of d ≡ Some (map_val es))
+HasEntries (Some text) es = option_and_then entries_in (text_value text) ≡ Some es
 
 -- the map of some entries with the last of the values that are paired with a key at the key
 abbrev pub IsSetOver : List (List ℕ × Val) → Entries → Val → Type 0
@@ -24,53 +45,30 @@ IsSetOver pairs es (map_val new) = IsTrue (rises new)
     × ((key : List ℕ) → entry_at key new ≡ or_else (last_at key pairs) (entry_at key es))
 IsSetOver pairs es v = ⊥
 
--- the context: the object's entries, with the texts set over them
+-- the context: the entries of the text, with the texts set over them
 abbrev pub IsContext : Option (List ℕ) → List (List ℕ × Val) → Val → Type 0
 IsContext json pairs v = (es : Entries) × HasEntries json es × IsSetOver pairs es v
 
+-- a text of JSON that is neither an object nor a list
+abbrev pub IsNoObject : List ℕ → Type 0
+IsNoObject text = (v : Val) × (text_value text ≡ Some v) × (entries_in v ≡ None)
+
+-- Memory is out, or the text has no entries: it is no JSON, or it is neither an object nor a list.
+abbrev pub IsRefusal : Option (List ℕ) → DataFault → Type 0
+IsRefusal json OutOfMemory = Unit {0}
+IsRefusal None (Refused refusal) = ⊥
+IsRefusal None NotObject = ⊥
+IsRefusal (Some text) (Refused refusal) = text_value text ≡ None
+IsRefusal (Some text) NotObject = IsNoObject text
+
 -- memory is out
 abbrev pub is_memory : DataFault → Bool
-is_memory (Refused error) = false
-is_memory NotInteger = false
+is_memory (Refused refusal) = false
 is_memory NotObject = false
 is_memory OutOfMemory = true
 
--- an object
-abbrev pub is_object : Data → Bool
-is_object null = false
-is_object (boolean b) = false
-is_object (number n) = false
-is_object (string s) = false
-is_object (array ds) = false
-is_object (object ms) = true
-
--- a text of JSON that is no object
-abbrev pub IsNoObject : List ℕ → Type 0
-IsNoObject text = (d : Data) × (read text ≡ Some d) × (is_object d ≡ false)
-
--- a text of JSON that is an object, in which a number is no integer of 64 bits
-abbrev pub HasOtherNumber : List ℕ → Type 0
-HasOtherNumber text = (d : Data) × (read text ≡ Some d) × (is_object d ≡ true) × (value_of d ≡ None)
-
--- Memory is out, or the text has no entries: it is no JSON or has such a number, whose place is known or not, or it is
--- no object.
-abbrev pub IsRefusal : Option (List ℕ) → DataFault → Type 0
-IsRefusal json OutOfMemory = Unit {0}
-IsRefusal None fault = ⊥
-IsRefusal (Some text) (Refused error) = (read text ≡ None) ⊎ HasOtherNumber text
-IsRefusal (Some text) NotInteger = HasOtherNumber text
-IsRefusal (Some text) NotObject = IsNoObject text
-
--- of a number: it is told with its place or without, or memory is out
-abbrev pub is_of_number : DataFault → Bool
-is_of_number (Refused error) = true
-is_of_number NotInteger = true
-is_of_number NotObject = false
-is_of_number OutOfMemory = true
-
--- a text is refused with its place, or memory is out
+-- a text is no JSON, or memory is out
 abbrev pub is_refused : DataFault → Bool
-is_refused (Refused error) = true
-is_refused NotInteger = false
+is_refused (Refused refusal) = true
 is_refused NotObject = false
 is_refused OutOfMemory = true

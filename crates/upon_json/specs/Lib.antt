@@ -1,2 +1,3 @@
 pub mod Value
+pub mod Reads
 pub mod Context

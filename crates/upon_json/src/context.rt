@@ -1,13 +1,13 @@
-// What templates are rendered on: a JSON object, and texts that are set over it.
-ghost use Rattle.std.specs.Prelude.{◌≡◌, IfOk, IfErr, Some, true, false, option_map};
-ghost use Rattle.serde_json.specs.Errors.{IsMemory};
-ghost use Rattle.upon_types.specs.Val.{rises};
-ghost use Rattle.upon_types.specs.View.{view, entries_view};
-ghost use Rattle.upon_json.specs.Context.{HasEntries, IsContext, IsRefusal, is_memory, is_of_number, is_refused, set_pairs};
+// What templates are rendered on: a JSON object or list, and texts that are set over it.
+ghost use Rattle.std.specs.Prelude.{◌≡◌, IfOk, IfErr, Some, true, option_map, codes};
+ghost use Rattle.upon_types.specs.Val.{entry_then, list_val, no_entries, rises};
+ghost use Rattle.upon_types.specs.View.{view, vals_view, entries_view};
+ghost use Rattle.upon_json.specs.Context.{HasEntries, IsContext, IsRefusal, is_memory, is_refused, set_pairs, text_value, without_mark};
+ghost use Rattle.upon_json.specs.Reads.{is_memory as is_memory_fault};
 
-use crate::integers::first_other_number;
-use crate::value::map;
-use serde_json::Value as Json;
+use crate::refusal::{Place, Refusal, said_of};
+use crate::value::{ReadFault, read_whole};
+use json::{Reader, Scratch};
 use std::alloc::{AllocError, AllocFailed, Global};
 use std::collections::BTreeMap;
 use upon_types::value::Value;
@@ -15,11 +15,9 @@ use upon_types::value::Value;
 /// Why data are no context.
 #[derive(Drop)]
 pub enum DataFault {
-    /// The text is no JSON, or has a number that is no integer of 64 bits; the error has line and column.
-    Refused(serde_json::Error),
-    /// It has such a number, whose place is not known.
-    NotInteger,
-    /// It is JSON, but no object.
+    /// The text is no JSON.
+    Refused(Refusal),
+    /// It is JSON, but neither an object nor a list.
     NotObject,
     /// There was no memory.
     OutOfMemory,
@@ -42,18 +40,21 @@ impl<T: Drop> From<AllocFailed<T>> for DataFault {
 }
 
 /// Returns the context of a text of JSON, or of none, with texts set over it by their keys; of equal keys the last
-/// counts.
+/// counts. The entries are those of an object; of a list there is one, `items`. A byte order mark at the begin of the
+/// text is passed over.
 ///
-/// The error is `Refused` if the text is no JSON, or has a number that is no integer from -9223372036854775808 to
-/// 9223372036854775807 (`NotInteger` if its place is not known), `NotObject` if it is JSON but no object, and
-/// `OutOfMemory`.
+/// A number is an integer if it is one from -9223372036854775808 to 9223372036854775807, written without point and
+/// exponent, else the text that spells it.
+///
+/// The error is `Refused` if the text is no JSON or nests deeper than 128, `NotObject` if it is JSON but neither an
+/// object nor a list, and `OutOfMemory`.
 pub fn context(alloc: Global, json: Option<&str>, set: &[(&str, &str)]) -> Result<Value, DataFault>
     ensures read { IfOk result
         (λ v. IsContext (option_map (λ text. text.now) json.entry) (set_pairs set.now) (view v)) }
     ensures refused { IfErr result (IsRefusal (option_map (λ text. text.now) json.entry)) }
 {
     let mut entries = match json {
-        Some(text) => object(alloc, text)?,
+        Some(text) => entries_of(alloc, text)?,
         None => BTreeMap::new(alloc),
     };
     for (key, text) in set {
@@ -63,42 +64,70 @@ pub fn context(alloc: Global, json: Option<&str>, set: &[(&str, &str)]) -> Resul
     Ok(Value::Map(entries))
 }
 
-// The entries of the object that a text is.
-fn object(alloc: Global, text: &str) -> Result<BTreeMap<String, Value>, DataFault>
-    ensures read { IfOk result (λ entries. HasEntries (Some text.now) (entries_view entries.entries)) }
-    ensures rise { IfOk result (λ entries. rises (entries_view entries.entries) ≡ true) }
+// The entries of the object or the list that a text is.
+fn entries_of(alloc: Global, text: &str) -> Result<BTreeMap<String, Value>, DataFault>
+    ensures read { IfOk result (λ m. HasEntries (Some text.now) (entries_view m.entries)) }
+    ensures rise { IfOk result (λ m. rises (entries_view m.entries) ≡ true) }
     ensures refused { IfErr result (IsRefusal (Some text.now)) }
 {
-    let json = match Json::from_str(alloc, text) {
-        Ok(json) => json,
-        Err(error) => return Err(refusal(error)),
-    };
-    let Json::Object(members) = &json else {
-        return Err(DataFault::NotObject);
-    };
-    match map(alloc, members)? {
-        Some(entries) => Ok(entries),
-        None => Err(not_integer(alloc, text)),
+    match value_of(alloc, text)? {
+        Value::Map(entries) => Ok(entries),
+        Value::List(items) => Ok(of_list(alloc, items)?),
+        Value::None | Value::Bool(_) | Value::Integer(_) | Value::String(_) => {
+            Err(DataFault::NotObject)
+        }
     }
 }
 
-fn refusal(error: serde_json::Error) -> DataFault
-    ensures memory { is_memory result ≡ false → ¬ IsMemory error }
+// The entries of a list: the one entry `items`.
+fn of_list(alloc: Global, items: Vec<Value>) -> Result<BTreeMap<String, Value>, DataFault>
+    ensures entries { IfOk result (λ m. entries_view m.entries
+        ≡ entry_then (codes "items") (list_val (vals_view items.items)) no_entries) }
+    ensures memory { IfErr result (λ fault. is_memory fault ≡ true) }
+{
+    let key = String::from_str(alloc, "items")?;
+    let mut entries = BTreeMap::new(alloc);
+    drop(entries.insert(key, Value::List(items))?);
+    Ok(entries)
+}
+
+// The value that a text is.
+fn value_of(alloc: Global, text: &str) -> Result<Value, DataFault>
+    ensures read { IfOk result (λ v. text_value text.now ≡ Some (view v)) }
+    ensures refused { IfErr result (IsRefusal (Some text.now)) }
+{
+    let text = without_mark(text);
+    let mut scratch = Scratch::new(alloc);
+    let mut reader = Reader::new(text, &mut scratch)?;
+    match read_whole(alloc, &mut reader) {
+        Ok(value) => Ok(value),
+        Err(fault) => Err(refusal(alloc, text, fault, reader.offset())),
+    }
+}
+
+// The text without a byte order mark at its begin.
+fn without_mark(text: &str) -> &str
+    ensures { result.now ≡ without_mark text.now }
+{
+    match text.strip_prefix("\u{feff}") {
+        Some(rest) => rest,
+        None => text,
+    }
+}
+
+// Why a text is refused that reading stopped in, so many bytes into it.
+#[cold]
+fn refusal(alloc: Global, text: &str, fault: ReadFault, offset: usize) -> DataFault
+    ensures memory { is_memory_fault fault ≡ true → is_memory result ≡ true }
     ensures refused { is_refused result ≡ true }
 {
-    if error.is_memory() {
-        DataFault::OutOfMemory
-    } else {
-        DataFault::Refused(error)
-    }
-}
-
-// That a number is no integer, with the place of the first.
-fn not_integer(alloc: Global, text: &str) -> DataFault
-    ensures { is_of_number result ≡ true }
-{
-    match first_other_number(alloc, text) {
-        Some(error) => refusal(error),
-        None => DataFault::NotInteger,
+    match fault {
+        ReadFault::OutOfMemory => DataFault::OutOfMemory,
+        ReadFault::TooDeep(offset) => DataFault::Refused(Refusal::TooDeep(Place::at(text, offset))),
+        ReadFault::NotJson => match said_of(alloc, text) {
+            Some(error) if error.is_memory() => DataFault::OutOfMemory,
+            Some(error) => DataFault::Refused(Refusal::Said(error)),
+            None => DataFault::Refused(Refusal::NotJson(Place::at(text, offset))),
+        },
     }
 }

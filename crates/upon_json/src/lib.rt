@@ -1,6 +1,6 @@
-// Contexts from JSON: an object, and texts that are set over it.
+// Contexts from JSON: an object or a list, and texts that are set over it.
 #![tactic(auto)]
 
 pub mod context;
-pub mod integers;
+pub mod refusal;
 pub mod value;

@@ -1,4 +1,4 @@
--- What a rendering on a JSON object answers.
+-- What a rendering on JSON answers.
 use Rattle.std.specs.Prelude.{◌≡◌, ℕ, List, Bool, true, false, Option, Some, option_map, Result, Ok, Err}
 use Rattle.std.specs.Borrow.{Bor}
 use Rattle.upon_types.specs.Tree.{Statements}

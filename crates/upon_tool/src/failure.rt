@@ -106,15 +106,11 @@ fn report_unwritable<E: Write>(name: &str, fault: &WriteFault, err: &mut E) {
     };
 }
 
-// Says why a file is no context: with its line and column, if they are known.
+// Says why a file is no context: if it is no JSON, with the line and the column where that is seen.
 fn report_data<E: Write>(name: &str, fault: &DataFault, err: &mut E) {
     let _ = match fault {
-        DataFault::Refused(error) => writeln!(err, "upon-tool: {name}: {error}"),
-        DataFault::NotInteger => writeln!(
-            err,
-            "upon-tool: {name}: a number is not an integer of 64 bits"
-        ),
-        DataFault::NotObject => writeln!(err, "upon-tool: {name}: not an object"),
+        DataFault::Refused(refusal) => writeln!(err, "upon-tool: {name}: {refusal}"),
+        DataFault::NotObject => writeln!(err, "upon-tool: {name}: neither an object nor a list"),
         DataFault::OutOfMemory => writeln!(err, "out of memory"),
     };
 }

@@ -20,9 +20,9 @@ use upon_json::context::context;
 pub struct Page<'a, 't, 's> {
     /// The template's name.
     pub name: &'a str,
-    /// The text of a JSON object, after its file's name; none is an object without members.
+    /// The text of JSON, an object or a list, after its file's name; none is an object without members.
     pub json: Option<(&'a str, &'t str)>,
-    /// Texts that are set over the object, by their keys; of equal keys the last counts.
+    /// Texts that are set over it, by their keys; of equal keys the last counts.
     pub set: &'s [(&'a str, &'a str)],
 }
 

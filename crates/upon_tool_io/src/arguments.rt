@@ -181,13 +181,13 @@ fn with_command<'a>(
 
 fn render_command<'a>(alloc: Global) -> Result<Command<'a>, AllocError> {
     Command::new(alloc, RENDER)
-        .about("Renders a template on a JSON object")
+        .about("Renders a template on JSON")
         .arg(file(alloc))?
         .arg(option(
             alloc,
             DATA,
             "DATA",
-            "The JSON object that is the context, or - for standard input",
+            "The JSON that is the context, an object or a list; - for standard input",
         ))?
         .arg(set(alloc))?
         .arg(templates(alloc))?

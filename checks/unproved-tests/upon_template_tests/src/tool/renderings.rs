@@ -99,12 +99,12 @@ fn escapes(rt: HostRuntime) -> Result<(), Fail> {
 #[test]
 fn refuses_contexts(rt: HostRuntime) -> Result<(), Fail> {
     let files: [(&str, &[u8]); 1] = [("page", b"x")];
-    let fraction = "1||upon-tool: data.json: not an integer of 64 bits at line 2 column 2\n";
-    let list = "1||upon-tool: data.json: not an object\n";
+    let wrong = "1||upon-tool: data.json: invalid JSON at line 2 column 2\n";
+    let text = "1||upon-tool: data.json: neither an object nor a list\n";
     all_answer(
         rt.alloc(),
         files.as_slice(),
-        &[("page", "{\"a\":\n 1.5}", fraction), ("page", "[]", list)],
+        &[("page", "{\"a\":\n 01}", wrong), ("page", "\"a\"", text)],
     )
 }
 
