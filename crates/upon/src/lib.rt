@@ -18,6 +18,7 @@ pub use upon_engine::template::Template;
 pub use upon_engine::template_ref::TemplateRef;
 pub use upon_engine::texts::{AnyEngine, EngineTexts};
 pub use upon_engine::theorem;
+pub use upon_engine::within::Limits;
 pub use upon_render::source::{ValueAccess, ValueAccessOp, ValueMember};
 pub use upon_serde::{to_value, value};
 pub use upon_types::error::{Error, Result};

@@ -14,3 +14,4 @@ pub mod OpenBlocks
 pub mod Links
 pub mod SearchSteps
 pub mod Begun
+pub mod InLimits

@@ -14,6 +14,7 @@ pub mod Answers
 pub mod Texts
 pub mod Changes
 pub mod Theorem
+pub mod Within
 pub mod Names
 pub mod IndexStarts
 pub mod OpenBlocks

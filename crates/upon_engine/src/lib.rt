@@ -4,6 +4,7 @@
 pub mod callables;
 pub mod compile;
 pub mod engine;
+pub mod laws_of_limits;
 pub mod laws_of_rendering;
 pub mod laws_of_templates;
 pub mod laws_of_values;
@@ -17,3 +18,4 @@ pub mod template_ref;
 pub mod texts;
 pub mod theorem;
 pub mod values;
+pub mod within;

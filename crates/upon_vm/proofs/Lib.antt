@@ -15,3 +15,8 @@ pub mod OnTheWay
 pub mod AtStart
 pub mod Writes
 pub mod Fewer
+pub mod Turns
+pub mod Places
+pub mod WithinWay
+pub mod WithinTurns
+pub mod WithinWrites

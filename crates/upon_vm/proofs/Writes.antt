@@ -16,7 +16,7 @@ use Rattle.upon_vm.specs.declared.run.Ending.{Ending}
 use Rattle.upon_vm.specs.declared.run.Ending.TheVariants.{Good, TooDeep}
 
 -- the error that waited, by the mark after it was taken
-taken : (mid new : Mark) (e : Error) → new ≡ set_aside mid → OutputReport mid e → (error_of e ≡ out_of_memory) ⊎ IsTaken new e
+pub taken : (mid new : Mark) (e : Error) → new ≡ set_aside mid → OutputReport mid e → (error_of e ≡ out_of_memory) ⊎ IsTaken new e
 taken Clear new e is out = inl out
 taken (Waits error) new e is told = inr (subst (λ m. IsTaken m e) (sym is) told)
 taken (Taken error) new e is out = inl out
@@ -41,7 +41,7 @@ module _ {Q : Type 0} (limit : ℕ) (IsOwn : Error → Type 0) (old new : Option
   writes_alone (Err e) (inl h) = inl (h.0, h.1)
   writes_alone (Err e) (inr h) = inr h
 
-taken_any : (mark : Mark) (e : Error) → IsTaken mark e → IsAnyIo e
+pub taken_any : (mark : Mark) (e : Error) → IsTaken mark e → IsAnyIo e
 taken_any Clear e is = absurd is
 taken_any (Waits error) e is = absurd is
 taken_any (Taken error) e is = is.0

@@ -3,6 +3,7 @@ ghost use Rattle.std.specs.Prelude.{◌≡◌, option_map};
 ghost use Rattle.upon_types.specs.Error.{fault_of as error_of, kind_of as error_kind_of};
 ghost use Rattle.upon_types.specs.Fault.{fault_with_picture, OrMemory};
 ghost use Rattle.upon_types.specs.Span.{LiesIn};
+ghost use Rattle.upon_meaning_spec.specs.Meaning.{fault_in};
 ghost use Rattle.upon_vm_calls.specs.Halt.{fault_of, kind_of};
 ghost use Rattle.upon_vm.specs.Acts.{stop_or_memory};
 ghost use Rattle.upon_vm.specs.Failures.{FailsBy, FailsSo, HaltLies, Names, StopLies, is_memory};
@@ -42,13 +43,19 @@ fn halted(alloc: Global, running: Running, halt: Halt) -> Failure
     ensures { FailsSo (active_of running.entry).running halt result }
 {
     match halt {
-        Halt::Fault(fault) => {
-            let error = with_picture(alloc, running.program.source, fault);
-            Failure::Error(with_name(alloc, running.name, error))
-        }
+        Halt::Fault(fault) => Failure::Error(in_template(alloc, running, fault)),
         Halt::Memory => Failure::Error(AllocError.into()),
         Halt::Output => Failure::Output,
     }
+}
+
+/// Returns the error of a fault in a template that runs, with its name and the picture of its text.
+pub(crate) fn in_template(alloc: Global, running: Running, fault: Fault) -> Error
+    requires { LiesIn running.program.source.now fault.span }
+    ensures { OrMemory (fault_in (active_of running.entry).running (fault_of fault)) (error_of result) }
+{
+    let error = with_picture(alloc, running.program.source, fault);
+    with_name(alloc, running.name, error)
 }
 
 // A fault with the picture of its span.

@@ -3,11 +3,15 @@
 
 mod act;
 pub mod failure;
+pub mod limits;
 pub mod machine;
+mod place;
 pub mod render;
 pub mod report;
 pub mod run;
 pub mod source;
 mod step;
 mod steps;
+mod turn;
 mod twice;
+pub mod within;

@@ -24,8 +24,8 @@ pub enum Ending {
     TooDeep,
 }
 
-// How a step ends the run, or `None` where it goes on.
-fn end_of(flow: Flow) -> Option<Ending>
+/// How a step ends the run, or `None` where it goes on.
+pub(crate) fn end_of(flow: Flow) -> Option<Ending>
     requires { flow ≡ Flow.Stuck → ⊥ }
     ensures { result ≡ ending_of flow }
 {

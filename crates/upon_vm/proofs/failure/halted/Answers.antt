@@ -1,30 +1,8 @@
-use Rattle.std.proofs.Common.{◌≡◌, ◌∙◌, false, refl, ap, inl, inr, subst, sym}
-use Rattle.upon_types.specs.Error.{fault_of as error_of}
-use Rattle.upon_types.specs.Fault.{fault_with_picture, OrMemory}
-use Rattle.upon_types.specs.declared.error.Error.{Error as CodeError}
-use Rattle.upon_meaning_spec.specs.Meaning.{RunningTemplate, fault_in}
-use Rattle.upon_vm_calls.specs.Halt.{fault_of, kind_of}
-use Rattle.upon_vm_calls.specs.declared.fault.Fault.{Fault}
-use Rattle.upon_vm_calls.specs.declared.fault.FaultKind.{FaultKind}
-use Rattle.upon_vm_calls.specs.declared.fault.FaultKind.TheVariants.{Render, Function, Format}
-use Rattle.upon_vm.specs.Failures.{FailsSo, Names, is_memory}
+use Rattle.std.proofs.Common.{sym, subst}
+use Rattle.upon_vm.specs.Failures.{FailsSo}
 use Rattle.upon_vm.specs.Machine.{active_of}
 use Rattle.upon_vm.specs.declared.failure.Failure.TheVariants.{Error}
 use Rattle.upon_vm.proofs.failure.halted.Goals as goal
 
-no_memory : (kind : FaultKind) → is_memory (kind_of kind) ≡ false
-no_memory Render = refl
-no_memory Function = refl
-no_memory Format = refl
-
-in_template : (running : RunningTemplate) (f : Fault) (shown named : CodeError) → OrMemory (fault_with_picture running.source (fault_of f)) (error_of shown)
-    → Names running.name shown named → OrMemory (fault_in running (fault_of f)) (error_of named)
-in_template running f shown named (inl is) names =
-    subst (λ g. OrMemory (record g { name = running.name }) (error_of named)) is
-    (names.named (ap (λ g. is_memory g.kind) is ∙ no_memory f.kind) (ap (λ g. g.name) is))
-in_template running f shown named (inr memory) names = inr (names.memory memory)
-
 pub returns-in-Fault : goal.returns-in-Fault
-returns-in-Fault c =
-    subst (λ halt. FailsSo (active_of c.args.running).running halt (Error c.with_name.result)) (sym c.in-Fault.is)
-    (in_template (active_of c.args.running).running c.in-Fault.fault c.with_picture-error.result c.with_name.result c.with_picture-error.ensures c.with_name.ensures)
+returns-in-Fault c = subst (λ halt. FailsSo (active_of c.args.running).running halt (Error c.in_template.result)) (sym c.in-Fault.is) c.in_template.ensures

@@ -1,0 +1,182 @@
+// Renderings within limits: what is just enough, what is one too few, and where a rendering is stopped.
+use std::alloc::{AllocError, Global};
+use std::borrow::CowStr;
+use std::process::Abort;
+use std::test::Fail;
+use upon::{Engine, Limits, Result, Value, value};
+use upon_testing::answers::line_of;
+
+fn context(alloc: Global) -> Result<Value> {
+    value! { in alloc; x: "12", xs: [0, 1, 2, 3, 4, 5, 6, 7, 8, 9] }
+}
+
+fn of_steps(count: usize) -> Limits {
+    Limits {
+        steps: Some(count),
+        ..Limits::none()
+    }
+}
+
+fn of_bytes(count: usize) -> Limits {
+    Limits {
+        output: Some(count),
+        ..Limits::none()
+    }
+}
+
+// The source within the limits answers what is wanted.
+fn answers(alloc: Global, limits: &Limits, source: &str, wanted: &str) -> std::result::Result<(), Fail> {
+    let engine = Engine::new(alloc);
+    let line = line_of(alloc, engine.render_text_within(limits, source, &context(alloc)?))?;
+    if line.as_str() != wanted {
+        return Err(Fail::new(format_args!("{line:?} in place of {wanted:?}, of {source}")));
+    }
+    Ok(())
+}
+
+// Loops over ten items, so many inside each other, around a text.
+fn nested(alloc: Global, depth: usize) -> std::result::Result<String, AllocError> {
+    let mut source = String::new(alloc);
+    for _ in 0..depth {
+        source.push_str("{% for y in xs %}")?;
+    }
+    source.push_str("a")?;
+    for _ in 0..depth {
+        source.push_str("{% endfor %}")?;
+    }
+    Ok(source)
+}
+
+#[test]
+fn nested_loops_end_at_once(rt: HostRuntime) -> std::result::Result<(), Fail> {
+    let alloc = rt.alloc();
+    let source = nested(alloc, 20)?;
+    let steps = "render error: reached the limit of 10000 steps at 340..341";
+    answers(alloc, &of_steps(10_000), source.as_str(), steps)?;
+    let bytes = "render error: reached the limit of 1000 bytes at 340..341";
+    answers(alloc, &of_bytes(1000), source.as_str(), bytes)
+}
+
+#[test]
+fn steps_that_are_just_enough(rt: HostRuntime) -> std::result::Result<(), Fail> {
+    let alloc = rt.alloc();
+    for (source, steps, text, stopped) in [
+        ("", 1, "", "0..0"),
+        ("a", 2, "a", "0..1"),
+        ("{{ x }}", 3, "12", "3..4"),
+        ("{% if x %}a{% endif %}", 4, "a", "10..11"),
+        ("{% if not x %}a{% endif %}", 3, "", "14..15"),
+        ("{% for y in [1, 2] %}{{ y }}{% endfor %}", 16, "12", "24..25"),
+    ] {
+        answers(alloc, &of_steps(steps), source, text)?;
+        answers(alloc, &of_steps(steps + 1), source, text)?;
+        let fewer = steps - 1;
+        let wanted = format!(in alloc; "render error: reached the limit of {fewer} steps at {stopped}")?;
+        answers(alloc, &of_steps(fewer), source, wanted.as_str())?;
+    }
+    Ok(())
+}
+
+#[test]
+fn bytes_that_are_just_enough(rt: HostRuntime) -> std::result::Result<(), Fail> {
+    let alloc = rt.alloc();
+    for (source, bytes, text, stopped) in [
+        ("a", 1, "a", "0..1"),
+        ("ab{{ x }}", 4, "ab12", "5..6"),
+        ("ab{{ x }}cd", 6, "ab12cd", "9..11"),
+        ("\u{e9}", 2, "\u{e9}", "0..2"),
+        ("{% for y in [1, 2] %}{{ y }}{% endfor %}", 2, "12", "24..25"),
+    ] {
+        answers(alloc, &of_bytes(bytes), source, text)?;
+        answers(alloc, &of_bytes(bytes + 1), source, text)?;
+        let fewer = bytes - 1;
+        let wanted = format!(in alloc; "render error: reached the limit of {fewer} bytes at {stopped}")?;
+        answers(alloc, &of_bytes(fewer), source, wanted.as_str())?;
+    }
+    answers(alloc, &of_bytes(0), "{# nothing #}", "")
+}
+
+#[test]
+fn faults_before_a_limit(rt: HostRuntime) -> std::result::Result<(), Fail> {
+    let alloc = rt.alloc();
+    let fault = "render error: not found in this scope at 4..5";
+    answers(alloc, &Limits::none(), "a{{ y }}b", fault)?;
+    answers(alloc, &of_steps(2), "a{{ y }}b", fault)?;
+    answers(alloc, &of_bytes(1), "a{{ y }}b", fault)?;
+    let stopped = "render error: reached the limit of 1 steps at 4..5";
+    answers(alloc, &of_steps(1), "a{{ y }}b", stopped)?;
+    let unclosed = line_of(alloc, Engine::new(alloc).render_text("{{", &Value::None))?;
+    answers(alloc, &of_steps(0), "{{", unclosed.as_str())
+}
+
+#[test]
+fn the_limit_that_comes_first(rt: HostRuntime) -> std::result::Result<(), Fail> {
+    let alloc = rt.alloc();
+    let both = Limits {
+        steps: Some(3),
+        output: Some(1),
+    };
+    answers(alloc, &both, "ab", "render error: reached the limit of 1 bytes at 0..2")?;
+    let nested = "a{% if 1 %}{% if 1 %}b{% endif %}{% endif %}";
+    answers(alloc, &both, nested, "render error: reached the limit of 3 steps at 17..18")
+}
+
+#[test]
+fn writers_have_a_beginning(rt: HostRuntime) -> std::result::Result<(), Fail> {
+    let alloc = rt.alloc();
+    let engine = Engine::new(alloc);
+    let context = context(alloc)?;
+    for (limits, wanted) in [
+        (of_bytes(6), "ab12cd"),
+        (of_bytes(5), "ab12"),
+        (of_bytes(4), "ab12"),
+        (of_bytes(3), "ab"),
+        (of_bytes(1), ""),
+        (of_steps(4), "ab12cd"),
+        (of_steps(3), "ab12"),
+        (of_steps(2), "ab"),
+        (of_steps(0), ""),
+    ] {
+        let mut out = Vec::new(alloc);
+        drop(engine.render_text_to_within(&limits, "ab{{ x }}cd", &context, &mut out));
+        assert!(&rt; out.as_slice() == wanted.as_bytes(), "{wanted}");
+    }
+    Ok(())
+}
+
+#[test]
+fn templates_by_their_names(rt: HostRuntime) -> std::result::Result<(), Fail> {
+    let alloc = rt.alloc();
+    let mut engine = Engine::new(alloc);
+    engine.add_template(CowStr::Borrowed("t"), CowStr::Borrowed("abc"))?;
+    engine.add_template(CowStr::Borrowed("u"), CowStr::Borrowed("{% include \"t\" %}"))?;
+    for (limits, wanted) in [
+        (of_bytes(3), "abc"),
+        (of_bytes(2), "render error: reached the limit of 2 bytes at 0..3 in t"),
+        (of_steps(4), "abc"),
+        (of_steps(3), "render error: reached the limit of 3 steps at 11..14 in u"),
+        (of_steps(2), "render error: reached the limit of 2 steps at 0..3 in t"),
+    ] {
+        let Some(rendered) = engine.render_template_within(&limits, "u", &Value::None) else {
+            return Err(Fail::from("no template"));
+        };
+        assert_eq!(&rt; line_of(alloc, rendered)?.as_str(), wanted);
+    }
+    let mut out = Vec::new(alloc);
+    let absent = engine.render_template_to_within(&Limits::none(), "v", &Value::None, &mut out);
+    assert!(&rt; absent.is_none() && engine.render_template_within(&Limits::none(), "v", &Value::None).is_none());
+    Ok(())
+}
+
+#[test]
+fn the_picture_shows_the_place(rt: HostRuntime) -> std::result::Result<(), Fail> {
+    let alloc = rt.alloc();
+    match Engine::new(alloc).render_text_within(&of_steps(1), "a\n{{ 1 }}", &Value::None) {
+        Ok(_) => Err(Fail::from("no fault")),
+        Err(error) => {
+            let wanted = "render error\n\n  --> <anonymous>:2:4\n   |\n 2 | {{ 1 }}\n   |    ^--\n   |\n   = reason: reached the limit of 1 steps\n";
+            assert_eq!(&rt; error.pretty(alloc)?.as_str(), wanted);
+            Ok(())
+        }
+    }
+}

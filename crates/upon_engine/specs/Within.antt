@@ -1,0 +1,63 @@
+-- What rendering a text within limits answers, by texts and trees alone.
+use Rattle.std.specs.Prelude.{◌≤◌, ℕ, List, Option, Some, None, IsSome, Result, Ok, Err, String}
+use Rattle.std.specs.declared.alloc.Global.{Global}
+use Rattle.upon_types.specs.Error.{fault_of}
+use Rattle.upon_types.specs.Tree.{Statements}
+use Rattle.upon_types.specs.Val.{Val}
+use Rattle.upon_types.specs.declared.error.Error.{Error}
+use Rattle.upon_render.specs.Environment.{context}
+use Rattle.upon_meaning_spec.specs.Alone.{includes_left}
+use Rattle.upon_meaning_spec.specs.Engine.{Table}
+use Rattle.upon_meaning_spec.specs.Outcome.{Outcome, States, states}
+use Rattle.upon_machine_spec.specs.Run.{run}
+use Rattle.upon_machine_spec.specs.State.{at_start}
+use Rattle.upon_vm.specs.Reports.{IsAnyIo}
+use Rattle.upon_vm.specs.Within.{IsOfLimit, TextWithin, WritesWithin}
+use Rattle.upon_vm.specs.declared.limits.Limit.{Limit}
+use Rattle.upon_vm.specs.declared.limits.Limits.{Limits}
+use Rattle.upon_engine.specs.Texts.{Texts}
+use Rattle.upon_engine.specs.Theorem.{IsTable, meaning, rendering}
+
+-- what comes out of the machine within so many steps, if it ends by then: it runs the program of a tree on a value
+abbrev pub runs : Texts → Table → Option (List ℕ) → List ℕ → Statements → Val → ℕ
+    → Option (Outcome (States (Unit {0}) (Unit {0})))
+runs e table name source tree v n =
+    run (rendering e table).calls (rendering e table).resolve (context v) n
+    (at_start (record { source = source; tree = tree }) name (includes_left e.depth) (states tt tt))
+
+-- the machine's run of a tree's program on a value ends within so many steps
+abbrev pub EndsWithin : Texts → Table → Option (List ℕ) → List ℕ → Statements → Val → ℕ → Type 0
+EndsWithin e table name source tree v n = IsSome (runs e table name source tree v n)
+
+-- A rendering of the tree of a text within limits answers what the tree means, if the machine ends within the steps and
+-- the text has no more bytes; if not, it names a limit beyond which it goes. So it is whatever the table of the texts
+-- that are held.
+abbrev pub AnswersWithin : Texts → Limits → Option (List ℕ) → List ℕ → Statements → Val → Result (String Global) Error
+    → Type 0
+AnswersWithin e limits name source tree v result =
+    (table : Table) → IsTable e.texts table
+    → TextWithin e.depth limits (runs e table name source tree v) (meaning e table name source tree v) result
+
+-- the same of what a writer that may fail receives, by what it has and had
+abbrev pub SendsWithin : Texts → Limits → Option (List ℕ) → List ℕ → Statements → Val → Result (Unit {0}) Error
+    → Option (List ℕ) → Option (List ℕ) → Type 0
+SendsWithin e limits name source tree v result old new =
+    (table : Table) → IsTable e.texts table
+    → WritesWithin e.depth IsAnyIo limits (runs e table name source tree v) result old new
+    (meaning e table name source tree v)
+
+-- the answer names a limit
+abbrev pub NamesALimit : Result (String Global) Error → Type 0
+NamesALimit (Ok text) = ⊥
+NamesALimit (Err e) = (limit : Limit) × (n : ℕ) × IsOfLimit limit n (fault_of e)
+
+-- a limit that is as great as another, or is not set
+abbrev pub IsNoLess : Option ℕ → Option ℕ → Type 0
+IsNoLess one None = Unit {0}
+IsNoLess None (Some other) = ⊥
+IsNoLess (Some one) (Some other) = one ≤ other
+
+-- each of the other limits is as great as the one, or is not set
+pub record AreNoLess (one other : Limits) : Type 0 where
+  pub steps : IsNoLess one.steps other.steps
+  pub output : IsNoLess one.output other.output

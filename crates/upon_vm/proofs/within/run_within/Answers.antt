@@ -1,0 +1,140 @@
+use Rattle.std.proofs.Common.{◌<◌, ◌∙◌, [], refl, sym, subst, arith}
+use Rattle.std.proofs.KnownBytes.{Appends-nil}
+use Rattle.upon_render.specs.Roots.{pure_root}
+use Rattle.upon_render.specs.Stack.{root_of}
+use Rattle.upon_machine_spec.specs.Run.{steps}
+use Rattle.upon_vm.specs.Acts.{calls_of, stop_or_memory}
+use Rattle.upon_vm.specs.Machine.{state_of}
+use Rattle.upon_vm.proofs.Fewer.{fewer}
+use Rattle.upon_vm.proofs.Keeps.{kept_on}
+use Rattle.upon_vm.proofs.WithinWay.{leaves_all}
+use Rattle.upon_vm.proofs.WithinTurns.{grown_on, grown_so, grown_within, within_asks, within_ended, within_failed, within_first, within_frames, within_nearer, within_not_stuck, within_on, within_room, within_steps, within_stop}
+use Rattle.upon_vm.proofs.within.run_within.Goals as goal
+
+pub some-left-requires : goal.some-left-requires
+some-left-requires g c = let known = c.requires.starts.0 in (known.count, (known, c.requires.starts.1, refl))
+
+pub turns-init : goal.turns-init
+turns-init g c =
+    let m = c.args.machine.now in
+    let calls = calls_of (g.C.Callables.callables c.args.callables.now) (g.C.Callables.default_formatter c.args.callables.now) in
+    let resolve = g.T.ProgramSource.resolve m.templates in
+    let root = pure_root (root_of m.stack) in
+    let some = c.some-left.ensures in
+    let s = state_of g.V.ValueSource.value_state g.T.ProgramSource.template_state some.0.values m in
+    record {
+      same = refl;
+      mark = refl;
+      kept = record { unbounded = λ h. h; root = refl; asks = λ ask h. h; values_held = λ names h. h; resolve = refl; templates_held = refl };
+      grown = ([], leaves_all c.args.limits.output, Appends-nil (g.W.Output.given c.args.out.now));
+      going = λ known starts.
+          within_first g.V.ValueSource.ask g.V.ValueSource.value_state g.V.ValueSource.holds g.T.ProgramSource.template_state g.T.ProgramSource.resolve g.T.ProgramSource.holds
+          (calls known.ask) known.values known.count known.outcome c.args.limits m (g.W.Output.given c.args.out.now)
+          (g.T.ProgramSource.templates_lie m.templates) starts.runs starts.lies starts.unbounded starts.asks;
+      enough = (
+        some.0,
+        some.1,
+        subst (λ n. steps (calls some.0.ask) resolve root some.0.count s < n) (sym some.2) (fewer (calls some.0.ask) resolve root some.0.count s some.0.outcome some.1.runs),
+      );
+    }
+
+pub less-left-requires : goal.less-left-requires
+less-left-requires g c = let still = c.turns.invariant.enough.2 in omega (arith, still)
+
+pub take_turn-requires : goal.take_turn-requires
+take_turn-requires g c κs =
+    let h = c.turns.invariant.going c.requires.starts.0 c.requires.starts.1 in
+    ((refl, tt), (h.spent.lies.active, (h.unbounded, within_frames h)))
+
+pub at_limit-requires : goal.at_limit-requires
+at_limit-requires g c =
+    let h = c.turns.invariant.going c.requires.starts.0 c.requires.starts.1 in h.spent.lies.active
+
+pub at_limit-requires-in-Over : goal.at_limit-requires-in-Over
+at_limit-requires-in-Over g c =
+    let h = c.turns.invariant.going c.requires.starts.0 c.requires.starts.1 in h.spent.lies.active
+
+pub end_of-requires : goal.end_of-requires
+end_of-requires g c =
+    let known = c.requires.starts.0 in
+    let h = c.turns.invariant.going known c.requires.starts.1 in
+    let did = c.in-Went.ensures.did known.values known.ask (within_asks h) in
+    let next = state_of g.V.ValueSource.value_state g.T.ProgramSource.template_state known.values c.take_turn.new.machine in
+    within_not_stuck h c.in-Went.flow c.in-Went.rest (stop_or_memory c.take_turn.new.stop) (g.W.Output.given c.take_turn.new.out) next did
+
+pub stopped-requires : goal.stopped-requires
+stopped-requires g c =
+    let known = c.requires.starts.0 in
+    let h = c.turns.invariant.going known c.requires.starts.1 in
+    let did = c.in-Stopped.ensures.did known.values known.ask (within_asks h) in
+    let next = state_of g.V.ValueSource.value_state g.T.ProgramSource.template_state known.values c.take_turn.new.machine in
+    within_stop h (stop_or_memory c.take_turn.new.stop) (g.W.Output.given c.take_turn.new.out) next did
+
+pub returns-in_default-clause-ran : goal.returns-in_default-clause-ran
+returns-in_default-clause-ran g c known starts =
+    let h = c.turns.invariant.going known starts in
+    let here = state_of g.V.ValueSource.value_state g.T.ProgramSource.template_state known.values c.turns.machine in
+    within_steps h c.at_limit.result here.asked c.in_default.ensures c.at_limit.ensures
+
+pub returns-in-Over-clause-bounded : goal.returns-in-Over-clause-bounded
+returns-in-Over-clause-bounded g c =
+    grown_within c.args.limits.output c.turns.room (g.W.Output.given c.args.out.now) (g.W.Output.given c.turns.out) (g.W.Output.given c.take_turn.new.out) c.turns.invariant.grown c.in-Over.ensures.grows
+
+pub returns-in-Over-clause-ran : goal.returns-in-Over-clause-ran
+returns-in-Over-clause-ran g c known starts =
+    let h = c.turns.invariant.going known starts in
+    let did = c.in-Over.ensures.did known.values known.ask (within_asks h) in
+    let next = state_of g.V.ValueSource.value_state g.T.ProgramSource.template_state known.values c.take_turn.new.machine in
+    within_room h (stop_or_memory c.take_turn.new.stop) c.at_limit-in-Over.result (g.W.Output.given c.take_turn.new.out) next next.asked did c.at_limit-in-Over.ensures
+
+pub returns-in-Stopped-clause-bounded : goal.returns-in-Stopped-clause-bounded
+returns-in-Stopped-clause-bounded g c =
+    grown_within c.args.limits.output c.turns.room (g.W.Output.given c.args.out.now) (g.W.Output.given c.turns.out) (g.W.Output.given c.take_turn.new.out) c.turns.invariant.grown c.in-Stopped.ensures.grows
+
+pub returns-in-Stopped-clause-ran : goal.returns-in-Stopped-clause-ran
+returns-in-Stopped-clause-ran g c known starts =
+    let h = c.turns.invariant.going known starts in
+    let did = c.in-Stopped.ensures.did known.values known.ask (within_asks h) in
+    within_failed h (stop_or_memory c.take_turn.new.stop) c.stopped.result c.in-Some.fewer (g.W.Output.given c.take_turn.new.out) c.take_turn.new.machine c.in-Some.ensures did c.stopped.ensures
+
+pub returns-in-Some-end_of-clause-bounded : goal.returns-in-Some-end_of-clause-bounded
+returns-in-Some-end_of-clause-bounded g c =
+    let old = g.W.Output.given c.args.out.now in
+    let new = g.W.Output.given c.take_turn.new.out in
+    grown_so c.args.limits.output c.in-Went.rest old new
+    (grown_on c.args.limits.output c.turns.room c.in-Went.rest old (g.W.Output.given c.turns.out) new c.turns.invariant.grown c.in-Went.ensures.grows)
+
+pub returns-in-Some-end_of-clause-ran : goal.returns-in-Some-end_of-clause-ran
+returns-in-Some-end_of-clause-ran g c known starts =
+    let h = c.turns.invariant.going known starts in
+    let did = c.in-Went.ensures.did known.values known.ask (within_asks h) in
+    within_ended h c.in-Went.flow c.in-Some-end_of.end c.in-Some.fewer c.in-Went.rest (stop_or_memory c.take_turn.new.stop) (g.W.Output.given c.take_turn.new.out) c.take_turn.new.machine
+    (sym c.end_of.ensures ∙ c.in-Some-end_of.is) c.in-Some.ensures did
+
+pub turns-preserved : goal.turns-preserved
+turns-preserved g c = record {
+  same = c.in-Went.ensures.same ∙ c.turns.invariant.same;
+  mark = c.in-Went.ensures.mark ∙ c.turns.invariant.mark;
+  kept = kept_on c.turns.invariant.kept c.in-Went.ensures.kept;
+  grown =
+      grown_on c.args.limits.output c.turns.room c.in-Went.rest (g.W.Output.given c.args.out.now) (g.W.Output.given c.turns.out) (g.W.Output.given c.take_turn.new.out)
+      c.turns.invariant.grown c.in-Went.ensures.grows;
+  going = λ known starts.
+      let h = c.turns.invariant.going known starts in
+      let did = c.in-Went.ensures.did known.values known.ask (within_asks h) in
+      within_on h c.in-Went.flow c.in-Some.fewer c.in-Went.rest (stop_or_memory c.take_turn.new.stop) (g.W.Output.given c.take_turn.new.out) c.take_turn.new.machine
+      (sym c.end_of.ensures ∙ c.in_default-end_of.is) c.in-Some.ensures did c.in-Went.ensures.kept;
+  enough =
+      let before = c.turns.invariant.enough in
+      let h = c.turns.invariant.going before.0 before.1 in
+      let did = c.in-Went.ensures.did before.0.values before.0.ask (within_asks h) in
+      let nearer =
+      within_nearer h c.in-Went.flow c.in-Went.rest (stop_or_memory c.take_turn.new.stop) (g.W.Output.given c.take_turn.new.out) c.take_turn.new.machine
+      (sym c.end_of.ensures ∙ c.in_default-end_of.is) did in
+      let still = before.2 in
+      let less = c.less-left.ensures in
+      (before.0, before.1, omega (arith, nearer, still, less));
+}
+
+pub turns-smaller : goal.turns-smaller
+turns-smaller g c = omega (arith, c.less-left.ensures)

@@ -1,0 +1,52 @@
+// How far a rendering may go: how many steps its machine may take, and how many bytes it may write.
+ghost use Rattle.std.specs.Prelude.{◌≡◌, MatchOption, None};
+ghost use Rattle.upon_vm.specs.Limits.{Exceeds, Leaves};
+
+/// How far a rendering may go. A limit that is `None` is not set.
+#[derive(Clone, Copy, Debug, PartialEq, Eq)]
+pub struct Limits {
+    /// The most steps that its machine takes: about one for each tag or text that it passes, and a few for each turn
+    /// of a loop.
+    pub steps: Option<usize>,
+    /// The most bytes that it writes.
+    pub output: Option<usize>,
+}
+
+impl Limits {
+    ghost use Rattle.std.specs.Prelude.{◌≡◌};
+
+    /// Returns limits of which none is set.
+    pub fn none() -> Limits
+        ensures steps { result.steps ≡ None }
+        ensures output { result.output ≡ None }
+    {
+        Limits {
+            steps: None,
+            output: None,
+        }
+    }
+}
+
+/// One of the limits.
+#[derive(Clone, Copy, Debug, PartialEq, Eq)]
+pub enum Limit {
+    /// How many steps.
+    Steps,
+    /// How many bytes of output.
+    Output,
+}
+
+/// Returns what is left of a limit after so many, or `None` if they are more than it.
+pub(crate) fn spend(limit: Option<usize>, count: usize) -> Option<Option<usize>>
+    ensures { MatchOption result (Exceeds limit count) (λ left. Leaves limit count left) }
+{
+    match limit {
+        None => Some(None),
+        Some(limit) => {
+            if limit < count {
+                return None;
+            }
+            Some(Some(limit - count))
+        }
+    }
+}
