@@ -60,7 +60,7 @@ fn texts(rt: HostRuntime) -> Result<(), Fail> {
         ),
         (
             "{% include \"b\" %}{% include \"own\" %}\n{% include \"c\" %}{% include \"b\" %}",
-            "  --> own:1:12;  --> own:2:12;  --> own:2:29;",
+            "  --> own:1:12;upon-tool: own includes it 2 times;  --> own:2:12;",
         ),
         ("{{", "  --> own:1:3;"),
     ] {

@@ -28,30 +28,36 @@ fn render_line(alloc: Global, call: &RenderCall<'_>) -> Result<String, AllocErro
         data,
         set,
         templates,
+        follow,
         html,
         out,
     } = call;
-    format!(in alloc; "{file} {data:?} {set:?} {templates:?} {html} {out:?}")
+    format!(in alloc; "{file} {data:?} {set:?} {templates:?} {follow} {html} {out:?}")
 }
 
 fn check_line(alloc: Global, call: &CheckCall<'_>) -> Result<String, AllocError> {
-    let CheckCall { files, templates } = call;
-    format!(in alloc; "{files:?} {templates:?}")
+    let CheckCall {
+        files,
+        templates,
+        follow,
+    } = call;
+    format!(in alloc; "{files:?} {templates:?} {follow}")
 }
 
 fn names_line(alloc: Global, call: &NamesCall<'_>) -> Result<String, AllocError> {
     let NamesCall {
         file,
         templates,
+        follow,
         json,
     } = call;
-    format!(in alloc; "{file} {templates:?} {json}")
+    format!(in alloc; "{file} {templates:?} {follow} {json}")
 }
 
 #[test]
 fn renderings(rt: HostRuntime) -> Result<(), Fail> {
     let alloc = rt.alloc();
-    asks(alloc, &["t", "render", "a"], "a None [] None false None")?;
+    asks(alloc, &["t", "render", "a"], "a None [] None false false None")?;
     let words = [
         "t",
         "render",
@@ -68,25 +74,26 @@ fn renderings(rt: HostRuntime) -> Result<(), Fail> {
     asks(
         alloc,
         words.as_slice(),
-        "a Some(\"-\") [\"k=v\", \"k=-w\"] None true Some(\"o\")",
+        "a Some(\"-\") [\"k=v\", \"k=-w\"] None false true Some(\"o\")",
     )?;
-    let words = ["t", "render", "--templates", "d", "--", "-a"];
-    asks(alloc, words.as_slice(), "-a None [] Some(\"d\") false None")
+    let words = ["t", "render", "--templates", "d", "--follow", "--", "-a"];
+    asks(alloc, words.as_slice(), "-a None [] Some(\"d\") true false None")
 }
 
 #[test]
 fn checks(rt: HostRuntime) -> Result<(), Fail> {
     let alloc = rt.alloc();
-    asks(alloc, &["t", "check", "a", "b"], "[\"a\", \"b\"] None")?;
-    asks(alloc, &["t", "check", "--templates", "d"], "[] Some(\"d\")")
+    asks(alloc, &["t", "check", "a", "b"], "[\"a\", \"b\"] None false")?;
+    let words = ["t", "check", "--templates", "d", "--follow"];
+    asks(alloc, words.as_slice(), "[] Some(\"d\") true")
 }
 
 #[test]
 fn lists(rt: HostRuntime) -> Result<(), Fail> {
     let alloc = rt.alloc();
-    asks(alloc, &["t", "names", "a"], "a None false")?;
+    asks(alloc, &["t", "names", "a"], "a None false false")?;
     let words = ["t", "names", "--json", "--templates", "d", "-"];
-    asks(alloc, words.as_slice(), "- Some(\"d\") true")
+    asks(alloc, words.as_slice(), "- Some(\"d\") false true")
 }
 
 #[test]
