@@ -57,6 +57,9 @@ pub struct NamesCall<'a> {
     pub json: bool,
 }
 
+// The version: that of the language, and after the `+` that of this engine.
+const VERSION: &str = "0.11.0+1";
+
 const FILE: &str = "FILE";
 
 const DATA: &str = "data";
@@ -157,6 +160,7 @@ fn words<'a>(alloc: Global, found: Option<&[&'a str]>) -> Result<Vec<&'a str>, A
 fn command<'a>(alloc: Global) -> Result<Command<'a>, AllocError> {
     let command = Command::new(alloc, "upon-tool")
         .bin_name("upon-tool")?
+        .version(VERSION)
         .about("Renders templates, checks them, and lists what they need")
         .subcommand_required(true)
         .disable_help_subcommand(true);
