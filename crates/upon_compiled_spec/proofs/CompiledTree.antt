@@ -1,5 +1,5 @@
 -- The tree of a compiled template, out of the fact that there is one.
-use Rattle.std.proofs.Common.{◌≡◌, ℕ, List, [], ◌++◌, length, sym, ap, ◌∙◌, subst}
+use Rattle.std.proofs.Common.{◌≡◌, ℕ, List, sym, subst}
 use Rattle.std.specs.Str.{IsUtf8}
 use Rattle.std.proofs.Math.Logic.{∥∥₁_elim, ∥∥₁_map}
 use Rattle.upon_types.specs.Tree.{Statements}
@@ -10,8 +10,8 @@ use Rattle.upon_language_spec.specs.LiesIn.{HasUtf8}
 use Rattle.upon_language_spec.specs.Search.{DelimiterText, HasTexts}
 use Rattle.upon_language_spec.proofs.Spans.Trees.{tree_lies_in}
 use Rattle.upon_language_spec.proofs.SpansLieIn.Characters.{had_utf8}
-use Rattle.upon_machine_spec.specs.Instr.{Instr as PureInstr}
-use Rattle.upon_machine_spec.specs.Code.{program_of, statements_code}
+use Rattle.upon_language_spec.proofs.OneTree.Tree.{one_whole_tree}
+use Rattle.upon_machine_spec.specs.Code.{program_of}
 use Rattle.upon_instructions.specs.Program.{program_view}
 use Rattle.upon_instructions.specs.declared.types.program.Instr.{Instr}
 use Rattle.upon_compiled_spec.specs.Compiled.{HasProgram, the_tree}
@@ -44,23 +44,19 @@ module _ (delimiters : List DelimiterText) (s : List ℕ) (instrs : List Instr) 
   pub spans : TreeLiesIn s kept
   spans = ∥∥₁_elim (the_tree delimiters s instrs h).1 (TreeLiesIn-prop s kept) (λ k. k.spans)
 
--- the text's only tree
-abbrev OnlyTree : List DelimiterText → List ℕ → Statements → Type 0
-OnlyTree delimiters s tree = HasTree delimiters s tree × ((other : Statements) → HasTree delimiters s other → other ≡ tree)
-
 module _ (d e : List DelimiterText) (same : d ≡ e) where
-  -- the fact of a template, from its text's only tree and that tree's program
-  pub is_compiled : (s u : List ℕ) (instrs : List Instr) (so_far : List PureInstr) (tree : Statements) → s ≡ u → HasTree d s tree → ((other : Statements) → HasTree d s other → other ≡ tree)
-      → program_view instrs ≡ so_far ++ statements_code (length so_far) tree → so_far ≡ [] → HasTexts e → ∥ HasUtf8 e ∥₁ → IsUtf8 s → HasProgram e u instrs
-  is_compiled s u instrs so_far tree su has only code none texts utf8 text =
-      let k : OnlyTree e u tree = subst (λ x. OnlyTree e x tree) su (subst (λ x. OnlyTree x s tree) same (has, only)) in
+  -- the fact of a template, from a tree that its text has and that tree's program: the text has no other
+  pub is_compiled : (s u : List ℕ) (instrs : List Instr) (tree : Statements) → s ≡ u → HasTree d s tree → program_view instrs ≡ program_of tree
+      → HasTexts e → ∥ HasUtf8 e ∥₁ → IsUtf8 s → HasProgram e u instrs
+  is_compiled s u instrs tree su has code texts utf8 text =
+      let k : HasTree e u tree = subst (λ x. HasTree e x tree) su (subst (λ x. HasTree x s tree) same has) in
       ∣ (
         tree,
         record {
-          has_tree = k.0;
-          only_tree = k.1;
-          program = code ∙ ap (λ before. before ++ statements_code (length before) tree) none;
-          spans = tree_spans u tree (tree_lies_in e u tree texts (had_utf8 e utf8) (subst IsUtf8 su text) k.0);
+          has_tree = k;
+          only_tree = λ other h. one_whole_tree e u other tree texts h k;
+          program = code;
+          spans = tree_spans u tree (tree_lies_in e u tree texts (had_utf8 e utf8) (subst IsUtf8 su text) k);
         },
       ) ∣₁
 

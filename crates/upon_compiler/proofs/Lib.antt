@@ -1,6 +1,4 @@
-mod Branches
-mod Jumps
-mod Opened
-mod Parts
-mod Rows
-mod Steps
+pub mod Blocks
+pub mod Examples
+pub mod Jumps
+pub mod Told

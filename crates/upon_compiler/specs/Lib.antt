@@ -1,4 +1,4 @@
+pub mod After
 pub mod Compiler
-pub mod Parts
-pub mod Branches
-pub mod Steps
+pub mod Events
+pub mod Told

@@ -1,4 +1,5 @@
-// From a template's tree to its program.
+// From the pieces of a template to its program.
 #![tactic(auto)]
 
 pub mod compile;
+pub mod laws;

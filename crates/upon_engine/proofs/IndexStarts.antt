@@ -96,12 +96,12 @@ mutual
       joined has_index (expression_code e) (for_code no_else names (expression_span e) from inner []) (expression_begins e) (λ h. inl (unhidden names, whole.0 h), λ h. whole.1 (or_none h).1)
   statement_begins at (for_loop names e body (otherwise branch)) =
       let from : ℕ = at + length (expression_code e) in
-      let inner : List Instr = statements_code (from + 1 + 1 + 1) body in
-      let to : ℕ = from + 1 + 1 + 1 + length inner + 1 in
+      let inner : List Instr = statements_code (from + 1 + 1) body in
+      let to : ℕ = from + 1 + 1 + length inner + 1 in
       let other : List Instr = statements_code to branch in
-      let whole = with_last has_index inner (jump (from + 1 + 1)) refl (statements_begin (from + 1 + 1 + 1) body) in
+      let whole = statements_begin (from + 1 + 1) body in
       joined has_index (expression_code e) (for_code (otherwise branch) names (expression_span e) from inner other) (expression_begins e)
-      (joined has_index (inner ++ jump (from + 1 + 1) ∷ []) other (λ h. (unhidden names, whole.0 h), λ h. whole.1 h.1) (statements_begin to branch))
+      (joined has_index inner (jump (from + 1) ∷ other) (λ h. (unhidden names, whole.0 h), λ h. whole.1 h.1) (statements_begin to branch))
   statement_begins at (with e word body) =
       let from : ℕ = at + length (expression_code e) in
       let inner : List Instr = statements_code (from + 1) body in
@@ -152,12 +152,12 @@ module _ (via : List ℕ) where
         after_expression e (for_code no_else names (expression_span e) from inner []) (λ h. inl (unhidden names, whole.0 h), λ h. whole.1 (or_none h).1)
     statement_passes at (for_loop names e body (otherwise branch)) =
         let from : ℕ = at + length (expression_code e) in
-        let inner : List Instr = statements_code (from + 1 + 1 + 1) body in
-        let to : ℕ = from + 1 + 1 + 1 + length inner + 1 in
+        let inner : List Instr = statements_code (from + 1 + 1) body in
+        let to : ℕ = from + 1 + 1 + length inner + 1 in
         let other : List Instr = statements_code to branch in
-        let whole = with_last (g via) inner (jump (from + 1 + 1)) refl (statements_pass (from + 1 + 1 + 1) body) in
+        let whole = statements_pass (from + 1 + 1) body in
         after_expression e (for_code (otherwise branch) names (expression_span e) from inner other)
-        (joined (g via) (inner ++ jump (from + 1 + 1) ∷ []) other (λ h. (unhidden names, whole.0 h), λ h. whole.1 h.1) (statements_pass to branch))
+        (joined (g via) inner (jump (from + 1) ∷ other) (λ h. (unhidden names, whole.0 h), λ h. whole.1 h.1) (statements_pass to branch))
     statement_passes at (with e word body) =
         let from : ℕ = at + length (expression_code e) in
         let inner : List Instr = statements_code (from + 1) body in

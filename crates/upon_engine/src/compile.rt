@@ -17,7 +17,6 @@ ghost use Rattle.upon_engine.specs.Template.{template_source, template_syntax, t
 use crate::template::Template;
 use std::alloc::Global;
 use std::borrow::CowStr;
-use upon_compiler::compile::Compiler;
 use upon_instructions::types::program::Instr;
 use upon_syntax::compile::parse::Parser;
 use upon_syntax::compile::search::Searcher;
@@ -71,7 +70,7 @@ pub(crate) fn with_searcher<'s>(
     Ok(Template::from_parts(source, syntax, instrs))
 }
 
-// The instructions of a text's only tree.
+// The program of a text's only tree.
 fn compiled(alloc: Global, searcher: &Searcher, source: &str) -> Result<Vec<Instr>>
     ensures program { IfOk result (λ instrs. HasProgram (searcher_delimiters searcher.now) source.now instrs.items) }
     ensures has_tree { IfOk result
@@ -82,8 +81,7 @@ fn compiled(alloc: Global, searcher: &Searcher, source: &str) -> Result<Vec<Inst
         → (tree : Statements) → HasTree (searcher_delimiters searcher.now) source.now tree → ⊥) }
 {
     let parser = Parser::new(alloc, searcher, source);
-    let tree = parser.parse_template()?;
-    Ok(Compiler::new(alloc).compile_template(tree)?)
+    parser.compile_template()
 }
 
 /// Does the same for the template of a name, which its fault has.

@@ -10,7 +10,7 @@ use Rattle.upon_meaning_spec.specs.Outcome.{text_outcome}
 use Rattle.upon_meaning_spec.proofs.Computing.{computing}
 use Rattle.upon_meaning_spec.proofs.Examples.ShortContexts.{at, word, first, name, quoted, number, statements, shows, text, list_of, map_of, template, engine, no_source, no_states}
 use Rattle.upon_machine_spec.specs.Code.{program_of}
-use Rattle.upon_machine_spec.specs.Instr.{jump, jump_if_true, emit, emit_raw, loop_start, loop_next, with_start, with_end, include_with, expr_start_var, expr_start_literal}
+use Rattle.upon_machine_spec.specs.Instr.{jump, jump_if_true, emit, emit_raw, loop_start, loop_next, loop_next_else, with_start, with_end, include_with, expr_start_var, expr_start_literal}
 use Rattle.upon_machine_spec.specs.Run.{run, steps}
 use Rattle.upon_machine_spec.specs.State.{at_start}
 
@@ -23,6 +23,11 @@ both_cases = refl
 in_turns : program_of (statements (for_loop (item (word 7 (codes "x"))) (base (name 12 (codes "xs"))) (statements (shows 17 24 (name 20 (codes "x")) ∷ [])) no_else ∷ []))
     ≡ expr_start_var (first 12 (codes "xs")) [] ∷ loop_start (item (word 7 (codes "x"))) (at 12 14) ∷ loop_next 6 ∷ expr_start_var (first 20 (codes "x")) [] ∷ emit ∷ jump 2 ∷ []
 in_turns = refl
+
+-- `{% for x in xs %}x{% else %}y{% endfor %}`: to the other branch if there is no turn at all, and past it after the last turn
+in_turns_or_else : program_of (statements (for_loop (item (word 7 (codes "x"))) (base (name 12 (codes "xs"))) (statements (text 17 18 ∷ [])) (otherwise (statements (text 28 29 ∷ []))) ∷ []))
+    ≡ expr_start_var (first 12 (codes "xs")) [] ∷ loop_start (item (word 7 (codes "x"))) (at 12 14) ∷ loop_next_else 5 6 ∷ emit_raw (at 17 18) ∷ jump 2 ∷ emit_raw (at 28 29) ∷ []
+in_turns_or_else = refl
 
 -- `{% with 1 as n %}{% include "t" with n %}{% endwith %}`
 inside : program_of (statements (with (base (number 8 9 (pos 1))) (word 13 (codes "n")) (statements (include (quoted 28 (codes "t")) (Some (base (name 37 (codes "n")))) ∷ [])) ∷ []))

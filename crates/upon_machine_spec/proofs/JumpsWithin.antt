@@ -2,7 +2,7 @@
 use Rattle.std.proofs.Common.{ℕ, ◌+◌, ◌≤◌, List, [], ◌∷◌, ◌++◌, length, Some, None, Bool, true, false, arith, length-append}
 use Rattle.upon_types.specs.Expression.{Expression, base, filtered, Base, var, literal, list, mapping, paren, call, Bases, no_bases, base_then, Items, no_items, item_then, Arguments, no_arguments, arguments, expression_span}
 use Rattle.upon_types.specs.Tree.{Statement, raw, inline_expr, include, if_else, for_loop, with, Statements, no_statements, statement_then, Else, no_else, otherwise}
-use Rattle.upon_machine_spec.specs.Code.{expression_code, base_code, bases_code, arguments_code, list_code, map_code, emission_code, base_emission_code, jump_unless, else_start, else_part, if_code, turns, for_code, with_code, statement_code, statements_code, else_code, program_of}
+use Rattle.upon_machine_spec.specs.Code.{expression_code, base_code, bases_code, arguments_code, list_code, map_code, emission_code, base_emission_code, jump_unless, else_start, else_part, if_code, turn, for_code, with_code, statement_code, statements_code, else_code, program_of}
 use Rattle.upon_machine_spec.specs.Instr.{Instr, jump, emit, with_end}
 use Rattle.upon_machine_spec.specs.Jumps.{JumpsTo, JumpWithin}
 
@@ -61,6 +61,10 @@ module _ (end : ℕ) where
   jumps_unless true n h = h
   jumps_unless false n h = h
 
+  turn_jumps : (branch : Else) (other past : ℕ) → other ≤ end → past ≤ end → JumpsTo end (turn branch other past)
+  turn_jumps no_else other past h k = k
+  turn_jumps (otherwise body) other past h k = (h, k)
+
 -- the other case begins where the body ends, or after the jump past it
 starts_by : (branch : Else) (at : ℕ) (other : List Instr) → else_start branch at ≤ at + length (else_part branch at other)
 starts_by no_else at other = omega arith
@@ -85,32 +89,20 @@ mutual
         jumps_unless end negated (else_start branch (start + 1 + length inner)) (omega (arith, le, in_all, in_body, begins)),
         joined end inner _ (statements_jump end (start + 1) body (omega (arith, le, in_all, in_body))) (else_jumps end branch (start + 1 + length inner) (omega (arith, le, in_all, in_body))),
       )
-  statement_jumps end at (for_loop names e body (otherwise branch)) le =
+  statement_jumps end at (for_loop names e body branch) le =
       let start : ℕ = at + length (expression_code e) in
-      let inner : List Instr = statements_code (start + 1 + 1 + 1) body in
-      let past : ℕ = start + 1 + 1 + 1 + length inner + 1 in
-      let other : List Instr = statements_code past branch in
-      let round : List Instr = turns (start + 1 + 1) (past + length other) inner in
-      let in_all = length-append (expression_code e) (for_code (otherwise branch) names (expression_span e) start inner other) in
-      let in_both = length-append round other in
-      let in_body = length-append inner (jump (start + 1 + 1) ∷ []) in
+      let inner : List Instr = statements_code (start + 1 + 1) body in
+      let after : ℕ = start + 1 + 1 + length inner + 1 in
+      let other : List Instr = else_code after branch in
+      let in_all = length-append (expression_code e) (for_code branch names (expression_span e) start inner other) in
+      let in_body = length-append inner (jump (start + 1) ∷ other) in
       joined end (expression_code e) _ (expression_jumps end e) (
         tt,
         (
-          omega (arith, le, in_all, in_both, in_body),
-          joined end round other (
-            omega (arith, le, in_all, in_both, in_body),
-            joined end inner _ (statements_jump end (start + 1 + 1 + 1) body (omega (arith, le, in_all, in_both, in_body))) (omega (arith, le, in_all, in_both, in_body), tt),
-          ) (statements_jump end past branch (omega (arith, le, in_all, in_both, in_body))),
+          turn_jumps end branch after (after + length other) (omega (arith, le, in_all, in_body)) (omega (arith, le, in_all, in_body)),
+          joined end inner _ (statements_jump end (start + 1 + 1) body (omega (arith, le, in_all, in_body))) (omega (arith, le, in_all, in_body), branch_jumps end branch after (omega (arith, le, in_all, in_body))),
         ),
       )
-  statement_jumps end at (for_loop names e body no_else) le =
-      let start : ℕ = at + length (expression_code e) in
-      let inner : List Instr = statements_code (start + 1 + 1) body in
-      let in_all = length-append (expression_code e) (for_code no_else names (expression_span e) start inner []) in
-      let in_body = length-append inner (jump (start + 1) ∷ []) in
-      joined end (expression_code e) _ (expression_jumps end e)
-      (tt, (omega (arith, le, in_all, in_body), joined end inner _ (statements_jump end (start + 1 + 1) body (omega (arith, le, in_all, in_body))) (omega (arith, le, in_all, in_body), tt)))
   statement_jumps end at (with e word body) le =
       let start : ℕ = at + length (expression_code e) in
       let inner : List Instr = statements_code (start + 1) body in
@@ -125,6 +117,11 @@ mutual
       let rest : List Instr = statements_code (at + length first) ts in
       let in_all = length-append first rest in
       joined end first rest (statement_jumps end at t (omega (arith, le, in_all))) (statements_jump end (at + length first) ts (omega (arith, le, in_all)))
+
+  -- the other branch of a loop
+  branch_jumps : (end : ℕ) (branch : Else) (at : ℕ) → at + length (else_code at branch) ≤ end → JumpWithin end (else_code at branch)
+  branch_jumps end no_else at le = tt
+  branch_jumps end (otherwise body) at le = statements_jump end at body le
 
   -- the other case, where the body ends at this span
   else_jumps : (end : ℕ) (branch : Else) (at : ℕ) → at + length (else_part branch at (else_code (else_start branch at) branch)) ≤ end → JumpWithin end (else_part branch at (else_code (else_start branch at) branch))

@@ -1,13 +1,13 @@
 -- What walks along a tree's program find of its names is what the tree says.
-use Rattle.std.proofs.Common.{◌≡◌, ◌⊎◌, ◌↔◌, ℕ, ◌+◌, ◌≤◌, List, [], ◌∷◌, ◌++◌, length, length-append, filter_map, Option, Some, None, Bool, true, false, ◌||◌, inl, inr, refl, sym, ap, ◌∙◌, subst, arith, bytes_eq}
+use Rattle.std.proofs.Common.{◌≡◌, ◌⊎◌, ◌↔◌, ℕ, ◌+◌, ◌≤◌, List, [], ◌∷◌, ◌++◌, length, length-append, append_assoc, filter_map, Option, Some, None, Bool, true, false, ◌||◌, inl, inr, refl, sym, ap, ◌∙◌, subst, arith, bytes_eq}
 use Rattle.std.specs.List.{list_any, cons_option}
 use Rattle.upon_types.specs.Expression.{Expression, expression_span}
 use Rattle.upon_types.specs.Path.{LoopVars}
 use Rattle.upon_types.specs.Tree.{Statement, raw, inline_expr, include, if_else, for_loop, with, Statements, no_statements, statement_then, Else, no_else, otherwise}
 use Rattle.upon_meaning_spec.specs.Includes.{StatementIncludes, Includes, ElseIncludes}
 use Rattle.upon_meaning_spec.specs.Needs.{Start, a_name, Hides, LoopHides, ExpressionBegins, StatementBegins, StatementsBegin, ElseBegins, StatementPasses, StatementsPass, ElsePasses}
-use Rattle.upon_machine_spec.specs.Code.{expression_code, emission_code, jump_unless, else_start, else_part, if_code, turns, for_code, statement_code, statements_code, else_code, program_of}
-use Rattle.upon_machine_spec.specs.Instr.{Instr, jump, emit_raw, loop_start, loop_else, loop_next, with_start, with_end}
+use Rattle.upon_machine_spec.specs.Code.{expression_code, emission_code, jump_unless, else_start, else_part, if_code, turn, for_code, statement_code, statements_code, else_code, program_of}
+use Rattle.upon_machine_spec.specs.Instr.{Instr, jump, emit_raw, loop_start, with_start, with_end}
 use Rattle.upon_machine_spec.specs.Instr.{include as enter, include_with as enter_with}
 use Rattle.upon_machine_spec.specs.ProgramNames.{loop_binds, count_after, unbound, is_this, plain_include, any_include, begins, passes, Lists}
 use Rattle.upon_machine_spec.specs.ProgramNames.{includes as includes_of}
@@ -31,6 +31,10 @@ module _ (name : List ℕ) where
   unless_keeps true to at n = refl
   unless_keeps false to at n = refl
 
+  turn_keeps : (branch : Else) (other past at n : ℕ) → count_after name at (turn branch other past) n ≡ n
+  turn_keeps no_else other past at n = refl
+  turn_keeps (otherwise body) other past at n = refl
+
   -- a walk that finds the same in other words
   reworded : (h : Instr → Bool) (at : ℕ) (c : List Instr) (P Q : Type 0) → (P → Q) → (Q → P) → Walks name h at c P → Walks name h at c Q
   reworded h at c P Q there back w = record { ends = w.ends; bound = w.bound; finds = (λ e. there (w.finds.0 e), λ q. w.finds.1 (back q)) }
@@ -44,30 +48,23 @@ module _ (name : List ℕ) where
   none_or (inr p) = p
 
   -- blocks, for a test that none of their own instructions passes
-  module _ (h : Instr → Bool) (quiet_start : (names : LoopVars) (span : _) → h (loop_start names span) ≡ false) (quiet_jump : (to : ℕ) → h (jump to) ≡ false) (quiet_next : (to : ℕ) → h (loop_next to) ≡ false) (quiet_else : (to : ℕ) → h (loop_else to) ≡ false) (quiet_with : (word : _) → h (with_start word) ≡ false) (quiet_end : h with_end ≡ false) (quiet_unless : (negated : Bool) (to : ℕ) → h (jump_unless negated to) ≡ false) where
-    a_loop : (names : LoopVars) (span : _) (at past : ℕ) (inner : List Instr) (P : Type 0) → Walks name h (at + 1 + 1) inner P →
-        Walks name h at (loop_start names span ∷ turns (at + 1) past inner) ((LoopHides names start → ⊥) × P)
-    a_loop names span at past inner P w =
-        walk_block name h at (loop_start names span) (loop_next past ∷ inner) (jump (at + 1)) (loop_binds name names) (LoopHides names start) P (loop_names name names) (λ n. refl)
-        (λ n. back_ends name (at + 1) (at + 1 + length (loop_next past ∷ inner)) n (omega arith))
-        (quiet_start names span) (quiet_jump (at + 1))
-        (walk_after name h (at + 1) (loop_next past) inner P (λ n. refl) (quiet_next past) w)
-
-    -- with another branch after it
-    a_loop_or : (names : LoopVars) (span : _) (at to past : ℕ) (inner other : List Instr) (P Q : Type 0) → Walks name h (at + 1 + 1 + 1) inner P → Walks name h (at + 1 + 1 + 1 + length inner + 1) other Q →
-        Walks name h at (loop_start names span ∷ loop_else to ∷ (turns (at + 1 + 1) past inner ++ other)) (((LoopHides names start → ⊥) × P) ⊎ Q)
-    a_loop_or names span at to past inner other P Q w v =
-        let inside : List Instr = loop_else to ∷ loop_next past ∷ inner in
-        let block : List Instr = loop_start names span ∷ (inside ++ jump (at + 1 + 1) ∷ []) in
-        let e : at + 1 + 1 + 1 + length inner + 1 ≡ at + length block = omega (arith, length-append inner (jump (at + 1 + 1) ∷ [])) in
-        walk_then name h at block other ((LoopHides names start → ⊥) × P) Q
+  module _ (h : Instr → Bool) (quiet_start : (names : LoopVars) (span : _) → h (loop_start names span) ≡ false) (quiet_jump : (to : ℕ) → h (jump to) ≡ false) (quiet_turn : (branch : Else) (other past : ℕ) → h (turn branch other past) ≡ false) (quiet_with : (word : _) → h (with_start word) ≡ false) (quiet_end : h with_end ≡ false) (quiet_unless : (negated : Bool) (to : ℕ) → h (jump_unless negated to) ≡ false) where
+    -- the turns of a loop, and its other branch after them
+    a_loop : (branch : Else) (names : LoopVars) (span : _) (at to past : ℕ) (inner other : List Instr) (P Q : Type 0) → Walks name h (at + 1 + 1) inner P → Walks name h (at + 1 + 1 + length inner + 1) other Q →
+        Walks name h at (loop_start names span ∷ turn branch to past ∷ (inner ++ jump (at + 1) ∷ other)) (((LoopHides names start → ⊥) × P) ⊎ Q)
+    a_loop branch names span at to past inner other P Q w v =
+        let inside : List Instr = turn branch to past ∷ inner in
+        let block : List Instr = loop_start names span ∷ (inside ++ jump (at + 1) ∷ []) in
+        let e : at + 1 + 1 + length inner + 1 ≡ at + length block = omega (arith, length-append inner (jump (at + 1) ∷ [])) in
+        subst (λ c. Walks name h at (loop_start names span ∷ turn branch to past ∷ c) (((LoopHides names start → ⊥) × P) ⊎ Q)) (append_assoc inner (jump (at + 1) ∷ []) other)
+        (walk_then name h at block other ((LoopHides names start → ⊥) × P) Q
         (
-        walk_block name h at (loop_start names span) inside (jump (at + 1 + 1)) (loop_binds name names) (LoopHides names start) P (loop_names name names) (λ n. refl)
-        (λ n. back_ends name (at + 1 + 1) (at + 1 + length inside) n (omega arith))
-        (quiet_start names span) (quiet_jump (at + 1 + 1))
-        (walk_after name h (at + 1) (loop_else to) (loop_next past ∷ inner) P (λ n. refl) (quiet_else to) (walk_after name h (at + 1 + 1) (loop_next past) inner P (λ n. refl) (quiet_next past) w))
+        walk_block name h at (loop_start names span) inside (jump (at + 1)) (loop_binds name names) (LoopHides names start) P (loop_names name names) (λ n. refl)
+        (λ n. back_ends name (at + 1) (at + 1 + length inside) n (omega arith))
+        (quiet_start names span) (quiet_jump (at + 1))
+        (walk_after name h (at + 1) (turn branch to past) inner P (turn_keeps branch to past (at + 1)) (quiet_turn branch to past) w)
         )
-        (subst (λ p. Walks name h p other Q) e v)
+        (subst (λ p. Walks name h p other Q) e v))
 
     a_with : (word : _) (at : ℕ) (inner : List Instr) (P : Type 0) → Walks name h (at + 1) inner P → Walks name h at (with_start word ∷ (inner ++ with_end ∷ [])) ((Hides word.text start → ⊥) × P)
     a_with word at inner P w =
@@ -86,6 +83,10 @@ module _ (name : List ℕ) where
   begins_unless true to = refl
   begins_unless false to = refl
 
+  begins_turn : (branch : Else) (other past : ℕ) → f name (turn branch other past) ≡ false
+  begins_turn no_else other past = refl
+  begins_turn (otherwise body) other past = refl
+
   mutual
     statement_begins : (at : ℕ) (t : Statement) → Walks name (f name) at (statement_code at t) (StatementBegins start t)
     statement_begins at (raw span) = walk_plain name (f name) at (emit_raw span ∷ []) ⊥ (tt, tt) none
@@ -98,27 +99,19 @@ module _ (name : List ℕ) where
         let inner : List Instr = statements_code (from + 1) body in
         let other : List Instr = else_code (else_start branch (from + 1 + length inner)) branch in
         walk_then name (f name) at (expression_code e) (if_code negated branch from inner other) (ExpressionBegins start e) (StatementsBegin start body ⊎ ElseBegins start branch) (in_value name at e)
-        (an_if (f name) (λ names span. refl) (λ to. refl) (λ to. refl) (λ to. refl) (λ word. refl) refl begins_unless negated (else_start branch (from + 1 + length inner)) from inner (else_part branch (from + 1 + length inner) other) (StatementsBegin start body) (ElseBegins start branch) (statements_begin (from + 1) body) (else_begins (from + 1 + length inner) branch))
-    statement_begins at (for_loop names e body no_else) =
+        (an_if (f name) (λ names span. refl) (λ to. refl) begins_turn (λ word. refl) refl begins_unless negated (else_start branch (from + 1 + length inner)) from inner (else_part branch (from + 1 + length inner) other) (StatementsBegin start body) (ElseBegins start branch) (statements_begin (from + 1) body) (else_begins (from + 1 + length inner) branch))
+    statement_begins at (for_loop names e body branch) =
         let from : ℕ = at + length (expression_code e) in
         let inner : List Instr = statements_code (from + 1 + 1) body in
-        let past : ℕ = from + 1 + 1 + length inner + 1 in
-        let code : List Instr = for_code no_else names (expression_span e) from inner [] in
-        let own : Type 0 = (LoopHides names start → ⊥) × StatementsBegin start body in
-        walk_then name (f name) at (expression_code e) code (ExpressionBegins start e) (own ⊎ ⊥) (in_value name at e)
-        (reworded (f name) from code own (own ⊎ ⊥) (λ p. inl p) or_none (a_loop (f name) (λ names span. refl) (λ to. refl) (λ to. refl) (λ to. refl) (λ word. refl) refl begins_unless names (expression_span e) from past inner (StatementsBegin start body) (statements_begin (from + 1 + 1) body)))
-    statement_begins at (for_loop names e body (otherwise branch)) =
-        let from : ℕ = at + length (expression_code e) in
-        let inner : List Instr = statements_code (from + 1 + 1 + 1) body in
-        let to : ℕ = from + 1 + 1 + 1 + length inner + 1 in
-        let other : List Instr = statements_code to branch in
-        walk_then name (f name) at (expression_code e) (for_code (otherwise branch) names (expression_span e) from inner other) (ExpressionBegins start e) (((LoopHides names start → ⊥) × StatementsBegin start body) ⊎ StatementsBegin start branch) (in_value name at e)
-        (a_loop_or (f name) (λ names span. refl) (λ to. refl) (λ to. refl) (λ to. refl) (λ word. refl) refl begins_unless names (expression_span e) from to (to + length other) inner other (StatementsBegin start body) (StatementsBegin start branch) (statements_begin (from + 1 + 1 + 1) body) (statements_begin to branch))
+        let to : ℕ = from + 1 + 1 + length inner + 1 in
+        let other : List Instr = else_code to branch in
+        walk_then name (f name) at (expression_code e) (for_code branch names (expression_span e) from inner other) (ExpressionBegins start e) (((LoopHides names start → ⊥) × StatementsBegin start body) ⊎ ElseBegins start branch) (in_value name at e)
+        (a_loop (f name) (λ names span. refl) (λ to. refl) begins_turn (λ word. refl) refl begins_unless branch names (expression_span e) from to (to + length other) inner other (StatementsBegin start body) (ElseBegins start branch) (statements_begin (from + 1 + 1) body) (branch_begins to branch))
     statement_begins at (with e word body) =
         let from : ℕ = at + length (expression_code e) in
         let inner : List Instr = statements_code (from + 1) body in
         walk_then name (f name) at (expression_code e) (with_start word ∷ (inner ++ with_end ∷ [])) (ExpressionBegins start e) ((Hides word.text start → ⊥) × StatementsBegin start body) (in_value name at e)
-        (a_with (f name) (λ names span. refl) (λ to. refl) (λ to. refl) (λ to. refl) (λ word. refl) refl begins_unless word from inner (StatementsBegin start body) (statements_begin (from + 1) body))
+        (a_with (f name) (λ names span. refl) (λ to. refl) begins_turn (λ word. refl) refl begins_unless word from inner (StatementsBegin start body) (statements_begin (from + 1) body))
 
     statements_begin : (at : ℕ) (ts : Statements) → Walks name (f name) at (statements_code at ts) (StatementsBegin start ts)
     statements_begin at no_statements = walk_nothing name (f name) at
@@ -126,11 +119,16 @@ module _ (name : List ℕ) where
         let first : List Instr = statement_code at t in
         walk_then name (f name) at first (statements_code (at + length first) ts) (StatementBegins start t) (StatementsBegin start ts) (statement_begins at t) (statements_begin (at + length first) ts)
 
+    -- the other branch of a loop
+    branch_begins : (at : ℕ) (branch : Else) → Walks name (f name) at (else_code at branch) (ElseBegins start branch)
+    branch_begins at no_else = walk_nothing name (f name) at
+    branch_begins at (otherwise body) = statements_begin at body
+
     else_begins : (at : ℕ) (branch : Else) → Walks name (f name) at (else_part branch at (else_code (else_start branch at) branch)) (ElseBegins start branch)
     else_begins at no_else = walk_nothing name (f name) at
     else_begins at (otherwise body) =
         let other : List Instr = statements_code (at + 1) body in
-        an_else (f name) (λ names span. refl) (λ to. refl) (λ to. refl) (λ to. refl) (λ word. refl) refl begins_unless (at + 1 + length other) at other (StatementsBegin start body) (omega arith) (statements_begin (at + 1) body)
+        an_else (f name) (λ names span. refl) (λ to. refl) begins_turn (λ word. refl) refl begins_unless (at + 1 + length other) at other (StatementsBegin start body) (omega arith) (statements_begin (at + 1) body)
 
   pub tree_begins : (tree : Statements) → (begins name (program_of tree) ≡ true) ↔ StatementsBegin start tree
   tree_begins tree = (statements_begin 0 tree).finds
@@ -140,6 +138,10 @@ module _ (name : List ℕ) where
     passes_unless : (negated : Bool) (to : ℕ) → g via (jump_unless negated to) ≡ false
     passes_unless true to = refl
     passes_unless false to = refl
+
+    passes_turn : (branch : Else) (other past : ℕ) → g via (turn branch other past) ≡ false
+    passes_turn no_else other past = refl
+    passes_turn (otherwise body) other past = refl
 
     -- an expression includes nothing
     after_value : (at : ℕ) (e : Expression) (c : List Instr) (P : Type 0) → Walks name (g via) (at + length (expression_code e)) c P → Walks name (g via) at (expression_code e ++ c) P
@@ -163,27 +165,19 @@ module _ (name : List ℕ) where
           let inner : List Instr = statements_code (from + 1) body in
           let other : List Instr = else_code (else_start branch (from + 1 + length inner)) branch in
           after_value at e (if_code negated branch from inner other) (StatementsPass start via body ⊎ ElsePasses start via branch)
-          (an_if (g via) (λ names span. refl) (λ to. refl) (λ to. refl) (λ to. refl) (λ word. refl) refl passes_unless negated (else_start branch (from + 1 + length inner)) from inner (else_part branch (from + 1 + length inner) other) (StatementsPass start via body) (ElsePasses start via branch) (statements_pass (from + 1) body) (else_passes (from + 1 + length inner) branch))
-      statement_passes at (for_loop names e body no_else) =
+          (an_if (g via) (λ names span. refl) (λ to. refl) passes_turn (λ word. refl) refl passes_unless negated (else_start branch (from + 1 + length inner)) from inner (else_part branch (from + 1 + length inner) other) (StatementsPass start via body) (ElsePasses start via branch) (statements_pass (from + 1) body) (else_passes (from + 1 + length inner) branch))
+      statement_passes at (for_loop names e body branch) =
           let from : ℕ = at + length (expression_code e) in
           let inner : List Instr = statements_code (from + 1 + 1) body in
-          let past : ℕ = from + 1 + 1 + length inner + 1 in
-          let code : List Instr = for_code no_else names (expression_span e) from inner [] in
-          let own : Type 0 = (LoopHides names start → ⊥) × StatementsPass start via body in
-          after_value at e code (own ⊎ ⊥)
-          (reworded (g via) from code own (own ⊎ ⊥) (λ p. inl p) or_none (a_loop (g via) (λ names span. refl) (λ to. refl) (λ to. refl) (λ to. refl) (λ word. refl) refl passes_unless names (expression_span e) from past inner (StatementsPass start via body) (statements_pass (from + 1 + 1) body)))
-      statement_passes at (for_loop names e body (otherwise branch)) =
-          let from : ℕ = at + length (expression_code e) in
-          let inner : List Instr = statements_code (from + 1 + 1 + 1) body in
-          let to : ℕ = from + 1 + 1 + 1 + length inner + 1 in
-          let other : List Instr = statements_code to branch in
-          after_value at e (for_code (otherwise branch) names (expression_span e) from inner other) (((LoopHides names start → ⊥) × StatementsPass start via body) ⊎ StatementsPass start via branch)
-          (a_loop_or (g via) (λ names span. refl) (λ to. refl) (λ to. refl) (λ to. refl) (λ word. refl) refl passes_unless names (expression_span e) from to (to + length other) inner other (StatementsPass start via body) (StatementsPass start via branch) (statements_pass (from + 1 + 1 + 1) body) (statements_pass to branch))
+          let to : ℕ = from + 1 + 1 + length inner + 1 in
+          let other : List Instr = else_code to branch in
+          after_value at e (for_code branch names (expression_span e) from inner other) (((LoopHides names start → ⊥) × StatementsPass start via body) ⊎ ElsePasses start via branch)
+          (a_loop (g via) (λ names span. refl) (λ to. refl) passes_turn (λ word. refl) refl passes_unless branch names (expression_span e) from to (to + length other) inner other (StatementsPass start via body) (ElsePasses start via branch) (statements_pass (from + 1 + 1) body) (branch_passes to branch))
       statement_passes at (with e word body) =
           let from : ℕ = at + length (expression_code e) in
           let inner : List Instr = statements_code (from + 1) body in
           after_value at e (with_start word ∷ (inner ++ with_end ∷ [])) ((Hides word.text start → ⊥) × StatementsPass start via body)
-          (a_with (g via) (λ names span. refl) (λ to. refl) (λ to. refl) (λ to. refl) (λ word. refl) refl passes_unless word from inner (StatementsPass start via body) (statements_pass (from + 1) body))
+          (a_with (g via) (λ names span. refl) (λ to. refl) passes_turn (λ word. refl) refl passes_unless word from inner (StatementsPass start via body) (statements_pass (from + 1) body))
 
       statements_pass : (at : ℕ) (ts : Statements) → Walks name (g via) at (statements_code at ts) (StatementsPass start via ts)
       statements_pass at no_statements = walk_nothing name (g via) at
@@ -191,11 +185,16 @@ module _ (name : List ℕ) where
           let first : List Instr = statement_code at t in
           walk_then name (g via) at first (statements_code (at + length first) ts) (StatementPasses start via t) (StatementsPass start via ts) (statement_passes at t) (statements_pass (at + length first) ts)
 
+      -- the other branch of a loop
+      branch_passes : (at : ℕ) (branch : Else) → Walks name (g via) at (else_code at branch) (ElsePasses start via branch)
+      branch_passes at no_else = walk_nothing name (g via) at
+      branch_passes at (otherwise body) = statements_pass at body
+
       else_passes : (at : ℕ) (branch : Else) → Walks name (g via) at (else_part branch at (else_code (else_start branch at) branch)) (ElsePasses start via branch)
       else_passes at no_else = walk_nothing name (g via) at
       else_passes at (otherwise body) =
           let other : List Instr = statements_code (at + 1) body in
-          an_else (g via) (λ names span. refl) (λ to. refl) (λ to. refl) (λ to. refl) (λ word. refl) refl passes_unless (at + 1 + length other) at other (StatementsPass start via body) (omega arith) (statements_pass (at + 1) body)
+          an_else (g via) (λ names span. refl) (λ to. refl) passes_turn (λ word. refl) refl passes_unless (at + 1 + length other) at other (StatementsPass start via body) (omega arith) (statements_pass (at + 1) body)
 
     pub tree_passes : (tree : Statements) → Lists (passes name (program_of tree)) via ↔ StatementsPass start via tree
     tree_passes tree = let w = (statements_pass 0 tree).finds in
@@ -230,14 +229,13 @@ module _ (via : List ℕ) where
     statement_includes at (for_loop names e body no_else) =
         let from : ℕ = at + length (expression_code e) in
         let inner : List Instr = statements_code (from + 1 + 1) body in
-        let whole = with_last every inner (jump (from + 1)) refl (statements_include (from + 1 + 1) body) in
-        after_expression e (for_code no_else names (expression_span e) from inner []) (λ h. inl (whole.0 h), λ h. whole.1 (or_none [] h))
+        after_expression e (for_code no_else names (expression_span e) from inner []) (joined every inner (jump (from + 1) ∷ []) (statements_include (from + 1 + 1) body) none)
     statement_includes at (for_loop names e body (otherwise branch)) =
         let from : ℕ = at + length (expression_code e) in
-        let inner : List Instr = statements_code (from + 1 + 1 + 1) body in
-        let to : ℕ = from + 1 + 1 + 1 + length inner + 1 in
+        let inner : List Instr = statements_code (from + 1 + 1) body in
+        let to : ℕ = from + 1 + 1 + length inner + 1 in
         let other : List Instr = statements_code to branch in
-        after_expression e (for_code (otherwise branch) names (expression_span e) from inner other) (joined every (inner ++ jump (from + 1 + 1) ∷ []) other (with_last every inner (jump (from + 1 + 1)) refl (statements_include (from + 1 + 1 + 1) body)) (statements_include to branch))
+        after_expression e (for_code (otherwise branch) names (expression_span e) from inner other) (joined every inner (jump (from + 1) ∷ other) (statements_include (from + 1 + 1) body) (statements_include to branch))
     statement_includes at (with e word body) =
         let from : ℕ = at + length (expression_code e) in
         let inner : List Instr = statements_code (from + 1) body in

@@ -56,10 +56,6 @@ any_include (include word) = Some word.text
 any_include (include_with word) = Some word.text
 any_include i = None
 
--- the names that begin paths of a program, in order
-abbrev pub path_names : List Instr → List (List ℕ)
-path_names code = filter_map path_name code
-
 -- whether the name begins a path outside of the blocks that bind it
 abbrev pub begins : List ℕ → List Instr → Bool
 begins name code = list_any (λ i. is_this name (path_name i)) (unbound name 0 0 code)

@@ -50,7 +50,7 @@ abbrev pub items_left : Rest → List LoopItem
 items_left (ListLent items) = lone_items (iter_rest items)
 items_left (ListOwned items) = lone_items (into_iter_items items)
 items_left (MapLent entries) = entry_items entries
-items_left (MapOwned entries) = entry_items entries
+items_left (MapOwned entries) = entry_items entries.entries
 
 -- whether they are lent
 abbrev pub is_lent_rest : Rest → Bool

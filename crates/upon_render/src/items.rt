@@ -3,7 +3,7 @@ ghost use Rattle.std.specs.Prelude.{◌≡◌, ◌∷◌, [], IfSome, MatchOptio
 ghost use Rattle.upon_render.specs.LoopItems.{items_left, item_of, is_lent_item, is_lent_rest};
 
 use std::borrow::CowStr;
-use std::collections::btree_map;
+use std::collections::{BTreeMap, btree_map};
 use std::{slice, vec};
 use upon_types::value::{Value, ValueCow};
 
@@ -13,7 +13,8 @@ pub(crate) enum Rest<'a> {
     ListLent(slice::Iter<'a, Value>),
     ListOwned(vec::IntoIter<Value>),
     MapLent(btree_map::Iter<'a, String, Value>),
-    MapOwned(btree_map::IntoIter<String, Value>),
+    // The map itself: its iterator takes 328 bytes, which each frame would have.
+    MapOwned(BTreeMap<String, Value>),
 }
 
 /// An item of a list, or an entry of a map.
@@ -54,7 +55,7 @@ impl<'a> Rest<'a> {
                 Some(Item::Entry(CowStr::Borrowed(key.as_str()), ValueCow::Borrowed(value)))
             }
             Rest::MapOwned(entries) => {
-                let (key, value) = entries.next()?;
+                let (key, value) = entries.pop_first()?;
                 Some(Item::Entry(CowStr::Owned(key), ValueCow::Owned(value)))
             }
         }

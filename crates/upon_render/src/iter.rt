@@ -7,7 +7,7 @@ ghost use Rattle.upon_types.specs.Span.{LiesIn};
 ghost use Rattle.upon_types.specs.View.{view};
 ghost use Rattle.upon_render.specs.Answer.{AnswersAlways, Answers, TellsFault, maybe_view, is_borrowed, IsLentIfAny, Lends};
 ghost use Rattle.upon_render.specs.Environment.{first_bound};
-ghost use Rattle.upon_render.specs.Cursor.{advance, is_over, loop_bindings, loop_walk, lends_bound};
+ghost use Rattle.upon_render.specs.Cursor.{advance, has_begun, loop_bindings, loop_walk, lends_bound};
 ghost use Rattle.upon_render.specs.Items.{items_of};
 ghost use Rattle.upon_render.specs.Lookup.{bindings_walk, maybe_bound, key_walk, state_map, state_walk};
 ghost use Rattle.upon_render.specs.LoopItems.{names_of_both, IsNoList, IsNoMap, KeysRise, given, is_lent_here, is_lent_rest, is_lent_item, items_left, item_of, binds};
@@ -86,11 +86,11 @@ impl<'a> LoopState<'a> {
         Some(())
     }
 
-    /// Returns whether no item is left. It takes no memory.
-    pub fn is_empty(&self) -> bool
-        ensures { result ≡ is_over (cursor self.now) }
+    /// Returns whether the loop is at an item: not before its first one. It takes no memory.
+    pub fn has_begun(&self) -> bool
+        ensures { result ≡ has_begun (cursor self.now) }
     {
-        self.rest.len() == 0
+        self.here.is_some()
     }
 
     /// Returns what the loop binds to the path, or `None` if it does not bind the name that is the path's first
@@ -396,7 +396,11 @@ fn map_items<'a>(
             _ => Err(not_mapped(alloc, source, names, value, span)),
         },
         ValueCow::Owned(value) => match value {
-            Value::Map(entries) => Ok(Rest::MapOwned(entries.into_iter())),
+            Value::Map(entries) => {
+                // Asked for what it says of the keys: that they ascend.
+                let _ = entries.len();
+                Ok(Rest::MapOwned(entries))
+            }
             other => Err(not_mapped(alloc, source, names, &other, span)),
         },
     }

@@ -4,7 +4,7 @@ ghost use Rattle.upon_types.specs.AstPath.{member_of, first_member, rest_members
 ghost use Rattle.upon_types.specs.Cow.{cow_view};
 ghost use Rattle.upon_types.specs.Span.{LiesIn};
 ghost use Rattle.upon_render.specs.Answer.{Answers, maybe_view, is_borrowed, IsLent, IsLentIfAny, Lends};
-ghost use Rattle.upon_render.specs.Cursor.{is_over, lends_bound};
+ghost use Rattle.upon_render.specs.Cursor.{lends_bound};
 ghost use Rattle.upon_render.specs.Loop.{cursor};
 ghost use Rattle.upon_render.specs.Environment.{Environment, value_source, binding, plain, binding_of};
 ghost use Rattle.upon_render.specs.Frames.{frame_over, frames_over, frame_lends, frames_lend};
@@ -142,6 +142,16 @@ impl<'a, V: ValueSource> Stack<'a, V> {
         Ok(())
     }
 
+    /// Removes the innermost frame.
+    pub fn drop_frame(&mut self)
+        requires { 0 < length (frames_of self.old) }
+        ensures frames { (frame : State) × (frames_of self.old ≡ frames_of self.new ++ frame ∷ []) }
+        ensures root { root_of self.new ≡ root_of self.old }
+    {
+        let last = self.frames.len() - 1;
+        self.frames.truncate(last);
+    }
+
     /// Removes the innermost frame, which is a scope, and returns its context.
     pub fn pop_scope(&mut self) -> ValueCow<'a>
         requires { IsScope (top (frames_of self.old)) }
@@ -225,21 +235,6 @@ impl<'a, V: ValueSource> Stack<'a, V> {
         let last = self.frames.len() - 1;
         match &mut self.frames[last] {
             State::Loop(state) => state.iterate(),
-            State::Scope(_) => unreachable!(),
-            State::Var(_, _) => unreachable!(),
-            State::Boundary => unreachable!(),
-        }
-    }
-
-    /// Returns whether the loop of the innermost frame, which is a loop, has no item left.
-    pub fn is_loop_empty(&self) -> bool
-        requires { IsLoop (top (frames_of self.now)) }
-        ensures { (below : List State) (state : LoopState) → frames_of self.now ≡ below ++ State.Loop state ∷ []
-            → result ≡ is_over (cursor state) }
-    {
-        let last = self.frames.len() - 1;
-        match &self.frames[last] {
-            State::Loop(state) => state.is_empty(),
             State::Scope(_) => unreachable!(),
             State::Var(_, _) => unreachable!(),
             State::Boundary => unreachable!(),

@@ -1,4 +1,5 @@
 pub mod PieceTrees
+pub mod Told
 pub mod OpenBlocks
 pub mod NextTokens
 pub mod BlockTags

@@ -34,10 +34,6 @@ pub ok_on : {A : Type 0} (P Q : A → Type 0) (r : Result A Error) → ((a : A) 
 ok_on P Q (Ok a) f h = f a h
 ok_on P Q (Err e) f h = tt
 
-pub ok_both : {A : Type 0} (P Q R : A → Type 0) (r : Result A Error) → ((a : A) → P a → Q a → R a) → IfOk r P → IfOk r Q → IfOk r R
-ok_both P Q R (Ok a) f h k = f a h k
-ok_both P Q R (Err e) f h k = tt
-
 pub err_on : {A : Type 0} (P Q : Error → Type 0) (r : Result A Error) → ((e : Error) → P e → Q e) → IfErr r P → IfErr r Q
 err_on P Q (Ok a) f h = tt
 err_on P Q (Err e) f h = f e h

@@ -1,16 +1,19 @@
 -- The open blocks in the code's list: the last is the innermost, and tags open and close at that end.
-use Rattle.std.proofs.Common.{◌≡◌, ℕ, ◌-◌, List, [], ◌∷◌, ◌++◌, length, Bool, true, false, Option, Some, None, option_map, ◌<◌, get_or, refl, sym, ap, ◌∙◌, subst, arith}
+use Rattle.std.proofs.Common.{◌≡◌, ℕ, ◌-◌, List, [], ◌∷◌, ◌++◌, length, Bool, true, false, Option, Some, None, option_map, MatchOption, ◌<◌, get_or, refl, sym, ap, ◌∙◌, subst, arith}
 use Rattle.std.specs.List.{slice_get}
 use Rattle.std.specs.Option.{option_to_list}
 use Rattle.std.proofs.lemmas.List.{append-nil}
 use Rattle.std.proofs.Math.ListN.{set}
 use Rattle.std.proofs.Math.Seq.{set-append_seam, get_or-append_seam}
 use Rattle.upon_types.specs.declared.types.Span.{Span}
-use Rattle.upon_language_spec.specs.Blocks.{Block, if_block, for_block, with_block, OpenBlock, Closer, else_if, plain_else, end_if, end_for, end_with, block_takes, takes, after_closer, outermost}
+use Rattle.upon_language_spec.specs.Blocks.{Block, if_block, for_block, with_block, OpenBlock, Closer, else_if, plain_else, end_if, end_for, end_with, block_takes, takes, after_closer, by_closer, outermost}
 use Rattle.upon_syntax.specs.declared.compile.parse.open_blocks.OpenBlock.{OpenBlock as CodeBlock}
 use Rattle.upon_tag_parser.specs.BlockTags.{BlockTag, if_tag, else_if_tag, else_tag, endif_tag, for_tag, endfor_tag, with_tag, endwith_tag, include_tag}
 use Rattle.upon_syntax.specs.Pieces.{BlockKind, else_after, else_if_after, closed_after, blocks_after_tag}
-use Rattle.upon_syntax.specs.OpenBlocks.{block_of, stack_from, innermost, kinds_of, after_tag, IsTaken}
+use Rattle.upon_syntax.specs.declared.compile.parse.open_blocks.Kind.{Kind}
+use Rattle.upon_syntax.specs.declared.compile.parse.open_blocks.Closing.{Closing}
+use Rattle.upon_syntax.specs.declared.compile.parse.open_blocks.Effect.TheVariants.{Opens, Closes, Nothing}
+use Rattle.upon_syntax.specs.OpenBlocks.{kind_of, closer_of, block_of, stack_from, innermost, kinds_of, new_block, with_block_opened, after_tag, HasEffect, IsTaken, IsUntaken}
 
 pub stack_more : (stack : List OpenBlock) (bs cs : List CodeBlock) → stack_from stack (bs ++ cs) ≡ stack_from (stack_from stack bs) cs
 stack_more stack [] cs = refl
@@ -82,15 +85,6 @@ takes_innermost bs xs b closer e last =
     let F : List CodeBlock → Type 0 = λ x. Some b ≡ slice_get x (length x - 1) in
     takes_first (stack_from [] bs) (block_of b) closer (sym (innermost_last bs) ∙ ap (option_map block_of) (sym (subst F e last)))
 
--- each closing tag that ends a block takes the innermost away
-pub ends_alike : (stack : List OpenBlock) → (after_closer end_for stack ≡ after_closer end_if stack) × (after_closer end_with stack ≡ after_closer end_if stack)
-ends_alike [] = (refl, refl)
-ends_alike (o ∷ stack) = (refl, refl)
-
-pub else_if_stays : (stack : List OpenBlock) → stack ≡ after_closer else_if stack
-else_if_stays [] = refl
-else_if_stays (o ∷ stack) = refl
-
 -- ---- the kinds of the open blocks
 abbrev pub kinds_after : Closer → List BlockKind → Option (List BlockKind)
 kinds_after else_if kinds = else_if_after kinds
@@ -143,3 +137,31 @@ kinds_on endfor_tag span stack taken = closed end_for stack (taken end_for refl)
 kinds_on (with_tag e name) span stack taken = refl
 kinds_on endwith_tag span stack taken = closed end_with stack (taken end_with refl)
 kinds_on (include_tag name globals) span stack taken = refl
+
+-- ---- what the code does for a tag
+-- nothing
+pub none_done : (tag : BlockTag) (span : Span) (stack : List OpenBlock) → HasEffect tag Nothing → IsTaken tag stack × (stack ≡ after_tag tag span stack)
+none_done tag span stack e = (
+  λ closer some. absurd (let none = e.1 in cc),
+  sym (λ i. with_block_opened (e.0 i) span (by_closer (e.1 i) stack)),
+)
+
+-- it opens a block
+pub one_opened : (tag : BlockTag) (kind : Kind) (span : Span) (stack next : List OpenBlock) → HasEffect tag (Opens kind) → next ≡ new_block (kind_of kind) span ∷ stack → IsTaken tag stack × (next ≡ after_tag tag span stack)
+one_opened tag kind span stack next e is = (
+  λ closer some. absurd (let none = e.1 in cc),
+  is ∙ sym (λ i. with_block_opened (e.0 i) span (by_closer (e.1 i) stack)),
+)
+
+-- it closes one, or goes on with it, if that is taken
+pub one_taken : (tag : BlockTag) (closer : Closing) (span : Span) (stack next : List OpenBlock) (untaken : Option Closing) → HasEffect tag (Closes closer)
+    → MatchOption untaken ((takes stack (closer_of closer) ≡ true) × (next ≡ after_closer (closer_of closer) stack)) (λ refused. (refused ≡ closer) × (takes stack (closer_of closer) ≡ false))
+    → MatchOption untaken (IsTaken tag stack × (next ≡ after_tag tag span stack)) (IsUntaken tag stack)
+one_taken tag closer span stack next None e h = (
+  λ other some. let closing = e.1 in let same : closer_of closer ≡ other = cc in ap (takes stack) (sym same) ∙ h.0,
+  h.1 ∙ sym (λ i. with_block_opened (e.0 i) span (by_closer (e.1 i) stack)),
+)
+one_taken tag closer span stack next (Some refused) e h = (
+  e.1 ∙ ap (λ (x : Closing). Some (closer_of x)) (sym h.0),
+  ap (λ (x : Closing). takes stack (closer_of x)) h.0 ∙ h.1,
+)

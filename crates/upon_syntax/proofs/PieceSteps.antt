@@ -15,13 +15,14 @@ use Rattle.upon_language_spec.proofs.GivenTokens.Shown.{next_trims}
 use Rattle.upon_language_spec.proofs.NoTreeWithFault.ReadBefore.{Ended, read_before}
 use Rattle.upon_language_spec.proofs.NoTreeWithFault.TagBlocks.{AllTaken, Walks, walks_nothing, walks_one}
 use Rattle.upon_language_spec.proofs.OneCut.Cut.{cut_ends, cut_joined, takes_some}
-use Rattle.upon_language_spec.proofs.Totality.FittingClears.{AllClear}
 use Rattle.upon_language_spec.proofs.Totality.InsideClear.{last_more}
 use Rattle.upon_language_spec.proofs.Totality.OpenBlocks.{blocks_append, taken_append}
 use Rattle.upon_language_spec.proofs.Totality.Pieces.{Known}
 use Rattle.upon_language_spec.proofs.Totality.Stage.{outside_is_clear}
+use Rattle.upon_instructions.specs.declared.types.program.Instr.{Instr as CodeInstr}
+use Rattle.upon_syntax.specs.declared.compile.parse.piece.Piece.{Piece as CodePiece}
 use Rattle.upon_syntax.specs.OpenBlocks.{kinds_of}
-use Rattle.upon_syntax.specs.PieceReading.{ReadTo, BetweenPieces, token_lexeme, TokenGiven, ReadsOn, PassesComment, PiecesSoFar, GoesFurther}
+use Rattle.upon_syntax.specs.PieceReading.{ReadTo, BetweenPieces, token_lexeme, TokenGiven, ReadsOn, PassesComment, PieceRead, PiecesSoFar, PieceFound, GoesFurther}
 use Rattle.upon_syntax.specs.Pieces.{Piece, raw_piece, BlockKind, ArePieces, LeaveOpen}
 use Rattle.upon_syntax.specs.TagReading.{HasPieces}
 use Rattle.upon_syntax.proofs.CutParts.{cut_rest}
@@ -141,20 +142,6 @@ module _ (delimiters : List DelimiterText) (s : List ℕ) (texts : HasTexts deli
       subst G trims are)
 
   -- ---- the pieces so far
-  -- before the first
-  pub none_so_far : (left : LexerState) → HasRead delimiters s left [] → PiecesSoFar delimiters s left [] []
-  none_so_far left h =
-      let mode = h.reads.0 in
-      let trims = h.trims in
-      let at : 0 ≡ left.offset = h.reads.1 in
-      let G : ℕ → Type 0 = λ p. AllClear delimiters s p in
-      record {
-        lexemes = [];
-        between = record { read_to = record { read = h; is = sym mode; clear = subst G at (λ row q span reason below holds. absurd (omega (arith, below))) }; known = tt; blocks = refl };
-        leaves = refl;
-        reads = λ rest pieces cut are. let F : Bool → Type 0 = λ b. ArePieces s pieces (significant (shown_lexemes s b rest)) [] in subst F (sym trims) are;
-      }
-
   -- after one more
   pub so_far_on : (before after : LexerState) (stack next : List OpenBlock) (found more : List Piece) (x : PiecesSoFar delimiters s before stack found) → ReadsOn delimiters s before after stack next x.lexemes more → GoesFurther delimiters s before after next (found ++ more)
   so_far_on before after stack next found more x y = record {
@@ -172,6 +159,9 @@ module _ (delimiters : List DelimiterText) (s : List ℕ) (texts : HasTexts deli
           subst G (sym (append_assoc x.lexemes y.more rest)) (subst F (sym (append_assoc found more pieces)) joined);
     };
   }
+
+  pub found_on : (before after : LexerState) (stack next : List OpenBlock) (found : List Piece) (old new : List CodeInstr) (kept : CodePiece) (x : PiecesSoFar delimiters s before stack found) → PieceRead delimiters s before after stack next x.lexemes old new kept → PieceFound delimiters s before after next found old new kept
+  found_on before after stack next found old new kept x y = record { piece = y.piece; gone = so_far_on before after stack next found (y.piece ∷ []) x y.reads; keeps = y.keeps; code = y.code }
 
   -- all of them
   pub all_found : (left : LexerState) (stack : List OpenBlock) (found : List Piece) → PiecesSoFar delimiters s left stack found → left.offset ≡ length s → stack ≡ [] → HasPieces delimiters s found × LeaveOpen [] found []

@@ -3,7 +3,6 @@ use Rattle.std.proofs.Common.{◌≡◌, ℕ, List, [], ◌∷◌, ◌++◌, fal
 use Rattle.std.specs.Str.{IsUtf8}
 use Rattle.upon_types.specs.declared.types.Span.{Span}
 use Rattle.upon_types.specs.declared.types.token.Token.TheVariants.{BeginExpr, BeginBlock}
-use Rattle.upon_types.specs.Expression.{Expression}
 use Rattle.upon_language_spec.specs.Search.{DelimiterText, HasTexts}
 use Rattle.upon_language_spec.specs.LiesIn.{HasUtf8}
 use Rattle.upon_language_spec.specs.Delimiters.{expression, block}
@@ -15,14 +14,15 @@ use Rattle.upon_language_spec.specs.Lexing.{LexerState, HasRead}
 use Rattle.upon_language_spec.specs.Wanted.{in_quotes}
 use Rattle.upon_language_spec.proofs.NoTreeWithFault.BeforeTag.{open_tag_is}
 use Rattle.upon_language_spec.proofs.Totality.Stage.{outside_is_clear}
+use Rattle.upon_instructions.specs.declared.types.program.Instr.{Instr as CodeInstr}
 use Rattle.upon_lexer.specs.declared.compile.lex.Lexer.{Lexer}
 use Rattle.upon_lexer.specs.Lexers.{lexer_text, lexer_delimiters, lexer_state, ReadSoFar}
 use Rattle.upon_syntax.specs.OpenBlocks.{closed_by, after_tag, IsTaken}
 use Rattle.upon_syntax.specs.PieceReading.{token_lexeme, TokenGiven, ReadsOn}
-use Rattle.upon_tag_parser.specs.BlockTags.{BlockTag}
+use Rattle.upon_tag_parser.specs.declared.compile.parse.tag.Tag.{Tag}
 use Rattle.upon_syntax.specs.Pieces.{inline_piece, block_piece}
 use Rattle.upon_syntax.specs.TagReading.{AfterBegin, AfterEnd}
-use Rattle.upon_tag_parser.specs.WholeTags.{IsInlineTag, IsTagInside}
+use Rattle.upon_tag_parser.specs.WholeTags.{HoldsInline, HoldsTag}
 use Rattle.upon_syntax.proofs.NextTokens.{back, stage_of, read_on, below_end}
 use Rattle.upon_syntax.proofs.TagSteps.{inline_on, block_on, untaken_is_first}
 
@@ -66,24 +66,23 @@ module _ (lexer : Lexer) (texts : HasTexts (lexer_delimiters lexer)) (before : L
     span_is : (at span : Span) (to : ℕ) → begin ≡ at → span.m ≡ begin.m → span.n ≡ to → span ≡ span_of at.m to
     span_is at span to e m n = let start : span.m ≡ at.m = m ∙ ap (λ (y : Span). y.m) e in λ i. span_of (start i) (n i)
 
-    pub inline_step : (x : TokenGiven (lexer_delimiters lexer) (lexer_text lexer) before (lexer_state lexer) stack ls BeginExpr begin) (tree : Expression) (span : Span)
-        → AfterEnd lexer after expression (ls ++ token_lexeme BeginExpr x.hyphen x.at ∷ []) span.n (IsInlineTag (lexer_text lexer) tree) → span.m ≡ begin.m → ReadsOn (lexer_delimiters lexer) (lexer_text lexer) before (lexer_state after) stack stack ls (inline_piece tree span ∷ [])
-    inline_step x tree span a start =
-        let same = span_is x.at span a.ends.to x.given start a.at in
-        let F : Span → Type 0 = λ y. ReadsOn (lexer_delimiters lexer) (lexer_text lexer) before (lexer_state after) stack stack ls (inline_piece tree y ∷ []) in
-        subst F (sym same) (inline_on (lexer_delimiters lexer) (lexer_text lexer) texts before (lexer_state lexer) (lexer_state after) stack ls begin x a.inner a.each a.path a.offset a.ends (read_back _ a.read) tree a.tokens)
+    pub inline_step : (x : TokenGiven (lexer_delimiters lexer) (lexer_text lexer) before (lexer_state lexer) stack ls BeginExpr begin) (to : ℕ) (old new : List CodeInstr)
+        (a : AfterEnd lexer after expression (ls ++ token_lexeme BeginExpr x.hyphen x.at ∷ []) to (λ tokens. HoldsInline (lexer_text lexer) tokens old new))
+        → ReadsOn (lexer_delimiters lexer) (lexer_text lexer) before (lexer_state after) stack stack ls (inline_piece a.tokens.tree (span_of x.at.m a.ends.to) ∷ [])
+    inline_step x to old new a = inline_on (lexer_delimiters lexer) (lexer_text lexer) texts before (lexer_state lexer) (lexer_state after) stack ls begin x a.inner a.each a.path a.offset a.ends (read_back _ a.read) a.tokens.tree a.tokens.inside
 
-    module _ (utf8 : HasUtf8 (lexer_delimiters lexer)) (text : IsUtf8 (lexer_text lexer)) (x : TokenGiven (lexer_delimiters lexer) (lexer_text lexer) before (lexer_state lexer) stack ls BeginBlock begin) (tag : BlockTag) (span : Span)
-        (a : AfterEnd lexer after block (ls ++ token_lexeme BeginBlock x.hyphen x.at ∷ []) span.n (IsTagInside (lexer_text lexer) tag)) (start : span.m ≡ begin.m) where
+    module _ (utf8 : HasUtf8 (lexer_delimiters lexer)) (text : IsUtf8 (lexer_text lexer)) (x : TokenGiven (lexer_delimiters lexer) (lexer_text lexer) before (lexer_state lexer) stack ls BeginBlock begin) (tag : Tag) (span : Span) (old new : List CodeInstr)
+        (a : AfterEnd lexer after block (ls ++ token_lexeme BeginBlock x.hyphen x.at ∷ []) span.n (λ tokens. HoldsTag (lexer_text lexer) tag tokens old new)) (start : span.m ≡ begin.m) where
       same_span : span ≡ span_of x.at.m a.ends.to
       same_span = span_is x.at span a.ends.to x.given start a.at
 
-      pub block_step : (next : List OpenBlock) → IsTaken tag stack → next ≡ after_tag tag span stack → ReadsOn (lexer_delimiters lexer) (lexer_text lexer) before (lexer_state after) stack next ls (block_piece tag ∷ [])
+      pub block_step : (next : List OpenBlock) → IsTaken a.tokens.tree stack → next ≡ after_tag a.tokens.tree span stack → ReadsOn (lexer_delimiters lexer) (lexer_text lexer) before (lexer_state after) stack next ls (block_piece a.tokens.tree ∷ [])
       block_step next taken is =
-          let F : List OpenBlock → Type 0 = λ y. ReadsOn (lexer_delimiters lexer) (lexer_text lexer) before (lexer_state after) stack y ls (block_piece tag ∷ []) in
-          subst F (sym (is ∙ ap (λ (y : Span). after_tag tag y stack) same_span)) (block_on (lexer_delimiters lexer) (lexer_text lexer) texts utf8 text before (lexer_state lexer) (lexer_state after) stack ls begin x a.inner a.each a.path a.offset a.ends (read_back _ a.read) tag a.tokens taken)
+          let told = a.tokens.tree in
+          let F : List OpenBlock → Type 0 = λ y. ReadsOn (lexer_delimiters lexer) (lexer_text lexer) before (lexer_state after) stack y ls (block_piece told ∷ []) in
+          subst F (sym (is ∙ ap (λ (y : Span). after_tag told y stack) same_span)) (block_on (lexer_delimiters lexer) (lexer_text lexer) texts utf8 text before (lexer_state lexer) (lexer_state after) stack ls begin x a.inner a.each a.path a.offset a.ends (read_back _ a.read) told a.tokens.inside taken)
 
-      pub untaken_first : (closer : Closer) → closed_by tag ≡ Some closer → takes stack closer ≡ false → IsFirstFault (lexer_delimiters lexer) (lexer_text lexer) span (codes "unexpected " ++ (in_quotes (closer_words closer) ++ codes " block"))
+      pub untaken_first : (closer : Closer) → closed_by a.tokens.tree ≡ Some closer → takes stack closer ≡ false → IsFirstFault (lexer_delimiters lexer) (lexer_text lexer) span (codes "unexpected " ++ (in_quotes (closer_words closer) ++ codes " block"))
       untaken_first closer closing refused =
           let F : Span → Type 0 = λ y. IsFirstFault (lexer_delimiters lexer) (lexer_text lexer) y (codes "unexpected " ++ (in_quotes (closer_words closer) ++ codes " block")) in
-          subst F (sym same_span) (untaken_is_first (lexer_delimiters lexer) (lexer_text lexer) texts utf8 text before (lexer_state lexer) (lexer_state after) stack ls begin x a.inner a.each a.path a.offset a.ends (read_back _ a.read) tag a.tokens closer closing refused)
+          subst F (sym same_span) (untaken_is_first (lexer_delimiters lexer) (lexer_text lexer) texts utf8 text before (lexer_state lexer) (lexer_state after) stack ls begin x a.inner a.each a.path a.offset a.ends (read_back _ a.read) a.tokens.tree a.tokens.inside closer closing refused)

@@ -54,9 +54,6 @@ module _ (delimiters : List DelimiterText) (s : List ℕ) (texts : HasTexts deli
     abbrev all : List Lexeme
     all = without_spaces (l ∷ inner) ++ end ∷ []
 
-    so_far_is : so_far ≡ ls ++ (l ∷ inner)
-    so_far_is = append_assoc ls (l ∷ []) inner
-
     read_end : HasRead delimiters s after (so_far ++ end ∷ [])
     read_end = let F : List Lexeme → Type 0 = λ y. HasRead delimiters s after y in subst F (sym (append_assoc (ls ++ l ∷ []) inner (end ∷ []))) read
 

@@ -1,10 +1,10 @@
 pub mod CommentReasons
 pub mod Pieces
+pub mod Told
 pub mod TagReading
 pub mod TagReaders
 pub mod TagEnds
 pub mod TagFaults
 pub mod OpenBlocks
 pub mod PieceReading
-pub mod PieceTrees
 pub mod Parsed

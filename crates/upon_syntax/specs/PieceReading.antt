@@ -22,7 +22,9 @@ use Rattle.upon_syntax.specs.declared.compile.parse.piece_reader.Next.{Next}
 use Rattle.upon_syntax.specs.declared.compile.parse.piece_reader.Next.TheVariants.{OnePiece, Comment, End}
 use Rattle.upon_syntax.specs.OpenBlocks.{stack_of, kinds_of}
 use Rattle.upon_syntax.specs.TagReading.{HasPieces, IsSyntaxError}
-use Rattle.upon_syntax.specs.Pieces.{Piece, piece_of, ArePieces, LeaveOpen}
+use Rattle.upon_syntax.specs.Pieces.{Piece, KeepsPiece, piece_code, ArePieces, LeaveOpen}
+use Rattle.upon_instructions.specs.Program.{program_view}
+use Rattle.upon_instructions.specs.declared.types.program.Instr.{Instr as CodeInstr}
 
 -- the text of a reader
 abbrev pub pieces_text : PieceReader → List ℕ
@@ -43,11 +45,6 @@ pieces_blocks reader = stack_of reader.blocks
 -- pieces, one after the other
 abbrev pub Pieces : Type 0
 Pieces = List Piece
-
--- the piece that was read, if one was
-abbrev pub found_pieces : Option CodePiece → List Piece
-found_pieces None = []
-found_pieces (Some piece) = piece_of piece ∷ []
 
 -- these tokens were read, the offset after them is in this mode, and no fault holds before it
 pub record ReadTo (delimiters : List DelimiterText) (s : List ℕ) (left : LexerState) (mode : Mode) (ls : List Lexeme)
@@ -88,6 +85,15 @@ pub record ReadsOn (delimiters : List DelimiterText) (s : List ℕ) (before afte
   pub reads : (rest : List Lexeme) (pieces : List Piece) → Cut delimiters s outside after.offset rest outside (length s)
       → ArePieces s pieces (significant (shown_lexemes s after.trims rest)) []
       → ArePieces s (found ++ pieces) (significant (shown_lexemes s before.trims (more ++ rest))) []
+
+-- A reader has gone on over one piece, of which the code keeps this, and the instructions of the piece's expression are
+-- appended.
+pub record PieceRead (delimiters : List DelimiterText) (s : List ℕ) (before after : LexerState)
+    (stack next : List OpenBlock) (ls : List Lexeme) (old new : List CodeInstr) (kept : CodePiece) : Type 0 where
+  pub piece : Piece
+  pub reads : ReadsOn delimiters s before after stack next ls (piece ∷ [])
+  pub keeps : KeepsPiece kept piece
+  pub code : program_view new ≡ program_view old ++ piece_code piece
 
 -- the begin of a comment was read last
 pub record AfterCommentBegin (delimiters : List DelimiterText) (s : List ℕ) (left : LexerState) (ls : List Lexeme)
@@ -134,6 +140,15 @@ pub record GoesFurther (delimiters : List DelimiterText) (s : List ℕ) (before 
   pub within : after.offset ≤ length s
   pub so_far : PiecesSoFar delimiters s after stack found
 
+-- One piece more than these, from one offset to a later one: of it the code keeps this, and the instructions of its
+-- expression are appended.
+pub record PieceFound (delimiters : List DelimiterText) (s : List ℕ) (before after : LexerState)
+    (stack : List OpenBlock) (found : List Piece) (old new : List CodeInstr) (kept : CodePiece) : Type 0 where
+  pub piece : Piece
+  pub gone : GoesFurther delimiters s before after stack (found ++ piece ∷ [])
+  pub keeps : KeepsPiece kept piece
+  pub code : program_view new ≡ program_view old ++ piece_code piece
+
 -- ---- the same, of a reader
 -- it is between two pieces, after these tokens
 abbrev pub IsBetween : PieceReader → List Lexeme → Type 0
@@ -149,6 +164,18 @@ IsGivenTo reader before ls token span = TokenGiven (pieces_delimiters reader) (p
 abbrev pub GoesOn : PieceReader → PieceReader → LexerState → List Lexeme → List Piece → Type 0
 GoesOn reader after before ls found = ReadsOn (pieces_delimiters reader) (pieces_text reader) before
     (pieces_state after) (pieces_blocks reader) (pieces_blocks after) ls found
+
+-- it goes on over one piece, of which the code keeps this, and the instructions of the piece's expression are appended
+abbrev pub ReadsPiece : PieceReader → PieceReader → LexerState → List Lexeme → List CodeInstr → List CodeInstr
+    → CodePiece → Type 0
+ReadsPiece reader after before ls old new kept = PieceRead (pieces_delimiters reader) (pieces_text reader) before
+    (pieces_state after) (pieces_blocks reader) (pieces_blocks after) ls old new kept
+
+-- the same of the piece that was read, if one was; a comment leaves the instructions
+abbrev pub ReadsFound : PieceReader → PieceReader → LexerState → List Lexeme → List CodeInstr → List CodeInstr
+    → Option CodePiece → Type 0
+ReadsFound reader after before ls old new None = GoesOn reader after before ls [] × (new ≡ old)
+ReadsFound reader after before ls old new (Some kept) = ReadsPiece reader after before ls old new kept
 
 -- it has read the begin of a comment last
 abbrev pub HasBegunComment : PieceReader → List Lexeme → Type 0
@@ -176,11 +203,17 @@ abbrev pub HasGone : PieceReader → PieceReader → List Piece → Type 0
 HasGone reader after found = GoesFurther (pieces_delimiters reader) (pieces_text reader) (pieces_state reader)
     (pieces_state after) (pieces_blocks after) found
 
+-- it has found one piece after those before, and the instructions of the piece's expression are appended
+abbrev pub FindsPiece : PieceReader → PieceReader → List Piece → List CodeInstr → List CodeInstr → CodePiece → Type 0
+FindsPiece reader after found old new kept = PieceFound (pieces_delimiters reader) (pieces_text reader)
+    (pieces_state reader) (pieces_state after) (pieces_blocks after) found old new kept
+
 -- what it says that it found, if these pieces were found before
-abbrev pub Finds : PieceReader → PieceReader → List Piece → Next → Type 0
-Finds reader after found (OnePiece piece) = HasGone reader after (found ++ piece_of piece ∷ [])
-Finds reader after found Comment = HasGone reader after found
-Finds reader after found End = HasPieces (pieces_delimiters reader) (pieces_text reader) found × LeaveOpen [] found []
+abbrev pub Finds : PieceReader → PieceReader → List Piece → List CodeInstr → List CodeInstr → Next → Type 0
+Finds reader after found old new (OnePiece kept) = FindsPiece reader after found old new kept
+Finds reader after found old new Comment = HasGone reader after found × (new ≡ old)
+Finds reader after found old new End = HasPieces (pieces_delimiters reader) (pieces_text reader) found
+    × LeaveOpen [] found []
 
 -- the error reports the first fault of its text, or that memory is out
 abbrev pub Refuses : PieceReader → Error → Type 0

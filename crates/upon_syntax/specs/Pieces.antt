@@ -1,16 +1,17 @@
 -- A template as a sequence of pieces: raw parts and whole tags, one after the other.
-use Rattle.std.specs.Prelude.{◌≡◌, ℕ, List, [], ◌∷◌, Bool, true, false, Option, Some, None, map}
+use Rattle.std.specs.Prelude.{◌≡◌, ℕ, List, [], ◌∷◌, Bool, true, false, Option, Some, None}
 use Rattle.upon_types.specs.declared.types.Span.{Span}
 use Rattle.upon_types.specs.Expression.{Expression}
 use Rattle.upon_types.specs.Tree.{raw, inline_expr}
-use Rattle.upon_types.specs.AstExpression.{expression_of}
 use Rattle.upon_language_spec.specs.Cut.{Lexeme}
 use Rattle.upon_language_spec.specs.Blocks.{Block, if_block, for_block, with_block}
 use Rattle.upon_language_spec.specs.Grammar.{IsStatement}
 use Rattle.upon_tag_parser.specs.BlockTags.{BlockTag, if_tag, else_if_tag, else_tag, endif_tag, for_tag, endfor_tag, with_tag}
-use Rattle.upon_tag_parser.specs.BlockTags.{endwith_tag, include_tag, IsBlockTag, tag_of}
+use Rattle.upon_tag_parser.specs.BlockTags.{endwith_tag, include_tag, IsBlockTag, tag_code, Keeps}
+use Rattle.upon_machine_spec.specs.Code.{emission_code}
+use Rattle.upon_machine_spec.specs.Instr.{Instr}
 use Rattle.upon_syntax.specs.declared.compile.parse.piece.Piece.{Piece as CodePiece}
-use Rattle.upon_syntax.specs.declared.compile.parse.piece.Piece.TheVariants as code_piece
+use Rattle.upon_syntax.specs.declared.compile.parse.piece.Piece.TheVariants as code
 
 -- a raw part, an inline tag, or a tag of a block
 pub data Piece : Type 0 where
@@ -30,15 +31,17 @@ ArePieces s [] before rest = before ≡ rest
 ArePieces s (piece ∷ pieces) before rest = (mid : List Lexeme) × IsPiece s piece before mid
     × ArePieces s pieces mid rest
 
--- the piece that the code's piece denotes
-abbrev pub piece_of : CodePiece → Piece
-piece_of (code_piece.Raw span) = raw_piece span
-piece_of (code_piece.InlineExpr tag) = inline_piece (expression_of tag.expr) tag.span
-piece_of (code_piece.Block tag) = block_piece (tag_of tag)
+-- what the code keeps of a piece beside the instructions of its expression
+abbrev pub KeepsPiece : CodePiece → Piece → Type 0
+KeepsPiece (code.Raw span) piece = piece ≡ raw_piece span
+KeepsPiece code.InlineExpr piece = (e : Expression) × (span : Span) × (piece ≡ inline_piece e span)
+KeepsPiece (code.Block kept) piece = (tag : BlockTag) × (piece ≡ block_piece tag) × Keeps kept tag
 
--- the pieces that the code's pieces denote
-abbrev pub pieces_of : List CodePiece → List Piece
-pieces_of pieces = map piece_of pieces
+-- the instructions of its expression, if it has one; those of an inline tag show the value too
+abbrev pub piece_code : Piece → List Instr
+piece_code (raw_piece span) = []
+piece_code (inline_piece e span) = emission_code e
+piece_code (block_piece tag) = tag_code tag
 
 -- an open block: its kind, and whether its `else` was read
 abbrev pub BlockKind : Type 0

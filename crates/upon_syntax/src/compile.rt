@@ -1,4 +1,4 @@
-// The steps from a template's text to its tree.
+// The steps from a template's text to its program.
 pub mod parse;
 
 pub use upon_lexer::compile::{lex, search};

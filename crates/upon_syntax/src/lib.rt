@@ -1,4 +1,4 @@
-// From a template's text to its tree.
+// From a template's text to its program.
 #![tactic(auto)]
 
 pub mod compile;

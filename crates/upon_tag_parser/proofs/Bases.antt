@@ -1,7 +1,7 @@
 -- A Base from its first token: where it is read, and where the tokens go no further.
 use Rattle.std.proofs.Common.{◌≡◌, inl, inr, ℕ, List, ◌∷◌, true, false, refl, sym, ap, ◌∙◌, subst, codes}
 use Rattle.upon_types.specs.declared.types.Span.{Span}
-use Rattle.upon_types.specs.declared.types.token.Token.TheVariants.{Ident, OpenBracket, OpenBrace, OpenParen, Keyword, Plus, Minus, Number, String}
+use Rattle.upon_types.specs.declared.types.token.Token.TheVariants.{Ident, OpenBrace, Keyword, Plus, Minus, Number, String}
 use Rattle.upon_types.specs.declared.types.ast.path.AccessOp.{AccessOp}
 use Rattle.upon_types.specs.declared.types.ast.path.Ident.{Ident as AstIdent}
 use Rattle.upon_types.specs.Span.{slice}
@@ -13,7 +13,7 @@ use Rattle.upon_language_spec.specs.Tokens.{Goes, GoesName}
 use Rattle.upon_language_spec.specs.Expressions.{op_token, IsLiteral}
 use Rattle.upon_language_spec.specs.Keys.{key_true, key_false}
 use Rattle.upon_language_spec.specs.Wanted.{Wanted}
-use Rattle.upon_language_spec.specs.Parts.{Part, a_base, a_member, a_magnitude, after_name, filters, list_start, map_start, close_paren}
+use Rattle.upon_language_spec.specs.Parts.{Part, a_member, a_magnitude, after_name, map_start}
 use Rattle.upon_language_spec.specs.PartTails.{no_tail, TakesBase}
 use Rattle.upon_language_spec.specs.PartLeads.{Leads}
 use Rattle.upon_language_spec.proofs.Wanted.ExpressionsLead.{leads_then, leads_token, leads_key, op_takes}
@@ -31,14 +31,8 @@ module _ (s : List ℕ) where
   pub member_stuck : (ts us rest : List Lexeme) (w : Wanted) (op : AccessOp) (at : Span) → Goes (op_token op) at ts us → ((ps : List Part) → StuckAt s (a_member ∷ ps) us rest w) → BaseStuck ts rest w
   member_stuck ts us rest w op at g h from ps starts = stuck_then s from (a_member ∷ ps) ts us rest w (leads_token s (at, g) (op_takes from ps starts.takes op)) (h ps)
 
-  pub list_start_stuck : (ts us rest : List Lexeme) (w : Wanted) (opening : Span) → Goes OpenBracket opening ts us → ((ps : List Part) → StuckAt s (list_start ∷ ps) us rest w) → BaseStuck ts rest w
-  list_start_stuck ts us rest w opening g h from ps starts = stuck_then s from (list_start ∷ ps) ts us rest w (leads_token s (opening, g) (λ k. starts.takes OpenBracket k)) (h ps)
-
   pub map_start_stuck : (ts us rest : List Lexeme) (w : Wanted) (opening : Span) → Goes OpenBrace opening ts us → ((ps : List Part) → StuckAt s (map_start ∷ ps) us rest w) → BaseStuck ts rest w
   map_start_stuck ts us rest w opening g h from ps starts = stuck_then s from (map_start ∷ ps) ts us rest w (leads_token s (opening, g) (λ k. starts.takes OpenBrace k)) (h ps)
-
-  pub paren_start_stuck : (ts us rest : List Lexeme) (w : Wanted) (opening : Span) → Goes OpenParen opening ts us → ((ps : List Part) → StuckAt s (a_base ∷ filters ∷ close_paren ∷ ps) us rest w) → BaseStuck ts rest w
-  paren_start_stuck ts us rest w opening g h from ps starts = stuck_then s from (a_base ∷ filters ∷ close_paren ∷ ps) ts us rest w (leads_token s (opening, g) (λ k. starts.takes OpenParen k)) (h ps)
 
   -- a name at a span
   pub name_goes : (name : AstIdent) (span : Span) (ts us : List Lexeme) → (ident_of name).text ≡ slice s span → name.span ≡ span → Goes Ident span ts us → GoesName s (ident_of name) ts us

@@ -7,26 +7,33 @@ use Rattle.upon_types.specs.Path.{Ident}
 use Rattle.upon_types.specs.Expression.{Base, Bases, Expression, base, filtered, paren, Arguments, no_arguments, arguments, expression_span}
 use Rattle.upon_language_spec.specs.Cut.{Lexeme}
 use Rattle.upon_language_spec.specs.Tokens.{Goes, GoesBy, GoesName, from_to}
-use Rattle.upon_language_spec.specs.Expressions.{last_end, filter_end}
+use Rattle.upon_language_spec.specs.Expressions.{IsFilterArgs, last_end, filter_end}
 use Rattle.upon_language_spec.specs.Keys.{Key, key_of}
 use Rattle.upon_language_spec.specs.Tags.{symbol_of}
 use Rattle.upon_language_spec.specs.Parts.{Part, a_base, filters, filter_name, after_filter, more_args, close_paren, after}
-use Rattle.upon_language_spec.specs.Wanted.{Wanted}
-use Rattle.upon_language_spec.specs.PartTails.{No, no_tail}
+use Rattle.upon_language_spec.specs.PartTails.{No, no_tail, TakesBase}
 use Rattle.upon_language_spec.specs.PartLeads.{Leads}
-use Rattle.upon_language_spec.proofs.Wanted.ExpressionsLead.{base_ending, name_ending, args_ending, ending_parts, leads_then, leads_nowhere, leads_token, by_ending, base_takes}
+use Rattle.upon_language_spec.proofs.Wanted.ExpressionsLead.{Ending, base_ending, name_ending, args_ending, ending_parts, leads_then, leads_nowhere, leads_token, by_ending, base_takes}
 use Rattle.upon_language_spec.proofs.Wanted.TagsLead.{tail_joins}
 use Rattle.upon_tag_parser.specs.declared.compile.parse.literal.Lexed.{Lexed}
 use Rattle.upon_tag_parser.specs.declared.compile.parse.want.Want.{Want}
 use Rattle.upon_tag_parser.specs.declared.compile.parse.want.Want.TheVariants.{Name as WantName, CloseParen as WantCloseParen}
 use Rattle.upon_tag_parser.specs.TagTokens.{lexemes_of}
 use Rattle.upon_tag_parser.specs.Wants.{wanted_of}
-use Rattle.upon_tag_parser.specs.TagParsing.{Refuses, StuckAt, IsRefused, StartsBase, ReadsBase, ReadsArgs, ReadsPart, ReadsExpression, ReadsFilterArgs, TakesComma}
+use Rattle.upon_tag_parser.specs.TagParsing.{Refuses, StuckAt, IsRefused, QuietEnding, ReadsBase, ReadsPart, ReadsExpression, TakesComma}
 use Rattle.upon_tag_parser.proofs.Stuck.{is_not, stuck_then, refused_here}
-use Rattle.upon_tag_parser.proofs.BaseStarts.{base_starts}
+use Rattle.upon_tag_parser.proofs.Calls.{ReadsArgs}
 use Rattle.upon_tag_parser.proofs.Endings.{ending_refuses, ending_wants}
 
-more_takes : (ps : List Part) → TakesComma (more_args ∷ ps)
+-- the arguments of a filter were read, and what is next does not go on with them
+pub record ReadsFilterArgs (s : List ℕ) (args : Arguments) (ts rest : List Lexeme) : Type 0 where
+  pub reads : IsFilterArgs s args ts rest
+  pub ending : Ending
+  pub leads : (parts : List Part)
+      → Leads s (after_filter ∷ filters ∷ parts) ts (ending_parts ending ++ filters ∷ parts) rest
+  pub quiet : QuietEnding ending rest
+
+pub more_takes : (ps : List Part) → TakesComma (more_args ∷ ps)
 more_takes ps k = refl
 
 module _ (s : List ℕ) where
@@ -62,12 +69,6 @@ module _ (s : List ℕ) where
     quiet = (x.quiet, x.no_more);
   }
 
-  -- ---- where the tokens go no further
-  pub filter_args_stuck : (ts us rest : List Lexeme) (w : Wanted) (colon : Span) → Goes Colon colon ts us → ((from parts : List Part) → TakesComma parts → StartsBase s from parts us → StuckAt s from us rest w) → (ps : List Part) → StuckAt s (after_filter ∷ filters ∷ ps) ts rest w
-  filter_args_stuck ts us rest w colon g f ps =
-      let others = filters ∷ ps in
-      stuck_then s (after_filter ∷ others) (a_base ∷ more_args ∷ others) ts us rest w (leads_token s (colon, g) (λ k. refl)) (f (a_base ∷ more_args ∷ others) (more_args ∷ others) (more_takes others) (base_starts s (more_args ∷ others) us))
-
   -- no name after a bar
   name_refused : (ps : List Part) (ts : List Lexeme) → No Identifier ts → Refuses s (filter_name ∷ ps) ts
   name_refused ps [] a = λ k. (refl, refl)
@@ -80,21 +81,13 @@ module _ (s : List ℕ) where
   pub filter_name_stuck : (tokens left : List Lexed) (want : Want) → IsRefused Identifier WantName tokens want left → (ps : List Part) → StuckAt s (filter_name ∷ filters ∷ ps) (lexemes_of tokens) (lexemes_of left) (wanted_of want)
   filter_name_stuck tokens left want r ps = refused_here s (filter_name ∷ filters ∷ ps) Identifier WantName tokens want left r (name_refused (filters ∷ ps) (lexemes_of tokens) r.none) refl
 
-  -- after a filter's name
-  pub after_name_stuck : (name : Ident) (ts us rest : List Lexeme) (w : Wanted) → GoesName s name ts us → ((ps : List Part) → StuckAt s (after_filter ∷ filters ∷ ps) us rest w) → (ps : List Part) → StuckAt s (filter_name ∷ filters ∷ ps) ts rest w
-  after_name_stuck name ts us rest w g h ps = stuck_then s (filter_name ∷ filters ∷ ps) (after_filter ∷ filters ∷ ps) ts us rest w (leads_token s (name.span, g.0) (λ k. refl)) (h ps)
+  -- a bar after what was read of an expression
+  pub bar_leads : (e : Expression) (ts us vs : List Lexeme) → ReadsPart s e ts us → GoesBy Pipe us vs → (from ps : List Part) → TakesBase from (filters ∷ ps) → Leads s from ts (filter_name ∷ filters ∷ ps) vs
+  bar_leads e ts us vs x bar from ps takes = leads_then s (x.leads from ps takes) (by_ending s x.ending (filters ∷ ps) bar refl (λ k. refl))
 
-  -- the tokens are stuck, wherever an expression may start
-  abbrev pub ExpressionStuck : List Lexeme → List Lexeme → Wanted → Type 0
-  ExpressionStuck ts rest w = (from ps : List Part) → StartsBase s from (filters ∷ ps) ts → StuckAt s from ts rest w
-
-  pub first_base_stuck : (ts rest : List Lexeme) (w : Wanted) → ((from ps : List Part) → StartsBase s from ps ts → StuckAt s from ts rest w) → ExpressionStuck ts rest w
-  first_base_stuck ts rest w h from ps starts = h from (filters ∷ ps) starts
-
-  -- after a bar
-  pub filter_stuck : (e : Expression) (ts us vs rest : List Lexeme) (w : Wanted) (bar : Span) → ReadsPart s e ts us → Goes Pipe bar us vs → ((ps : List Part) → StuckAt s (filter_name ∷ filters ∷ ps) vs rest w) → ExpressionStuck ts rest w
-  filter_stuck e ts us vs rest w bar x g h from ps starts =
-      stuck_then s from (filter_name ∷ filters ∷ ps) ts vs rest w (leads_then s (x.leads from ps starts.takes) (by_ending s x.ending (filters ∷ ps) (bar, g) refl (λ k. refl))) (h ps)
+  -- a name and a colon after a bar
+  pub colon_leads : (name : Ident) (ts us vs : List Lexeme) → GoesName s name ts us → GoesBy Colon us vs → (ps : List Part) → Leads s (filter_name ∷ filters ∷ ps) ts (a_base ∷ more_args ∷ filters ∷ ps) vs
+  colon_leads name ts us vs g colon ps = leads_then s (leads_token s {a = filter_name ∷ filters ∷ ps} (name.span, g.0) (λ k. refl)) (leads_token s {a = after_filter ∷ filters ∷ ps} colon (λ k. refl))
 
 -- ---- parentheses
 close_refuses : (ps : List Part) (t : Token) (k : Key) → (t ≡ Pipe → ⊥) → (t ≡ CloseParen → ⊥) → after (filters ∷ close_paren ∷ ps) t k ≡ None
@@ -108,7 +101,7 @@ module _ (s : List ℕ) where
   close_refused ps (l ∷ ls) a b = close_refuses ps l.token (key_of (symbol_of s l).word) (is_not Pipe l ls a) (is_not CloseParen l ls b)
 
   -- from the opening parenthesis on
-  abbrev inside : List Part → List Part
+  abbrev pub inside : List Part → List Part
   inside ps = a_base ∷ filters ∷ close_paren ∷ ps
 
   inside_leads : (e : Expression) (ts us : List Lexeme) (x : ReadsExpression s e ts us) (ps : List Part) → Leads s (inside ps) ts (ending_parts x.part.ending ++ filters ∷ close_paren ∷ ps) us
@@ -122,9 +115,6 @@ module _ (s : List ℕ) where
         (leads_then s (inside_leads e all mid x ps) (by_ending s x.part.ending (filters ∷ close_paren ∷ ps) (closing, c) refl (λ k. refl)));
     quiet = tt;
   }
-
-  pub inside_stuck : (ts rest : List Lexeme) (w : Wanted) → ExpressionStuck s ts rest w → (ps : List Part) → StuckAt s (inside ps) ts rest w
-  inside_stuck ts rest w h ps = h (inside ps) (close_paren ∷ ps) (base_starts s (filters ∷ close_paren ∷ ps) ts)
 
   -- no closing parenthesis
   pub paren_stuck : (e : Expression) (ts : List Lexeme) (tokens left : List Lexed) (want : Want) → ReadsExpression s e ts (lexemes_of tokens) → IsRefused CloseParen WantCloseParen tokens want left → (ps : List Part) → StuckAt s (inside ps) ts (lexemes_of left) (wanted_of want)

@@ -3,13 +3,15 @@ pub mod Stuck
 pub mod Paths
 pub mod Stops
 pub mod BaseStarts
-pub mod TagViews
 pub mod Bases
 pub mod Lists
 pub mod Maps
 pub mod Calls
-pub mod Filters
 pub mod Endings
+pub mod Filters
+pub mod Shown
+pub mod Stack
+pub mod Steps
 pub mod Tags
 pub mod Digits
 pub mod StringPieces

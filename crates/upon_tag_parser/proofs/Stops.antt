@@ -1,13 +1,11 @@
 -- What the functions inside a tag say where they are stuck, and the rest of a rest.
-use Rattle.std.proofs.Common.{ℕ, List, ◌∷◌, Result, Ok, Err, IfOk, Bor}
-use Rattle.upon_language_spec.specs.Parts.{Part, filters, map_start}
-use Rattle.upon_types.specs.declared.types.token.Token.TheVariants.{CloseBrace}
-use Rattle.upon_language_spec.specs.PartTails.{No}
+use Rattle.std.proofs.Common.{ℕ, List, Result, Ok, Err, IfOk, Bor}
+use Rattle.upon_language_spec.specs.Parts.{Part}
 use Rattle.upon_tag_parser.specs.declared.compile.parse.literal.Lexed.{Lexed}
 use Rattle.upon_tag_parser.specs.declared.compile.parse.path.Failure.{Failure}
 use Rattle.upon_tag_parser.specs.declared.compile.parse.want.Want.{Want}
 use Rattle.upon_tag_parser.specs.TagTokens.{lexemes_of, IsRest}
-use Rattle.upon_tag_parser.specs.TagParsing.{IsStuck, StartsBase, TakesComma}
+use Rattle.upon_tag_parser.specs.TagParsing.{IsStuck, StartsBase}
 use Rattle.upon_tag_parser.proofs.TagTokens.{rest_then}
 
 -- what is said of the wanted word and the tokens left, where a function is stuck
@@ -18,21 +16,9 @@ Stop = Want → List Lexed → Type 0
 abbrev pub StopsBase : List ℕ → List Lexed → Stop
 StopsBase s tokens want left = (from parts : List Part) → StartsBase s from parts (lexemes_of tokens) → IsStuck s from tokens want left
 
--- where arguments may start
-abbrev pub StopsArgs : List ℕ → List Lexed → Stop
-StopsArgs s tokens want left = (from parts : List Part) → TakesComma parts → StartsBase s from parts (lexemes_of tokens) → IsStuck s from tokens want left
-
--- where an expression may start
-abbrev pub StopsExpression : List ℕ → List Lexed → Stop
-StopsExpression s tokens want left = (from parts : List Part) → StartsBase s from (filters ∷ parts) (lexemes_of tokens) → IsStuck s from tokens want left
-
 -- where some parts begin with these
 abbrev pub StopsAt : (List Part → List Part) → List ℕ → List Lexed → Stop
 StopsAt begin s tokens want left = (parts : List Part) → IsStuck s (begin parts) tokens want left
-
--- where an entry of a map may start
-abbrev pub StopsEntry : List ℕ → List Lexed → Stop
-StopsEntry s tokens want left = No CloseBrace (lexemes_of tokens) → (parts : List Part) → IsStuck s (map_start ∷ parts) tokens want left
 
 -- the rest of a rest
 pub rest_on : {A : Type 0} (r : Result (A × Bor (List Lexed)) Failure) (mid tokens : List Lexed) → IsRest mid tokens → IfOk r (λ x. IsRest x.1.now mid) → IfOk r (λ x. IsRest x.1.now tokens)

@@ -4,17 +4,17 @@ use Rattle.upon_types.specs.declared.types.Span.{Span}
 use Rattle.upon_types.specs.declared.types.token.Token.{Token}
 use Rattle.upon_types.specs.declared.types.token.Token.TheVariants.{EndExpr, EndBlock, Dot, QuestionDot, Comma, Pipe}
 use Rattle.upon_types.specs.declared.types.token.Token.TheVariants.{Colon, Plus, Minus, Number, String}
-use Rattle.upon_types.specs.Expression.{Base, Bases, Expression, Arguments}
-use Rattle.upon_types.specs.Path.{Ident, Member}
+use Rattle.upon_types.specs.Expression.{Base, Expression}
+use Rattle.upon_types.specs.Path.{Member}
 use Rattle.upon_types.specs.AstPath.{first_member, rest_members}
 use Rattle.upon_types.specs.declared.types.ast.path.Var.{Var}
 use Rattle.upon_language_spec.specs.Cut.{Lexeme}
 use Rattle.upon_language_spec.specs.Tags.{symbol_of}
 use Rattle.upon_language_spec.specs.Keys.{Key, key_of}
-use Rattle.upon_language_spec.specs.Tokens.{GoesBy, GoesText, GoesWord}
-use Rattle.upon_language_spec.specs.Expressions.{sign_token, AreMembers, IsBase, IsArgs, IsExpression, IsFilterArgs}
+use Rattle.upon_language_spec.specs.Tokens.{GoesWord}
+use Rattle.upon_language_spec.specs.Expressions.{sign_token, AreMembers, IsBase, IsExpression}
 use Rattle.upon_language_spec.specs.Wanted.{Wanted, an_expression}
-use Rattle.upon_language_spec.specs.Parts.{Part, base_goes, after, after_symbol, wanted_at, filters, a_base, after_filter}
+use Rattle.upon_language_spec.specs.Parts.{Part, base_goes, after, after_symbol, wanted_at, filters, a_base}
 use Rattle.upon_language_spec.specs.PartTails.{No, Tail, tail_parts, Quiet, TakesBase}
 use Rattle.upon_language_spec.specs.PartLeads.{Leads}
 use Rattle.upon_language_spec.proofs.Wanted.ExpressionsLead.{Ending, base_ending, name_ending, args_ending, ending_parts}
@@ -92,23 +92,6 @@ pub record ReadsMembers (s : List ℕ) (first : Member) (path : Var) (ts rest : 
 abbrev pub TakesComma : List Part → Type 0
 TakesComma parts = (k : Key) → after parts Comma k ≡ Some (a_base ∷ parts)
 
--- arguments were read, and what is next does not go on with them
-pub record ReadsArgs (s : List ℕ) (bases : Bases) (ts rest : List Lexeme) : Type 0 where
-  pub reads : IsArgs s bases ts rest
-  pub tail : Tail
-  pub leads : (from parts : List Part) → TakesBase from parts → TakesComma parts
-      → Leads s from ts (tail_parts tail ++ parts) rest
-  pub quiet : Quiet tail rest
-  pub no_more : No Comma rest
-
--- a key and its value were read, and what is next does not go on with the value
-pub record ReadsItem (s : List ℕ) (key : Ident) (value : Base) (ts rest : List Lexeme) : Type 0 where
-  pub colon : List Lexeme
-  pub start : List Lexeme
-  pub reads_key : GoesText s key ts colon
-  pub reads_colon : GoesBy Colon colon start
-  pub reads_value : ReadsBase s value start rest
-
 -- what is next does not go on with what an expression ends with
 abbrev pub QuietEnding : Ending → List Lexeme → Type 0
 QuietEnding (base_ending tail) ts = Quiet tail ts
@@ -127,14 +110,6 @@ pub record ReadsPart (s : List ℕ) (e : Expression) (ts rest : List Lexeme) : T
 pub record ReadsExpression (s : List ℕ) (e : Expression) (ts rest : List Lexeme) : Type 0 where
   pub part : ReadsPart s e ts rest
   pub no_more : No Pipe rest
-
--- the arguments of a filter were read, and what is next does not go on with them
-pub record ReadsFilterArgs (s : List ℕ) (args : Arguments) (ts rest : List Lexeme) : Type 0 where
-  pub reads : IsFilterArgs s args ts rest
-  pub ending : Ending
-  pub leads : (parts : List Part)
-      → Leads s (after_filter ∷ filters ∷ parts) ts (ending_parts ending ++ filters ∷ parts) rest
-  pub quiet : QuietEnding ending rest
 
 -- whether a token is a sign
 abbrev pub IsSign : Token → Type 0

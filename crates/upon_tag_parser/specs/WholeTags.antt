@@ -23,7 +23,12 @@ use Rattle.upon_tag_parser.specs.declared.compile.parse.literal.Lexed.{Lexed}
 use Rattle.upon_tag_parser.specs.declared.compile.parse.want.Want.{Want}
 use Rattle.upon_tag_parser.specs.TagParsing.{Refuses, QuietEnding, NoWord}
 use Rattle.upon_tag_parser.specs.BlockTags.{BlockTag, if_tag, else_if_tag, else_tag, endif_tag, for_tag, endfor_tag, with_tag}
-use Rattle.upon_tag_parser.specs.BlockTags.{endwith_tag, include_tag, IsBlockTag}
+use Rattle.upon_tag_parser.specs.BlockTags.{endwith_tag, include_tag, IsBlockTag, tag_code, Keeps}
+use Rattle.upon_machine_spec.specs.Code.{emission_code, expression_code}
+use Rattle.upon_instructions.specs.declared.types.program.Instr.{Instr as CodeInstr}
+use Rattle.upon_instructions.specs.Program.{program_view}
+use Rattle.upon_tag_parser.specs.declared.compile.parse.tag.Tag.{Tag}
+use Rattle.upon_tag_parser.specs.Brackets.{Place}
 
 -- the tokens lead to where the tag's end may be, and this word, that of the end, is wanted
 pub record LeadsToEnd (s : List ℕ) (from : List Part) (ts : List Lexeme) (end : Token) (word : Wanted) : Type 0 where
@@ -73,6 +78,35 @@ pub record ReadsTag (s : List ℕ) (tag : BlockTag) (ts rest : List Lexeme) : Ty
   pub leads : Leads s (block_word ∷ []) ts to rest
   pub ending : IsEnding s to EndBlock an_end_block rest
 
+-- the same, with its instructions appended, of a tag of which the code keeps this
+pub record TagRead (s : List ℕ) (tag : Tag) (from to : Place) : Type 0 where
+  pub tree : BlockTag
+  pub reads : ReadsTag s tree from.tokens to.tokens
+  pub keeps : Keeps tag tree
+  pub code : to.code ≡ from.code ++ tag_code tree
+
+-- the same of a tag that has no expression
+pub record ClosingRead (s : List ℕ) (tag : Tag) (ts rest : List Lexeme) : Type 0 where
+  pub tree : BlockTag
+  pub reads : ReadsTag s tree ts rest
+  pub keeps : Keeps tag tree
+  pub code : tag_code tree ≡ []
+
+-- Between a begin of block and an end of block, the tokens are a tag of which the code keeps this, and its instructions
+-- are appended.
+pub record HoldsTag (s : List ℕ) (tag : Tag) (tokens : List Lexeme) (old new : List CodeInstr) : Type 0 where
+  pub tree : BlockTag
+  pub inside : IsTagInside s tree tokens
+  pub keeps : Keeps tag tree
+  pub code : program_view new ≡ program_view old ++ tag_code tree
+
+-- Between a begin of expression and an end of expression, the tokens are an inline tag, and the instructions that show
+-- it are appended.
+pub record HoldsInline (s : List ℕ) (tokens : List Lexeme) (old new : List CodeInstr) : Type 0 where
+  pub tree : Expression
+  pub inside : IsInlineTag s tree tokens
+  pub code : program_view new ≡ program_view old ++ emission_code tree
+
 -- a condition was read, and what is next does not go on with it
 pub record ReadsCondition (s : List ℕ) (negated : Bool) (e : Expression) (ts rest : List Lexeme) : Type 0 where
   pub reads : IsCondition s negated e ts rest
@@ -80,6 +114,12 @@ pub record ReadsCondition (s : List ℕ) (negated : Bool) (e : Expression) (ts r
   pub leads : (parts : List Part) → Leads s (condition ∷ parts) ts (ending_parts ending ++ filters ∷ parts) rest
   pub quiet : QuietEnding ending rest
   pub no_more : No Pipe rest
+
+-- the same, with its instructions appended
+pub record ConditionRead (s : List ℕ) (negated : Bool) (from to : Place) : Type 0 where
+  pub tree : Expression
+  pub reads : ReadsCondition s negated tree from.tokens to.tokens
+  pub code : to.code ≡ from.code ++ expression_code tree
 
 -- the variables of a loop were read, and then the word `in` is wanted
 pub record ReadsLoopVars (s : List ℕ) (names : LoopVars) (ts rest : List Lexeme) : Type 0 where

@@ -19,5 +19,3 @@ pub mod Expression
 pub mod Tree
 pub mod TreeSpans
 pub mod AstPath
-pub mod AstExpression
-pub mod Ast

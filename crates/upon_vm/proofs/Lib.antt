@@ -1,4 +1,5 @@
 pub mod FrameRows
+pub mod DroppedFrames
 pub mod Emissions
 pub mod Pairs
 pub mod Reported

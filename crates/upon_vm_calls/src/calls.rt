@@ -12,6 +12,7 @@ ghost use Rattle.upon_vm_calls.specs.Halt.{IsHalt, Finds};
 ghost use Rattle.upon_vm_calls.specs.Operands.{row};
 
 use crate::callables::{Callables, EngineCallable};
+use crate::depth::{DEPTH_LIMIT, is_within};
 use crate::fault::{self, Halt};
 use std::alloc::Global;
 use upon_functions::function::{ArgError, CallError};
@@ -66,7 +67,7 @@ pub(crate) fn call_function<C: Callables>(
     report(alloc, answer, name, values, spans, whole)
 }
 
-// The value of an answer, or its fault.
+// The value of an answer, or its fault; a value that is too deep is refused.
 fn report(
     alloc: Global,
     answer: Result<Value, CallError>,
@@ -80,7 +81,12 @@ fn report(
         (answer_value (ident_of name.now) whole (row values.now spans.now) a) }
 {
     match answer {
-        Ok(value) => Ok(value),
+        Ok(value) => {
+            if !is_within(&value, DEPTH_LIMIT) {
+                return Err(Halt::Memory);
+            }
+            Ok(value)
+        }
         Err(CallError::Arity(expected)) => {
             Err(fault::function_expects(alloc, expected, values.len(), whole))
         }

@@ -1,4 +1,4 @@
-// Lists and maps that are made on the operands: each item and each entry is moved in.
+// Lists and maps that are made on the operands: each item and each entry is moved in, if it is not too deep for that.
 ghost use Rattle.std.specs.Prelude.{◌≡◌, IfOk, MatchOption, Some, None};
 ghost use Rattle.upon_types.specs.AstPath.{string_of};
 ghost use Rattle.upon_types.specs.Cow.{cow_view};
@@ -6,6 +6,7 @@ ghost use Rattle.upon_types.specs.View.{view};
 ghost use Rattle.upon_vm_calls.specs.Items.{list_with, map_with, with_item, with_pair};
 ghost use Rattle.upon_vm_calls.specs.Operands.{operands_of};
 
+use crate::depth::{DEPTH_LIMIT, is_within};
 use crate::operands::Operands;
 use std::alloc::AllocError;
 use upon_types::types::Span;
@@ -42,6 +43,9 @@ fn push_into<'a>(
         (λ _. list_with (cow_view list.entry) (cow_view item.entry) span (operands_of operands.old)
         ≡ Some (operands_of operands.new))) }
 {
+    if !is_within(&item, DEPTH_LIMIT - 1) {
+        return Err(AllocError);
+    }
     let list = into_value(list)?;
     let item = into_value(item)?;
     match list {
@@ -87,6 +91,9 @@ fn insert_into<'a>(
         (λ _. map_with (cow_view map.entry) (string_of key.now) (cow_view value.entry) span (operands_of operands.old)
         ≡ Some (operands_of operands.new))) }
 {
+    if !is_within(&value, DEPTH_LIMIT - 1) {
+        return Err(AllocError);
+    }
     let map = into_value(map)?;
     let value = into_value(value)?;
     match map {

@@ -3,6 +3,7 @@
 
 pub mod callables;
 pub mod calls;
+mod depth;
 pub mod emission;
 pub mod fault;
 pub mod items;

@@ -4,6 +4,8 @@
 #[cfg(test)]
 mod callables;
 #[cfg(test)]
+mod depths;
+#[cfg(test)]
 mod faults;
 #[cfg(test)]
 mod html;

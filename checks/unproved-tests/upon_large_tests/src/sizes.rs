@@ -77,7 +77,7 @@ fn large_literals(rt: HostRuntime) -> Result<(), Fail> {
         let source = format!(in alloc; "{{% for x in [{items}] %}}{{{{ x }}}}{{% endfor %}}")?;
         is_long(&rt, alloc, source.as_str(), times)?;
     }
-    let nested = around(alloc, "[", "1", "]", 100)?;
+    let nested = around(alloc, "[", "1", "]", 256)?;
     let source = format!(in alloc; "{{% for x in {nested} %}}x{{% endfor %}}")?;
     is_long(&rt, alloc, source.as_str(), 1)
 }

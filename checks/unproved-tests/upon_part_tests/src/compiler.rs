@@ -1,5 +1,6 @@
-// The compiler: trees by hand, each with its instructions, which come from what the instructions do.
+// The compiler: texts with the instructions that come from what the instructions do, and what it is told in an order that
+// no text has.
+pub mod events;
 pub mod expressions;
-pub mod lines;
+pub mod rows;
 pub mod statements;
-pub mod trees;

@@ -8,6 +8,8 @@ mod data;
 #[cfg(test)]
 mod functions;
 #[cfg(test)]
+mod instructions;
+#[cfg(test)]
 mod lexer;
 #[cfg(test)]
 mod render;

@@ -1,8 +1,7 @@
-// The parser: the faults and trees of texts, also under other delimiters and cut at each place; what literals denote; and
-// brackets and blocks that are nested deep.
+// The parser: the faults and instructions of texts, also under other delimiters and cut at each place; what literals
+// denote; and brackets and blocks that are nested deep.
 pub mod cut_texts;
 pub mod delimiters;
 pub mod literals;
 pub mod nesting;
 pub mod parsing;
-pub mod picture;

@@ -5,7 +5,7 @@ use Rattle.upon_types.specs.Expression.{Expression, base, filtered, Base, var, l
 use Rattle.upon_types.specs.Tree.{Statement, raw, inline_expr, include, if_else, for_loop, with, Statements, no_statements, statement_then, Else, no_else, otherwise}
 use Rattle.upon_types.specs.TreeSpans.{ExpressionSpans, BaseSpans, BasesSpans, ItemsSpans, ArgumentsSpans, StatementSpans, StatementsSpans, ElseSpans}
 use Rattle.upon_types.proofs.ExpressionSpans.{Covers, expression_place}
-use Rattle.upon_machine_spec.specs.Code.{expression_code, base_code, bases_code, arguments_code, list_code, map_code, emission_code, base_emission_code, jump_unless, else_start, else_part, turns, statement_code, statements_code, else_code, program_of}
+use Rattle.upon_machine_spec.specs.Code.{expression_code, base_code, bases_code, arguments_code, list_code, map_code, emission_code, base_emission_code, jump_unless, else_start, else_part, turn, statement_code, statements_code, else_code, program_of}
 use Rattle.upon_machine_spec.specs.Instr.{Instr, emit}
 use Rattle.upon_machine_spec.specs.Spans.{InstrSpans, CodeSpans}
 
@@ -63,6 +63,10 @@ module _ (P : Span → Type 0) where
   jump_spans true n = tt
   jump_spans false n = tt
 
+  turn_spans : (branch : Else) (other past : ℕ) → InstrSpans P (turn branch other past)
+  turn_spans no_else other past = tt
+  turn_spans (otherwise body) other past = tt
+
   module _ (covers : Covers P) where
     mutual
       statement_spans : (at : ℕ) (t : Statement) → StatementSpans P t → CodeSpans P (statement_code at t)
@@ -76,16 +80,12 @@ module _ (P : Span → Type 0) where
           let other : List Instr = else_code (else_start branch (start + 1 + length inner)) branch in
           joined (expression_code e) _ (expression_spans e h.0)
           (jump_spans negated (else_start branch (start + 1 + length inner)), joined inner _ (statements_spans (start + 1) body h.1) (else_spans branch (start + 1 + length inner) h.2))
-      statement_spans at (for_loop names e body no_else) h =
+      statement_spans at (for_loop names e body branch) h =
           let start : ℕ = at + length (expression_code e) in
+          let inner : List Instr = statements_code (start + 1 + 1) body in
+          let after : ℕ = start + 1 + 1 + length inner + 1 in
           joined (expression_code e) _ (expression_spans e h.1)
-          ((h.0, expression_place P covers e h.1), (tt, joined (statements_code (start + 1 + 1) body) _ (statements_spans (start + 1 + 1) body h.2) (tt, tt)))
-      statement_spans at (for_loop names e body (otherwise branch)) h =
-          let start : ℕ = at + length (expression_code e) in
-          let inner : List Instr = statements_code (start + 1 + 1 + 1) body in
-          let past : ℕ = start + 1 + 1 + 1 + length inner + 1 in
-          joined (expression_code e) _ (expression_spans e h.1)
-          ((h.0, expression_place P covers e h.1), (tt, joined (turns (start + 1 + 1) (past + length (statements_code past branch)) inner) _ (tt, joined inner _ (statements_spans (start + 1 + 1 + 1) body h.2) (tt, tt)) (statements_spans past branch h.3)))
+          ((h.0, expression_place P covers e h.1), (turn_spans branch after (after + length (else_code after branch)), joined inner _ (statements_spans (start + 1 + 1) body h.2) (tt, branch_spans branch after h.3)))
       statement_spans at (with e word body) h =
           let start : ℕ = at + length (expression_code e) in
           joined (expression_code e) _ (expression_spans e h.0) (h.1, joined (statements_code (start + 1) body) _ (statements_spans (start + 1) body h.2) (tt, tt))
@@ -93,6 +93,11 @@ module _ (P : Span → Type 0) where
       statements_spans : (at : ℕ) (ts : Statements) → StatementsSpans P ts → CodeSpans P (statements_code at ts)
       statements_spans at no_statements h = tt
       statements_spans at (statement_then t ts) h = joined (statement_code at t) _ (statement_spans at t h.0) (statements_spans (at + length (statement_code at t)) ts h.1)
+
+      -- the other branch of a loop
+      branch_spans : (branch : Else) (at : ℕ) → ElseSpans P branch → CodeSpans P (else_code at branch)
+      branch_spans no_else at h = tt
+      branch_spans (otherwise body) at h = statements_spans at body h
 
       -- the other case, where the body ends at this span
       else_spans : (branch : Else) (at : ℕ) → ElseSpans P branch → CodeSpans P (else_part branch at (else_code (else_start branch at) branch))

@@ -22,11 +22,11 @@ use Rattle.upon_meaning_spec.proofs.FaultsStated.Emissions.{EndFine, default_fin
 use Rattle.upon_meaning_spec.proofs.FaultsStated.Expressions.{called_fine}
 use Rattle.upon_meaning_spec.proofs.FaultsStated.Lookups.{Any, FoundFine, lookup_fine}
 use Rattle.upon_meaning_spec.proofs.FaultsStated.Templates.{items_fine}
-use Rattle.upon_machine_spec.specs.Instr.{Instr, jump, jump_if_true, jump_if_false, emit, emit_raw, emit_with, loop_start, loop_else, loop_next, with_start, with_end, include, include_with, expr_start_var, expr_start_literal, expr_start_list, expr_start_map, expr_list_push, expr_map_insert, apply}
+use Rattle.upon_machine_spec.specs.Instr.{Instr, jump, jump_if_true, jump_if_false, emit, emit_raw, emit_with, loop_start, loop_next, loop_next_else, with_start, with_end, include, include_with, expr_start_var, expr_start_literal, expr_start_list, expr_start_map, expr_list_push, expr_map_insert, apply}
 use Rattle.upon_machine_spec.specs.Operands.{taken_before, taken}
 use Rattle.upon_machine_spec.specs.Spans.{InstrSpans, CodeSpans, CallersLie, StateLies, NextLies}
 use Rattle.upon_machine_spec.specs.State.{Frame, scope, variable, loop, environment_of, Caller, State, at_start}
-use Rattle.upon_machine_spec.specs.Step.{Next, moved, ends_with, pushes, with_top, with_taken, with_none, adds_item, adds_entry, starts, no_turn, next_turn, drops_variable, enters_at, enters, returns, leaves, act, step}
+use Rattle.upon_machine_spec.specs.Step.{Next, moved, ends_with, pushes, with_top, with_taken, with_none, adds_item, adds_entry, starts, next_turn, next_turn_or_else, drops_variable, enters_at, enters, returns, leaves, act, step}
 use Rattle.upon_machine_spec.proofs.FaultsLie.Code.{program_spans}
 
 -- operands that are taken, and those below them
@@ -102,19 +102,21 @@ module _ {V T : Type 0} (calls : Calls V) (resolve : Resolver T) where
     starts_lie (found items) ops x k = on_with ops _ (s.position + 1) _ k
     starts_lie (at_fault f) ops x k = record { span = x.span; placed = x.placed; lies = x.lies }
 
-    no_turn_lies : (n : ℕ) (fs : List Frame) → NextLies source (no_turn n fs s)
-    no_turn_lies n (loop count next bs [] ∷ fs) = on_with s.operands fs n _ h.operands
-    no_turn_lies n (loop count next bs (more ∷ items) ∷ fs) = on_with s.operands _ (s.position + 1) _ h.operands
-    no_turn_lies n (scope v ∷ fs) = tt
-    no_turn_lies n (variable word v ∷ fs) = tt
-    no_turn_lies n [] = tt
-
     turn_lies : (n : ℕ) (fs : List Frame) → NextLies source (next_turn n fs s)
     turn_lies n (loop count next bs [] ∷ fs) = on_with s.operands fs n _ h.operands
     turn_lies n (loop count next bs (more ∷ items) ∷ fs) = on_with s.operands _ (s.position + 1) _ h.operands
     turn_lies n (scope v ∷ fs) = tt
     turn_lies n (variable word v ∷ fs) = tt
     turn_lies n [] = tt
+
+    turn_or_else_lies : (other past : ℕ) (fs : List Frame) → NextLies source (next_turn_or_else other past fs s)
+    turn_or_else_lies other past (loop zero next bs [] ∷ fs) = on_with s.operands fs other _ h.operands
+    turn_or_else_lies other past (loop (suc count) next bs [] ∷ fs) = on_with s.operands fs past _ h.operands
+    turn_or_else_lies other past (loop zero next bs (more ∷ items) ∷ fs) = on_with s.operands _ (s.position + 1) _ h.operands
+    turn_or_else_lies other past (loop (suc count) next bs (more ∷ items) ∷ fs) = on_with s.operands _ (s.position + 1) _ h.operands
+    turn_or_else_lies other past (scope v ∷ fs) = tt
+    turn_or_else_lies other past (variable word v ∷ fs) = tt
+    turn_or_else_lies other past [] = tt
 
     variable_lies : (fs : List Frame) → NextLies source (drops_variable fs s)
     variable_lies (variable word v ∷ fs) = on_with s.operands fs (s.position + 1) _ h.operands
@@ -156,8 +158,8 @@ module _ {V T : Type 0} (calls : Calls V) (resolve : Resolver T) where
         taken_lie (taken n s.operands) _ (taken_spans P n [] s.operands tt h.operands)
         (λ os ops at below. ends_lie _ (callable_outcome calls.default_formatter name span os (calls.callables name.text)).end ops (emitted_fine calls resolve P name span os at k.0 k.1) below)
     act_lies root others (Some (loop_start names span)) k = top_lies s.operands _ h.operands (λ o ops at below. starts_lie (items_of names o.value span) ops (items_fine calls resolve P names o.value span k.0 k.1) below)
-    act_lies root others (Some (loop_else n)) k = no_turn_lies n s.frames
     act_lies root others (Some (loop_next n)) k = turn_lies n s.frames
+    act_lies root others (Some (loop_next_else other past)) k = turn_or_else_lies other past s.frames
     act_lies root others (Some (with_start word)) k = top_lies s.operands _ h.operands (λ o ops at below. on_with ops _ (s.position + 1) _ below)
     act_lies root others (Some with_end) k = variable_lies s.frames
     act_lies root others (Some (include word)) k =

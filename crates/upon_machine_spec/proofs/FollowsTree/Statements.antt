@@ -17,8 +17,8 @@ use Rattle.upon_meaning_spec.specs.Engine.{Template, Calls, Resolver}
 use Rattle.upon_meaning_spec.specs.Evaluation.{Operand, evaluate}
 use Rattle.upon_meaning_spec.specs.Meaning.{RunningTemplate, Body, choose, condition, each, each_or, over, on_value, with_value, statement_means, statements_mean, else_means}
 use Rattle.upon_meaning_spec.specs.Outcome.{Outcome, States, states, too_deep_outcome}
-use Rattle.upon_machine_spec.specs.Code.{expression_code, jump_unless, else_start, else_part, if_code, turn_start, turns, for_code, with_code, statement_code, statements_code, else_code, program_of}
-use Rattle.upon_machine_spec.specs.Instr.{Instr, jump, emit_raw, loop_start, loop_else, loop_next, with_start, with_end}
+use Rattle.upon_machine_spec.specs.Code.{expression_code, jump_unless, else_start, else_part, if_code, turn, for_code, with_code, statement_code, statements_code, else_code, program_of}
+use Rattle.upon_machine_spec.specs.Instr.{Instr, jump, emit_raw, loop_start, with_start, with_end}
 use Rattle.upon_machine_spec.specs.Instr.{include as enter, include_with as enter_with}
 use Rattle.upon_machine_spec.specs.State.{Frame, scope, variable, loop, environment_of, turn_binds, Active, Caller, State}
 use Rattle.upon_machine_spec.specs.Step.{goes, starts, enters, returns, act, step}
@@ -81,86 +81,64 @@ module _ {V T : Type 0} (calls : Calls V) (resolve : Resolver T) (root : Root) w
         to_place s (choose (condition negated o.value) a b q) (place + 1 + length body + length tail) _ ops fs len
         (either (condition negated o.value) s place branch body other ops fs q a b (has_back code (place + 1) body tail has.1) (step_here place (o ∷ ops) fs q i has.0 ∙ jumps_unless (truth o.value) negated place (else_start branch (place + 1 + length body)) o ops fs q refl) ha hb)
 
-    -- a loop, turn by turn
-    each_follows : (turn past : ℕ) (inner : List Instr) (ops : List Operand) (fs : List Frame) (body : Body (States V T)) → HasAt code turn (turns turn past inner) → (count : ℕ) → ((index : ℕ) (bs : List Binding) (items : List (List Binding)) (q : States V T) → Follows calls resolve root (here (turn + 1) ops (loop count (index + 1) (turn_binds index count bs) items ∷ fs) q) (body (iteration index count bs (environment_of root fs)) q) (λ q. here (turn + 1 + length inner) ops (loop count (index + 1) (turn_binds index count bs) items ∷ fs) q)) → (index : ℕ) (now : List Binding) (items : List (List Binding)) (q : States V T) → Follows calls resolve root (here turn ops (loop count index now items ∷ fs) q) (each body count index items (environment_of root fs) q) (λ q. here past ops fs q)
-    each_follows turn past inner ops fs body has count h index now [] q =
-        one calls resolve root _ _ [] (step_here turn ops (loop count index now [] ∷ fs) q (loop_next past) has.0)
-    each_follows turn past inner ops fs body has count h index now (bs ∷ items) q =
-        let back = (has_back code (turn + 1) inner (jump turn ∷ []) has.1).0 in
+    -- a loop's next turn: one more, or, if no items are left, past the loop or to its other branch
+    takes_turn : (branch : Else) (other past place count index : ℕ) (now bs : List Binding) (items : List (List Binding)) (ops : List Operand) (fs : List Frame) (q : States V T) → act calls resolve root (Some (turn branch other past)) (here place ops (loop count index now (bs ∷ items) ∷ fs) q) ≡ goes [] (here (place + 1) ops (loop count (index + 1) (turn_binds index count bs) items ∷ fs) q)
+    takes_turn no_else other past place count index now bs items ops fs q = refl
+    takes_turn (otherwise body) other past place zero index now bs items ops fs q = refl
+    takes_turn (otherwise body) other past place (suc count) index now bs items ops fs q = refl
+
+    ends_turns : (branch : Else) (other past place count index : ℕ) (now : List Binding) (ops : List Operand) (fs : List Frame) (q : States V T) → act calls resolve root (Some (turn branch other past)) (here place ops (loop (suc count) index now [] ∷ fs) q) ≡ goes [] (here past ops fs q)
+    ends_turns no_else other past place count index now ops fs q = refl
+    ends_turns (otherwise body) other past place count index now ops fs q = refl
+
+    has_no_turn : (branch : Else) (at place : ℕ) (ops : List Operand) (fs : List Frame) (q : States V T) → act calls resolve root (Some (turn branch at (at + length (else_code at branch)))) (here place ops (loop 0 0 [] [] ∷ fs) q) ≡ goes [] (here at ops fs q)
+    has_no_turn no_else at place ops fs q =
+        let e : at + 0 ≡ at = omega arith in
+        ap (λ n. goes [] (here n ops fs q)) e
+    has_no_turn (otherwise body) at place ops fs q = refl
+
+    -- a loop that has items, turn by turn
+    each_follows : (branch : Else) (round other past : ℕ) (inner rest : List Instr) (ops : List Operand) (fs : List Frame) (body : Body (States V T)) → HasAt code round (turn branch other past ∷ (inner ++ jump round ∷ rest)) → (less : ℕ) → ((inside : Frame) (q : States V T) → Follows calls resolve root (here (round + 1) ops (inside ∷ fs) q) (body (environment_of root (inside ∷ fs)) q) (λ q. here (round + 1 + length inner) ops (inside ∷ fs) q)) → (index : ℕ) (now : List Binding) (items : List (List Binding)) (q : States V T) → Follows calls resolve root (here round ops (loop (suc less) index now items ∷ fs) q) (each body (suc less) index items (environment_of root fs) q) (λ q. here past ops fs q)
+    each_follows branch round other past inner rest ops fs body has less h index now [] q =
+        one calls resolve root _ _ [] (step_here round ops (loop (suc less) index now [] ∷ fs) q (turn branch other past) has.0 ∙ ends_turns branch other past round less index now ops fs q)
+    each_follows branch round other past inner rest ops fs body has less h index now (bs ∷ items) q =
+        let count = suc less in
+        let back = (has_back code (round + 1) inner (jump round ∷ rest) has.1).0 in
         let o = body (iteration index count bs (environment_of root fs)) q in
-        let inside : List Frame = loop count (index + 1) (turn_binds index count bs) items ∷ fs in
-        let s = here turn ops (loop count index now (bs ∷ items) ∷ fs) q in
-        let next = one calls resolve root s (here (turn + 1) ops inside q) [] (step_here turn ops (loop count index now (bs ∷ items) ∷ fs) q (loop_next past) has.0) in
-        let turned = comes_then calls resolve root s (here (turn + 1) ops inside q) o (λ q. here (turn + 1 + length inner) ops inside q) next (h index bs items q) in
-        let again = then_comes calls resolve root s o (λ q. here (turn + 1 + length inner) ops inside q) (λ q. here turn ops inside q) turned (λ q'. one calls resolve root _ _ [] (step_here (turn + 1 + length inner) ops inside q' (jump turn) back)) in
-        in_turn calls resolve root s o (λ q. each body count (index + 1) items (environment_of root fs) q) (λ q. here turn ops inside q) (λ q. here past ops fs q) again (λ q'. each_follows turn past inner ops fs body has count h (index + 1) (turn_binds index count bs) items q')
+        let inside : Frame = loop count (index + 1) (turn_binds index count bs) items in
+        let s = here round ops (loop count index now (bs ∷ items) ∷ fs) q in
+        let next = one calls resolve root s (here (round + 1) ops (inside ∷ fs) q) [] (step_here round ops (loop count index now (bs ∷ items) ∷ fs) q (turn branch other past) has.0 ∙ takes_turn branch other past round count index now bs items ops fs q) in
+        let turned = comes_then calls resolve root s (here (round + 1) ops (inside ∷ fs) q) o (λ q. here (round + 1 + length inner) ops (inside ∷ fs) q) next (h inside q) in
+        let again = then_comes calls resolve root s o (λ q. here (round + 1 + length inner) ops (inside ∷ fs) q) (λ q. here round ops (inside ∷ fs) q) turned (λ q'. one calls resolve root _ _ [] (step_here (round + 1 + length inner) ops (inside ∷ fs) q' (jump round) back)) in
+        in_turn calls resolve root s o (λ q. each body count (index + 1) items (environment_of root fs) q) (λ q. here round ops (inside ∷ fs) q) (λ q. here past ops fs q) again (λ q'. each_follows branch round other past inner rest ops fs body has less h (index + 1) (turn_binds index count bs) items q')
 
-    -- the parts of a loop in its code
-    start_at : (branch : Else) (names : LoopVars) (span : Span) (place : ℕ) (inner other : List Instr) → HasAt code place (for_code branch names span place inner other) → slice_get code place ≡ Some (loop_start names span)
-    start_at no_else names span place inner other has = has.0
-    start_at (otherwise branch) names span place inner other has = has.0
+    for_length : (branch : Else) (names : LoopVars) (span : Span) (place : ℕ) (inner other : List Instr) → place + 1 + 1 + length inner + 1 + length other ≡ place + length (for_code branch names span place inner other)
+    for_length branch names span place inner other = omega (arith, length-append inner (jump (place + 1) ∷ other))
 
-    inner_at : (branch : Else) (names : LoopVars) (span : Span) (place : ℕ) (inner other : List Instr) → HasAt code place (for_code branch names span place inner other) → HasAt code (turn_start branch place + 1) inner
-    inner_at no_else names span place inner other has = has_front code (place + 1 + 1) inner _ has.1.1
-    inner_at (otherwise branch) names span place inner other has =
-        has_front code (place + 1 + 1 + 1) inner _ (has_front code (place + 1 + 1) (turns (place + 1 + 1) (place + 1 + 1 + 1 + length inner + 1 + length other) inner) other has.1.1).1
-
-    other_at : (branch : Else) (names : LoopVars) (span : Span) (place at : ℕ) (inner : List Instr) → HasAt code place (for_code branch names span place inner (else_code at branch)) → HasAt code (turn_start branch place + 1 + length inner + 1) (else_code at branch)
-    other_at no_else names span place at inner has = tt
-    other_at (otherwise branch) names span place at inner has =
-        let other = statements_code at branch in
-        let round = turns (place + 1 + 1) (place + 1 + 1 + 1 + length inner + 1 + length other) inner in
-        let e : place + 1 + 1 + length round ≡ place + 1 + 1 + 1 + length inner + 1 = omega (arith, length-append inner (jump (place + 1 + 1) ∷ [])) in
-        subst (λ n. HasAt code n other) e (has_back code (place + 1 + 1) round other has.1.1)
-
-    for_length : (branch : Else) (names : LoopVars) (span : Span) (place at : ℕ) (inner : List Instr) → turn_start branch place + 1 + length inner + 1 + length (else_code at branch) ≡ place + length (for_code branch names span place inner (else_code at branch))
-    for_length no_else names span place at inner = omega (arith, length-append inner (jump (place + 1) ∷ []))
-    for_length (otherwise branch) names span place at inner =
-        let other = statements_code at branch in
-        let round = turns (place + 1 + 1) (place + 1 + 1 + 1 + length inner + 1 + length other) inner in
-        omega (arith, length-append inner (jump (place + 1 + 1) ∷ []), length-append round other)
-
-    -- the turns of a loop that has items, after its start
-    turns_follow : (branch : Else) (names : LoopVars) (span : Span) (place at : ℕ) (inner : List Instr) (ops : List Operand) (fs : List Frame) (body : Body (States V T)) (bs : List Binding) (items : List (List Binding)) (q : States V T) → HasAt code place (for_code branch names span place inner (else_code at branch)) → ((inside : Frame) (q : States V T) → Follows calls resolve root (here (turn_start branch place + 1) ops (inside ∷ fs) q) (body (environment_of root (inside ∷ fs)) q) (λ q. here (turn_start branch place + 1 + length inner) ops (inside ∷ fs) q)) → Follows calls resolve root (here (place + 1) ops (loop (length (bs ∷ items)) 0 [] (bs ∷ items) ∷ fs) q) (each body (length (bs ∷ items)) 0 (bs ∷ items) (environment_of root fs) q) (λ q. here (place + length (for_code branch names span place inner (else_code at branch))) ops fs q)
-    turns_follow no_else names span place at inner ops fs body bs items q has h =
-        let count = length (bs ∷ items) in
-        let len : place + 1 + 1 + length inner + 1 ≡ place + length (for_code no_else names span place inner []) = omega (arith, length-append inner (jump (place + 1) ∷ [])) in
-        to_place _ (each body count 0 (bs ∷ items) (environment_of root fs) q) _ _ ops fs len
-        (each_follows (place + 1) (place + 1 + 1 + length inner + 1) inner ops fs body has.1 count (λ index bs' items' q'. h (loop count (index + 1) (turn_binds index count bs') items') q') 0 [] (bs ∷ items) q)
-    turns_follow (otherwise branch) names span place at inner ops fs body bs items q has h =
-        let count = length (bs ∷ items) in
-        let other = statements_code at branch in
-        let past = place + 1 + 1 + 1 + length inner + 1 + length other in
-        let round = turns (place + 1 + 1) past inner in
-        let o = each body count 0 (bs ∷ items) (environment_of root fs) q in
-        let s = here (place + 1) ops (loop count 0 [] (bs ∷ items) ∷ fs) q in
-        let on = one calls resolve root s (here (place + 1 + 1) ops (loop count 0 [] (bs ∷ items) ∷ fs) q) [] (step_here (place + 1) ops (loop count 0 [] (bs ∷ items) ∷ fs) q (loop_else (place + 1 + 1 + 1 + length inner + 1)) has.1.0) in
-        to_place s o past _ ops fs (for_length (otherwise branch) names span place at inner)
-        (comes_then calls resolve root s _ o (λ q. here past ops fs q) on
-        (each_follows (place + 1 + 1) past inner ops fs body (has_front code (place + 1 + 1) round other has.1.1) count (λ index bs' items' q'. h (loop count (index + 1) (turn_binds index count bs') items') q') 0 [] (bs ∷ items) q))
-
-    -- a loop without an item, after its start
-    none_comes : (branch : Else) (names : LoopVars) (span : Span) (place : ℕ) (inner other : List Instr) (ops : List Operand) (fs : List Frame) (q : States V T) → HasAt code place (for_code branch names span place inner other) → Comes calls resolve root (here (place + 1) ops (loop 0 0 [] [] ∷ fs) q) [] (here (turn_start branch place + 1 + length inner + 1) ops fs q)
-    none_comes no_else names span place inner other ops fs q has =
-        one calls resolve root _ _ [] (step_here (place + 1) ops (loop 0 0 [] [] ∷ fs) q (loop_next (place + 1 + 1 + length inner + 1)) has.1.0)
-    none_comes (otherwise branch) names span place inner other ops fs q has =
-        one calls resolve root _ _ [] (step_here (place + 1) ops (loop 0 0 [] [] ∷ fs) q (loop_else (place + 1 + 1 + 1 + length inner + 1)) has.1.0)
-
-    over_follows : (x : Finding (List (List Binding))) (branch : Else) (names : LoopVars) (span : Span) (place at : ℕ) (inner : List Instr) (o : Operand) (ops : List Operand) (fs : List Frame) (body other : Body (States V T)) (q : States V T) → HasAt code place (for_code branch names span place inner (else_code at branch)) → step calls resolve root (here place (o ∷ ops) fs q) ≡ starts x (here place (o ∷ ops) fs q) ops → ((inside : Frame) (q : States V T) → Follows calls resolve root (here (turn_start branch place + 1) ops (inside ∷ fs) q) (body (environment_of root (inside ∷ fs)) q) (λ q. here (turn_start branch place + 1 + length inner) ops (inside ∷ fs) q)) → Follows calls resolve root (here (turn_start branch place + 1 + length inner + 1) ops fs q) (other (environment_of root fs) q) (λ q. here (turn_start branch place + 1 + length inner + 1 + length (else_code at branch)) ops fs q) → Follows calls resolve root (here place (o ∷ ops) fs q) (each_or body other active.running x (environment_of root fs) q) (λ q. here (place + length (for_code branch names span place inner (else_code at branch))) ops fs q)
-    over_follows (found []) branch names span place at inner o ops fs body other q has e h k =
+    over_follows : (x : Finding (List (List Binding))) (branch : Else) (names : LoopVars) (span : Span) (place : ℕ) (inner : List Instr) (o : Operand) (ops : List Operand) (fs : List Frame) (body other : Body (States V T)) (q : States V T) → HasAt code place (for_code branch names span place inner (else_code (place + 1 + 1 + length inner + 1) branch)) → step calls resolve root (here place (o ∷ ops) fs q) ≡ starts x (here place (o ∷ ops) fs q) ops → ((inside : Frame) (q : States V T) → Follows calls resolve root (here (place + 1 + 1) ops (inside ∷ fs) q) (body (environment_of root (inside ∷ fs)) q) (λ q. here (place + 1 + 1 + length inner) ops (inside ∷ fs) q)) → Follows calls resolve root (here (place + 1 + 1 + length inner + 1) ops fs q) (other (environment_of root fs) q) (λ q. here (place + 1 + 1 + length inner + 1 + length (else_code (place + 1 + 1 + length inner + 1) branch)) ops fs q) → Follows calls resolve root (here place (o ∷ ops) fs q) (each_or body other active.running x (environment_of root fs) q) (λ q. here (place + length (for_code branch names span place inner (else_code (place + 1 + 1 + length inner + 1) branch))) ops fs q)
+    over_follows (found []) branch names span place inner o ops fs body other q has e h k =
+        let after = place + 1 + 1 + length inner + 1 in
+        let rest = else_code after branch in
         let m = other (environment_of root fs) q in
-        let end : States V T → State V T = λ q'. here (place + length (for_code branch names span place inner (else_code at branch))) ops fs q' in
+        let end : States V T → State V T = λ q'. here (place + length (for_code branch names span place inner rest)) ops fs q' in
         let s = here place (o ∷ ops) fs q in
         let empty = here (place + 1) ops (loop 0 0 [] [] ∷ fs) q in
-        let there = here (turn_start branch place + 1 + length inner + 1) ops fs q in
+        let there = here after ops fs q in
+        let none = one calls resolve root empty there [] (step_here (place + 1) ops (loop 0 0 [] [] ∷ fs) q (turn branch after (after + length rest)) has.1.0 ∙ has_no_turn branch after (place + 1) ops fs q) in
         comes_then calls resolve root s empty m end (one calls resolve root s empty [] e)
-        (comes_then calls resolve root empty there m end (none_comes branch names span place inner (else_code at branch) ops fs q has)
-        (to_place there m _ _ ops fs (for_length branch names span place at inner) k))
-    over_follows (found (bs ∷ items)) branch names span place at inner o ops fs body other q has e h k =
+        (comes_then calls resolve root empty there m end none
+        (to_place there m _ _ ops fs (for_length branch names span place inner rest) k))
+    over_follows (found (bs ∷ items)) branch names span place inner o ops fs body other q has e h k =
+        let after = place + 1 + 1 + length inner + 1 in
+        let rest = else_code after branch in
+        let past = after + length rest in
         let count = length (bs ∷ items) in
-        comes_then calls resolve root _ (here (place + 1) ops (loop count 0 [] (bs ∷ items) ∷ fs) q) (each body count 0 (bs ∷ items) (environment_of root fs) q) (λ q'. here (place + length (for_code branch names span place inner (else_code at branch))) ops fs q') (one calls resolve root _ _ [] e)
-        (turns_follow branch names span place at inner ops fs body bs items q has h)
-    over_follows (at_fault f) branch names span place at inner o ops fs body other q has e h k = stop calls resolve root _ _ e
+        let m = each body count 0 (bs ∷ items) (environment_of root fs) q in
+        let begun = here (place + 1) ops (loop count 0 [] (bs ∷ items) ∷ fs) q in
+        comes_then calls resolve root _ begun m (λ q'. here (place + length (for_code branch names span place inner rest)) ops fs q') (one calls resolve root _ _ [] e)
+        (to_place begun m past _ ops fs (for_length branch names span place inner rest)
+        (each_follows branch (place + 1) after past inner rest ops fs body has.1 (length items) h 0 [] (bs ∷ items) q))
+    over_follows (at_fault f) branch names span place inner o ops fs body other q has e h k = stop calls resolve root _ _ e
 
     with_follows : (word : Ident) (place : ℕ) (inner : List Instr) (o : Operand) (ops : List Operand) (fs : List Frame) (m : Outcome (States V T)) (q : States V T) → HasAt code place (with_code word inner) → Follows calls resolve root (here (place + 1) ops (variable word o.value ∷ fs) q) m (λ q. here (place + 1 + length inner) ops (variable word o.value ∷ fs) q) → Follows calls resolve root (here place (o ∷ ops) fs q) m (λ q. here (place + length (with_code word inner)) ops fs q)
     with_follows word place inner o ops fs m q has h =
@@ -239,18 +217,18 @@ module _ {V T : Type 0} (calls : Calls V) (resolve : Resolver T) (root : Root) w
       statement_follows (for_loop names e body branch) code run callers place fs s has =
           let a = in_code code run in
           let p = place + length (expression_code e) in
-          let inner = statements_code (turn_start branch p + 1) body in
-          let at = turn_start branch p + 1 + length inner + 1 in
+          let inner = statements_code (p + 1 + 1) body in
+          let at = p + 1 + 1 + length inner + 1 in
           let tail = for_code branch names (expression_span e) p inner (else_code at branch) in
           let means = statements_mean calls (included calls resolve left) run body in
           let others = else_means calls (included calls resolve left) run branch in
           let len : p + length tail ≡ place + length (expression_code e ++ tail) = omega (arith, length-append (expression_code e) tail) in
           to_place a callers (here_in code run left callers place [] fs s) (statement_means calls (included calls resolve left) run (for_loop names e body branch) (environment_of root fs) s) (p + length tail) _ [] fs len
           (with_expression a callers e place [] fs s tail (λ v q. over means others run names (expression_span e) (environment_of root fs) v q) (λ q. here_in code run left callers (p + length tail) [] fs q) has
-          (λ o q has'. over_follows a callers (items_of names o.value (expression_span e)) branch names (expression_span e) p at inner o [] fs means others q has'
-          (step_here a callers p (o ∷ []) fs q (loop_start names (expression_span e)) (start_at a callers branch names (expression_span e) p inner (else_code at branch) has'))
-          (λ inside q'. statements_follows body code run callers (turn_start branch p + 1) (inside ∷ fs) q' (inner_at a callers branch names (expression_span e) p inner (else_code at branch) has'))
-          (branch_follows branch code run callers at fs q (other_at a callers branch names (expression_span e) p at inner has'))))
+          (λ o q has'. over_follows a callers (items_of names o.value (expression_span e)) branch names (expression_span e) p inner o [] fs means others q has'
+          (step_here a callers p (o ∷ []) fs q (loop_start names (expression_span e)) has'.0)
+          (λ inside q'. statements_follows body code run callers (p + 1 + 1) (inside ∷ fs) q' (has_front code (p + 1 + 1) inner _ has'.1.1))
+          (branch_follows branch code run callers at fs q (has_back code (p + 1 + 1) inner _ has'.1.1).1)))
       statement_follows (with e word body) code run callers place fs s has =
           let a = in_code code run in
           let p = place + length (expression_code e) in

@@ -1,6 +1,8 @@
-// From a tag's tokens to expressions and tags, by recursive descent.
+// From a tag's tokens to instructions and tags: what opens in an expression is put on a stack.
 pub mod base;
+pub mod brackets;
 pub mod expression;
+pub mod instructions;
 pub mod list;
 pub mod literal;
 pub mod literal_fault;

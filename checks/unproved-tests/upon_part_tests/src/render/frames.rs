@@ -1,6 +1,6 @@
 // Frames that are taken away, and the innermost loop.
 use crate::render::stack::{
-    DOT, Row, all_found, all_lie_in, at_item, entry, numbers, one_name, path, shown,
+    DOT, Row, all_found, all_lie_in, at_item, entry, ident, numbers, one_name, path, shown,
 };
 use std::alloc::Global;
 use std::process::Abort;
@@ -21,6 +21,24 @@ fn a_boundary_is_taken_away(rt: HostRuntime) -> Result<(), Fail> {
     stack.pop_boundary();
     let rows: [Row; 1] = [("{{ a }}", 3, &[(DOT, "a")], "Integer(1)")];
     all_found(&rt, alloc, &mut stack, &rows)
+}
+
+#[test]
+fn a_name_is_taken_away(rt: HostRuntime) -> Result<(), Fail> {
+    let alloc = rt.alloc();
+    let name = ident(alloc, "a", 3)?;
+    let context = Value::Map(entry(alloc, "a", Value::Integer(1))?);
+    let mut stack: Stack<NoSource> = Stack::new(alloc, &context);
+    stack.push(State::Var(&name, ValueCow::Owned(Value::Integer(2))))?;
+    stack.push(State::Var(&name, ValueCow::Owned(Value::Integer(3))))?;
+    stack.drop_frame();
+    let inner: [Row; 1] = [("{{ a }}", 3, &[(DOT, "a")], "Integer(2)")];
+    all_found(&rt, alloc, &mut stack, &inner)?;
+    let (taken, value) = stack.pop_var();
+    assert_eq!(&rt; taken.name.as_str(), "a");
+    assert_eq!(&rt; shown(alloc, Ok(value))?.as_str(), "Integer(2)");
+    let outer: [Row; 1] = [("{{ a }}", 3, &[(DOT, "a")], "Integer(1)")];
+    all_found(&rt, alloc, &mut stack, &outer)
 }
 
 // Whether `loop.index` is this, as it is shown.

@@ -1,4 +1,4 @@
-// Texts that are cut at each character boundary: each part has a tree or a fault of its own, under any delimiters.
+// Texts that are cut at each character boundary: each part has instructions or a fault of its own, under any delimiters.
 use crate::syntax::delimiters::{
     blank_before, equal, equal_blocks, hyphens, letters, longer_end, one_byte, overlapping,
     with_a_blank,
@@ -10,7 +10,7 @@ use crate::syntax::parsing::expressions::EXPRESSIONS;
 use crate::syntax::parsing::in_brackets::IN_BRACKETS;
 use crate::syntax::parsing::inside::INSIDE;
 use crate::syntax::parsing::meetings::MEETINGS;
-use crate::syntax::parsing::outcomes::{Refusal, Tree};
+use crate::syntax::parsing::outcomes::{Program, Refusal};
 use crate::syntax::parsing::statements::STATEMENTS;
 use crate::syntax::parsing::tags::TAGS;
 use crate::syntax::parsing::worked::WORKED;
@@ -22,9 +22,9 @@ use upon_syntax::compile::search::Searcher;
 use upon_syntax::types::syntax::Syntax;
 use upon_types::error::ErrorKind;
 
-// The text has a tree, or is refused with a reason, at a span inside it.
+// The text has instructions, or is refused with a reason, at a span inside it.
 fn answers(rt: &impl Abort, alloc: Global, searcher: &Searcher, source: &str) {
-    if let Err(error) = Parser::new(alloc, searcher, source).parse_template() {
+    if let Err(error) = Parser::new(alloc, searcher, source).compile_template() {
         assert!(rt; matches!(error.kind(), ErrorKind::Syntax), "of {source}");
         assert!(rt; error.reason().is_some(), "of {source}");
         let inside = error
@@ -50,7 +50,7 @@ fn all_parts(rt: &impl Abort, alloc: Global, searcher: &Searcher, rows: &[Refusa
     }
 }
 
-fn all_parts_of_trees(rt: &impl Abort, alloc: Global, searcher: &Searcher, rows: &[Tree]) {
+fn all_parts_of_programs(rt: &impl Abort, alloc: Global, searcher: &Searcher, rows: &[Program]) {
     for row in rows {
         parts_answer(rt, alloc, searcher, row.0);
     }
@@ -77,8 +77,8 @@ fn all_parts_under(rt: &impl Abort, alloc: Global, syntax: Syntax) {
     ] {
         all_parts(rt, alloc, &searcher, rows);
     }
-    all_parts_of_trees(rt, alloc, &searcher, EXPRESSIONS);
-    all_parts_of_trees(rt, alloc, &searcher, STATEMENTS);
+    all_parts_of_programs(rt, alloc, &searcher, EXPRESSIONS);
+    all_parts_of_programs(rt, alloc, &searcher, STATEMENTS);
     all_parts_of_texts(rt, alloc, &searcher, WORKED);
 }
 
@@ -124,12 +124,12 @@ fn parts_of_blocks(rt: HostRuntime) {
 
 #[test]
 fn parts_of_expressions(rt: HostRuntime) {
-    all_parts_of_trees(&rt, rt.alloc(), &Searcher::new(), EXPRESSIONS);
+    all_parts_of_programs(&rt, rt.alloc(), &Searcher::new(), EXPRESSIONS);
 }
 
 #[test]
 fn parts_of_statements(rt: HostRuntime) {
-    all_parts_of_trees(&rt, rt.alloc(), &Searcher::new(), STATEMENTS);
+    all_parts_of_programs(&rt, rt.alloc(), &Searcher::new(), STATEMENTS);
 }
 
 #[test]

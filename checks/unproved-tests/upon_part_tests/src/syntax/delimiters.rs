@@ -1,5 +1,6 @@
-// Syntaxes whose delimiters meet one another, blanks or names; texts under five of them that are refused, and trees.
-use crate::syntax::parsing::outcomes::{Refusal, Tree, all_accepted, all_refused};
+// Syntaxes whose delimiters meet one another, blanks or names; texts under five of them that are refused, and
+// texts with their instructions.
+use crate::syntax::parsing::outcomes::{Program, Refusal, all_accepted, all_refused};
 use std::alloc::{AllocError, Global};
 use std::process::Abort;
 use std::test::Fail;
@@ -74,27 +75,27 @@ pub fn blank_before(alloc: Global) -> Result<Syntax, AllocError> {
     Syntax::builder().expr(" <", ">").build(alloc)
 }
 
-// Under the syntax these texts have these trees, and these are refused.
+// Under the syntax these texts have these instructions, and these are refused.
 fn all_under(
     rt: &impl Abort,
     alloc: Global,
     syntax: Syntax,
-    trees: &[Tree],
+    programs: &[Program],
     refusals: &[Refusal],
 ) -> Result<(), Fail> {
     let searcher = Searcher::with_syntax(syntax);
-    all_accepted(rt, alloc, &searcher, trees)?;
+    all_accepted(rt, alloc, &searcher, programs)?;
     all_refused(rt, alloc, &searcher, refusals)
 }
 
-const OVERLAPPING_TREES: &[Tree] = &[
-    ("{ c }", " (show <{ c }> (var <c> .c<c>))"),
+const OVERLAPPING_PROGRAMS: &[Program] = &[
+    ("{ c }", "var <c> .c<c>\nemit\n"),
     ("{{ c }}", ""),
+    ("x {- c -} y", "raw <x>\nvar <c> .c<c>\nemit\nraw <y>\n"),
     (
-        "x {- c -} y",
-        " (raw <x>) (show <{- c -}> (var <c> .c<c>)) (raw <y>)",
+        "{% if c %}x{% endif %}",
+        "var <c> .c<c>\njump if false 3\nraw <x>\n",
     ),
-    ("{% if c %}x{% endif %}", " (if (var <c> .c<c>) (raw <x>))"),
 ];
 
 const OVERLAPPING_REFUSALS: &[Refusal] = &[
@@ -110,15 +111,12 @@ fn under_overlapping(rt: HostRuntime) -> Result<(), Fail> {
         &rt,
         rt.alloc(),
         syntax,
-        OVERLAPPING_TREES,
+        OVERLAPPING_PROGRAMS,
         OVERLAPPING_REFUSALS,
     )
 }
 
-const EQUAL_TREES: &[Tree] = &[
-    ("{{ c }}", " (show <{{ c }}> (var <c> .c<c>))"),
-    ("{% c -{%", ""),
-];
+const EQUAL_PROGRAMS: &[Program] = &[("{{ c }}", "var <c> .c<c>\nemit\n"), ("{% c -{%", "")];
 
 const EQUAL_REFUSALS: &[Refusal] = &[
     ("{{ if", "unexpected keyword `if`", 3, 5),
@@ -128,12 +126,15 @@ const EQUAL_REFUSALS: &[Refusal] = &[
 #[test]
 fn under_equal(rt: HostRuntime) -> Result<(), Fail> {
     let syntax = equal(rt.alloc())?;
-    all_under(&rt, rt.alloc(), syntax, EQUAL_TREES, EQUAL_REFUSALS)
+    all_under(&rt, rt.alloc(), syntax, EQUAL_PROGRAMS, EQUAL_REFUSALS)
 }
 
-const ONE_BYTE_TREES: &[Tree] = &[
-    ("{c}", " (show <{c}> (var <c> .c<c>))"),
-    ("% if c -% x% endif -%", " (if (var <c> .c<c>) (raw <x>))"),
+const ONE_BYTE_PROGRAMS: &[Program] = &[
+    ("{c}", "var <c> .c<c>\nemit\n"),
+    (
+        "% if c -% x% endif -%",
+        "var <c> .c<c>\njump if false 3\nraw <x>\n",
+    ),
     ("# c -#", ""),
 ];
 
@@ -146,16 +147,19 @@ const ONE_BYTE_REFUSALS: &[Refusal] = &[
 #[test]
 fn under_one_byte(rt: HostRuntime) -> Result<(), Fail> {
     let syntax = one_byte(rt.alloc())?;
-    all_under(&rt, rt.alloc(), syntax, ONE_BYTE_TREES, ONE_BYTE_REFUSALS)
+    all_under(
+        &rt,
+        rt.alloc(),
+        syntax,
+        ONE_BYTE_PROGRAMS,
+        ONE_BYTE_REFUSALS,
+    )
 }
 
-const BLANK_TREES: &[Tree] = &[
-    ("{{ c }}", " (show <{{ c }}> (var <c> .c<c>))"),
-    ("{{c}}", " (raw <{{c}}>)"),
-    (
-        "x {{ - c - }} y",
-        " (raw <x>) (show <{{ - c - }}> (var <c> .c<c>)) (raw <y>)",
-    ),
+const BLANK_PROGRAMS: &[Program] = &[
+    ("{{ c }}", "var <c> .c<c>\nemit\n"),
+    ("{{c}}", "raw <{{c}}>\n"),
+    ("x {{ - c - }} y", "raw <x>\nvar <c> .c<c>\nemit\nraw <y>\n"),
 ];
 
 const BLANK_REFUSALS: &[Refusal] = &[
@@ -167,16 +171,13 @@ const BLANK_REFUSALS: &[Refusal] = &[
 #[test]
 fn under_with_a_blank(rt: HostRuntime) -> Result<(), Fail> {
     let syntax = with_a_blank(rt.alloc())?;
-    all_under(&rt, rt.alloc(), syntax, BLANK_TREES, BLANK_REFUSALS)
+    all_under(&rt, rt.alloc(), syntax, BLANK_PROGRAMS, BLANK_REFUSALS)
 }
 
-const LETTERS_TREES: &[Tree] = &[
-    ("a c b", " (show <a c b> (var <c> .c<c>))"),
-    (
-        "c a- d -b e",
-        " (raw <c>) (show <a- d -b> (var <d> .d<d>)) (raw <e>)",
-    ),
-    ("if include \"t\"end", " (include <\"t\"> t)"),
+const LETTERS_PROGRAMS: &[Program] = &[
+    ("a c b", "var <c> .c<c>\nemit\n"),
+    ("c a- d -b e", "raw <c>\nvar <d> .d<d>\nemit\nraw <e>\n"),
+    ("if include \"t\"end", "include <\"t\"> t\n"),
     ("x c é", ""),
 ];
 
@@ -189,12 +190,12 @@ const LETTERS_REFUSALS: &[Refusal] = &[
 #[test]
 fn under_letters(rt: HostRuntime) -> Result<(), Fail> {
     let syntax = letters(rt.alloc())?;
-    all_under(&rt, rt.alloc(), syntax, LETTERS_TREES, LETTERS_REFUSALS)
+    all_under(&rt, rt.alloc(), syntax, LETTERS_PROGRAMS, LETTERS_REFUSALS)
 }
 
-const END_WITH_A_BLANK: &[Tree] = &[(
+const END_WITH_A_BLANK: &[Program] = &[(
     "<% 1 %>   <%- 2 %> ",
-    " (show <<% 1 %> > (literal <1> 1)) (raw <>) (show <<%- 2 %> > (literal <2> 2))",
+    "literal <1> 1\nemit\nraw <>\nliteral <2> 2\nemit\n",
 )];
 
 #[test]
@@ -203,12 +204,18 @@ fn trimming_stops_at_an_end_with_a_blank(rt: HostRuntime) -> Result<(), Fail> {
     all_under(&rt, rt.alloc(), syntax, END_WITH_A_BLANK, &[])
 }
 
-const ONE_TEXT_TREES: &[Tree] = &[("%% c -%%", " (show <%% c -%%> (var <c> .c<c>))")];
+const ONE_TEXT_PROGRAMS: &[Program] = &[("%% c -%%", "var <c> .c<c>\nemit\n")];
 
 const ONE_TEXT_REFUSALS: &[Refusal] = &[("%% c %%", "unclosed begin expression", 0, 2)];
 
 #[test]
 fn begin_and_end_with_one_text(rt: HostRuntime) -> Result<(), Fail> {
     let syntax = Syntax::builder().expr("%%", "%%").build(rt.alloc())?;
-    all_under(&rt, rt.alloc(), syntax, ONE_TEXT_TREES, ONE_TEXT_REFUSALS)
+    all_under(
+        &rt,
+        rt.alloc(),
+        syntax,
+        ONE_TEXT_PROGRAMS,
+        ONE_TEXT_REFUSALS,
+    )
 }

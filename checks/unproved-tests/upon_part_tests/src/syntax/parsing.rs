@@ -1,4 +1,4 @@
-// Texts that are refused, with their first faults, and texts that have a tree, with the trees.
+// Texts that are refused, with their first faults, and texts that have instructions, with these.
 pub mod after_values;
 pub mod blocks;
 pub mod cuts;

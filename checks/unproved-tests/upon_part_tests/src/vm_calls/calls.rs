@@ -82,6 +82,16 @@ fn values_and_faults(rt: HostRuntime) -> Result<(), Fail> {
     Ok(())
 }
 
+#[test]
+fn results_are_256_deep_at_most(rt: HostRuntime) -> Result<(), Fail> {
+    let alloc = rt.alloc();
+    let got = called(alloc, Fixed::Nests(256), &Value::None)?;
+    is(&rt, got.as_str(), "no number");
+    let got = called(alloc, Fixed::Nests(257), &Value::None)?;
+    is(&rt, got.as_str(), "memory");
+    Ok(())
+}
+
 // What is shown of a call, and what is reported after it.
 fn shown(
     alloc: Global,

@@ -18,6 +18,20 @@ pub enum Fixed {
     Seven,
     Refuses,
     WantsBool,
+    Nests(usize),
+}
+
+// A number in so many lists and maps, which take turns.
+pub fn nested(alloc: Global, depth: usize) -> Result<Value, AllocError> {
+    let mut value = Value::Integer(1);
+    for i in 0..depth {
+        if i % 2 == 0 {
+            value = Value::List(vec![in alloc; value]?);
+        } else {
+            value = Value::from_pairs(alloc, [(String::from_str(alloc, "k")?, value)])?;
+        }
+    }
+    Ok(value)
 }
 
 // The refusal of one who says no.
@@ -51,6 +65,7 @@ impl Callables for Fixed {
             Fixed::Seven => Some(EngineCallable::Function),
             Fixed::Refuses => Some(EngineCallable::Function),
             Fixed::WantsBool => Some(EngineCallable::Function),
+            Fixed::Nests(_) => Some(EngineCallable::Function),
         }
     }
 
@@ -66,6 +81,10 @@ impl Callables for Fixed {
                 }
                 Err(CallError::Arg(0, ArgError::WrongType("bool")))
             }
+            Fixed::Nests(depth) => match nested(alloc, *depth) {
+                Ok(value) => Ok(value),
+                Err(error) => Err(refused(error)),
+            },
         }
     }
 

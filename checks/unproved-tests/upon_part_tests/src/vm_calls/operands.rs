@@ -1,4 +1,6 @@
-// Operands: what is on top, and lists and maps that are made on them.
+// Operands: what is on top, and lists and maps that are made on them, and how deep these may be.
+use crate::vm_calls::fixed::nested;
+use std::alloc::AllocError;
 use std::test::Fail;
 use upon_types::types::Span;
 use upon_types::types::ast::String as Quoted;
@@ -80,5 +82,39 @@ fn the_last_of_equal_keys_counts(rt: HostRuntime) -> Result<(), Fail> {
     let (value, _) = operands.pop().ok_or("none")?;
     let wanted = Value::from_pairs(alloc, [(String::from_str(alloc, "k")?, Value::Integer(2))])?;
     assert!(rt; *value == wanted);
+    Ok(())
+}
+
+// Whether a list that is so deep may be put into a list.
+fn goes_into_a_list(alloc: std::alloc::Global, depth: usize) -> Result<bool, AllocError> {
+    let mut operands = Operands::new(alloc);
+    operands.push(ValueCow::Owned(Value::List(Vec::new(alloc))), at(0))?;
+    operands.push(ValueCow::Owned(nested(alloc, depth)?), at(1))?;
+    Ok(push_item(&mut operands).is_ok())
+}
+
+// Whether it may be put into a map; it is lent.
+fn goes_into_a_map(alloc: std::alloc::Global, depth: usize) -> Result<bool, AllocError> {
+    let lent = nested(alloc, depth)?;
+    let map = Value::from_entries(alloc, Vec::<(String, Value)>::new(alloc).into_iter())?;
+    let mut operands = Operands::new(alloc);
+    operands.push(ValueCow::Owned(map), at(0))?;
+    operands.push(ValueCow::Borrowed(&lent), at(1))?;
+    Ok(insert_entry(&mut operands, &key(alloc, "k")?).is_ok())
+}
+
+#[test]
+fn lists_are_256_deep_at_most(rt: HostRuntime) -> Result<(), Fail> {
+    let alloc = rt.alloc();
+    assert!(rt; goes_into_a_list(alloc, 255)?);
+    assert!(rt; !goes_into_a_list(alloc, 256)?);
+    Ok(())
+}
+
+#[test]
+fn maps_are_256_deep_at_most(rt: HostRuntime) -> Result<(), Fail> {
+    let alloc = rt.alloc();
+    assert!(rt; goes_into_a_map(alloc, 255)?);
+    assert!(rt; !goes_into_a_map(alloc, 256)?);
     Ok(())
 }

@@ -4,7 +4,7 @@ ghost use Rattle.std.specs.Prelude.{MatchOption};
 ghost use Rattle.upon_language_spec.specs.Blocks.{takes, block_takes, if_takes, for_takes, after_closer, outermost, block_word};
 ghost use Rattle.upon_language_spec.specs.Blocks.{closer_words, plain_else, end_if};
 ghost use Rattle.upon_language_spec.specs.Wanted.{in_quotes};
-ghost use Rattle.upon_tag_parser.specs.BlockTags.{tag_of};
+ghost use Rattle.upon_tag_parser.specs.BlockTags.{BlockTag, Keeps};
 ghost use Rattle.upon_syntax.specs.OpenBlocks.{kind_of, closer_of, block_of, new_block, after_tag, HasEffect, IsTaken};
 ghost use Rattle.upon_syntax.specs.OpenBlocks.{IsUntaken};
 
@@ -89,18 +89,19 @@ pub enum Effect {
 
 /// Returns what a tag does to the open blocks.
 pub fn effect_of(tag: &Tag) -> Effect
-    ensures { HasEffect (tag_of tag.now) result }
+    ensures { (told : BlockTag) → Keeps tag.now told → HasEffect told result }
 {
     match tag {
         Tag::If(_) => Effect::Opens(Kind::If),
         Tag::For(_, _) => Effect::Opens(Kind::For),
-        Tag::With(_, _) => Effect::Opens(Kind::With),
+        Tag::With(_) => Effect::Opens(Kind::With),
         Tag::ElseIf(_) => Effect::Closes(Closing::ElseIf),
         Tag::Else => Effect::Closes(Closing::Else),
         Tag::EndIf => Effect::Closes(Closing::EndIf),
         Tag::EndFor => Effect::Closes(Closing::EndFor),
         Tag::EndWith => Effect::Closes(Closing::EndWith),
         Tag::Include(_) => Effect::Nothing,
+        Tag::IncludeWith(_) => Effect::Nothing,
     }
 }
 
@@ -224,11 +225,10 @@ impl OpenBlocks {
     /// Passes a tag with this span, which opens a block, closes one or leaves them. A closing tag that the innermost
     /// block does not take is answered.
     pub fn pass(&mut self, tag: &Tag, span: Span) -> Result<Option<Closing>, AllocError>
-        ensures { IfOk result (λ untaken. MatchOption
+        ensures { IfOk result (λ untaken. (told : BlockTag) → Keeps tag.now told → MatchOption
             untaken
-            (IsTaken (tag_of tag.now) (stack_of self.old)
-            × (stack_of self.new ≡ after_tag (tag_of tag.now) span (stack_of self.old)))
-            (IsUntaken (tag_of tag.now) (stack_of self.old))) }
+            (IsTaken told (stack_of self.old) × (stack_of self.new ≡ after_tag told span (stack_of self.old)))
+            (IsUntaken told (stack_of self.old))) }
     {
         match effect_of(tag) {
             Effect::Nothing => Ok(None),

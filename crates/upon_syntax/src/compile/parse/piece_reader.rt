@@ -12,11 +12,9 @@ ghost use Rattle.upon_language_spec.specs.Lexing.{LexerState};
 ghost use Rattle.upon_language_spec.specs.Wanted.{in_quotes};
 ghost use Rattle.upon_lexer.specs.Lexers.{lexer_text};
 ghost use Rattle.upon_lexer.specs.Searcher.{searcher_delimiters};
-ghost use Rattle.upon_types.specs.AstExpression.{expression_of};
 ghost use Rattle.upon_syntax.specs.CommentReasons.{comment_reason};
 ghost use Rattle.upon_syntax.specs.OpenBlocks.{kind_of, closer_of};
-ghost use Rattle.upon_tag_parser.specs.BlockTags.{tag_of};
-ghost use Rattle.upon_syntax.specs.Pieces.{inline_piece, block_piece};
+ghost use Rattle.upon_syntax.specs.declared.compile.parse.piece.Piece.TheVariants.{InlineExpr, Block};
 ghost use Rattle.upon_syntax.specs.TagEnds.{syntax_fault};
 ghost use Rattle.upon_syntax.specs.TagReaders.{reader_text};
 
@@ -26,11 +24,11 @@ use crate::compile::parse::open_blocks::{Closing, OpenBlock, OpenBlocks};
 use crate::compile::parse::piece::Piece;
 use crate::compile::parse::tag_reader::TagReader;
 use std::alloc::Global;
+use upon_instructions::types::program::Instr;
 use upon_lexer::compile::lex::Lexer;
 use upon_lexer::compile::search::Searcher;
 use upon_tag_parser::compile::parse::tag::Tag;
 use upon_types::error::{Error, Result};
-use upon_types::types::ast::InlineExpr;
 use upon_types::types::{Span, Token};
 
 /// What a reader finds next.
@@ -58,7 +56,7 @@ pub struct PieceReader<'a> {
 }
 
 impl<'a> PieceReader<'a> {
-    ghost use Rattle.upon_syntax.specs.PieceReading.{pieces_text, pieces_delimiters, pieces_state, pieces_blocks, Pieces, found_pieces, IsBetween, IsGivenTo, GoesOn, HasBegunComment, IsInComment, HasPassedEnd, HasPassedComment, HasFound, Finds, Refuses};
+    ghost use Rattle.upon_syntax.specs.PieceReading.{pieces_text, pieces_delimiters, pieces_state, pieces_blocks, Pieces, IsBetween, IsGivenTo, ReadsPiece, ReadsFound, HasBegunComment, IsInComment, HasPassedEnd, HasPassedComment, HasFound, Finds, Refuses};
 
     /// Creates a reader at the start of a text, over the delimiters of a searcher.
     pub fn new(alloc: Global, searcher: &'a Searcher, source: &'a str) -> PieceReader<'a>
@@ -75,13 +73,13 @@ impl<'a> PieceReader<'a> {
         }
     }
 
-    /// Returns the next piece or comment, or the text's end. The error reports the text's first fault, or that memory
-    /// is out.
-    pub fn next(&mut self) -> Result<Next>
+    /// Returns the next piece or comment, or the text's end, and appends the instructions of the piece's expression. The
+    /// error reports the text's first fault, or that memory is out; after it the instructions can be any.
+    pub fn next(&mut self, code: &mut Vec<Instr>) -> Result<Next>
         requires so_far { (found : Pieces) × HasFound self.old found }
         ensures found { IfOk result (λ next. (found : Pieces)
             → HasFound self.old found
-            → Finds self.old self.new found next) }
+            → Finds self.old self.new found code.old.items code.new.items next) }
         ensures fault { IfErr result (Refuses self.old) }
         ensures text { pieces_text self.new ≡ pieces_text self.old }
         ensures delimiters { pieces_delimiters self.new ≡ pieces_delimiters self.old }
@@ -92,7 +90,7 @@ impl<'a> PieceReader<'a> {
                 self.all_closed()?;
                 Ok(Next::End)
             }
-            Some((token, span)) => match self.read_piece(token, span)? {
+            Some((token, span)) => match self.read_piece(token, span, code)? {
                 Some(piece) => Ok(Next::OnePiece(piece)),
                 None => Ok(Next::Comment),
             },
@@ -100,11 +98,16 @@ impl<'a> PieceReader<'a> {
     }
 
     // The piece that a token begins, or none for a comment.
-    fn read_piece(&mut self, token: Token, span: Span) -> Result<Option<Piece>>
+    fn read_piece(
+        &mut self,
+        token: Token,
+        span: Span,
+        code: &mut Vec<Instr>,
+    ) -> Result<Option<Piece>>
         requires given { (before : LexerState) × (ls : List Lexeme) × IsGivenTo self.old before ls token span }
         ensures piece { IfOk result (λ piece. (before : LexerState) (ls : List Lexeme)
             → IsGivenTo self.old before ls token span
-            → GoesOn self.old self.new before ls (found_pieces piece)) }
+            → ReadsFound self.old self.new before ls code.old.items code.new.items piece) }
         ensures fault { IfErr result (Refuses self.old) }
         ensures text { pieces_text self.new ≡ pieces_text self.old }
         ensures delimiters { pieces_delimiters self.new ≡ pieces_delimiters self.old }
@@ -114,40 +117,43 @@ impl<'a> PieceReader<'a> {
                 self.pass_comment()?;
                 Ok(None)
             }
-            Token::BeginExpr => Ok(Some(Piece::InlineExpr(self.read_inline(span)?))),
-            Token::BeginBlock => Ok(Some(Piece::Block(self.read_block(span)?))),
+            Token::BeginExpr => {
+                self.read_inline(span, code)?;
+                Ok(Some(Piece::InlineExpr))
+            }
+            Token::BeginBlock => Ok(Some(Piece::Block(self.read_block(span, code)?))),
             _ => Ok(Some(Piece::Raw(span))),
         }
     }
 
     // The inline tag whose begin was read.
-    fn read_inline(&mut self, begin: Span) -> Result<InlineExpr>
+    fn read_inline(&mut self, begin: Span, code: &mut Vec<Instr>) -> Result<()>
         requires given { (before : LexerState) × (ls : List Lexeme) × IsGivenTo self.old before ls BeginExpr begin }
-        ensures tag { IfOk result (λ tag. (before : LexerState) (ls : List Lexeme)
+        ensures tag { IfOk result (λ _. (before : LexerState) (ls : List Lexeme)
             → IsGivenTo self.old before ls BeginExpr begin
-            → GoesOn self.old self.new before ls (inline_piece (expression_of tag.expr) tag.span ∷ [])) }
+            → ReadsPiece self.old self.new before ls code.old.items code.new.items InlineExpr) }
         ensures fault { IfErr result (Refuses self.old) }
         ensures text { pieces_text self.new ≡ pieces_text self.old }
         ensures delimiters { pieces_delimiters self.new ≡ pieces_delimiters self.old }
     {
-        self.tags.read_inline(&mut self.lexer, begin)
+        self.tags.read_inline(&mut self.lexer, begin, code)
     }
 
     // The tag of a block whose begin was read: the innermost open block takes it, where it closes one.
-    fn read_block(&mut self, begin: Span) -> Result<Tag>
+    fn read_block(&mut self, begin: Span, code: &mut Vec<Instr>) -> Result<Tag>
         requires given { (before : LexerState) × (ls : List Lexeme) × IsGivenTo self.old before ls BeginBlock begin }
         ensures tag { IfOk result (λ tag. (before : LexerState) (ls : List Lexeme)
             → IsGivenTo self.old before ls BeginBlock begin
-            → GoesOn self.old self.new before ls (block_piece (tag_of tag) ∷ [])) }
+            → ReadsPiece self.old self.new before ls code.old.items code.new.items (Block tag)) }
         ensures fault { IfErr result (Refuses self.old) }
         ensures text { pieces_text self.new ≡ pieces_text self.old }
         ensures delimiters { pieces_delimiters self.new ≡ pieces_delimiters self.old }
     {
-        let (tag, span) = self.tags.read_block(&mut self.lexer, begin)?;
+        let (tag, span) = self.tags.read_block(&mut self.lexer, begin, code)?;
         match self.blocks.pass(&tag, span) {
             Ok(untaken) => match untaken {
                 None => Ok(tag),
-                // Dropped by a call, here and below, as in `TagReader::read_inline`.
+                // Dropped by a call, here and below, as in `TagReader::read_block`.
                 Some(closer) => {
                     drop(tag);
                     Err(self.unexpected(closer, span))

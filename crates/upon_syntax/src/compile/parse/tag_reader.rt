@@ -1,20 +1,19 @@
 // A whole tag of a text: its tokens from the lexer, what they are read to, and the fault where they are no tag.
-ghost use Rattle.std.specs.Prelude.{◌≡◌, List, [], Some, None, IfOk, IfErr};
-ghost use Rattle.upon_types.specs.AstExpression.{expression_of};
+ghost use Rattle.std.specs.Prelude.{◌≡◌, ℕ, List, [], Some, None, IfOk, IfErr};
 ghost use Rattle.upon_language_spec.specs.Cut.{Lexeme};
 ghost use Rattle.upon_language_spec.specs.Delimiters.{expression, block};
 ghost use Rattle.upon_lexer.specs.Lexers.{lexer_text, lexer_delimiters};
 ghost use Rattle.upon_language_spec.specs.Search.{DelimiterText};
-ghost use Rattle.upon_tag_parser.specs.BlockTags.{tag_of};
 ghost use Rattle.upon_syntax.specs.TagEnds.{EndLies, tag_end};
 ghost use Rattle.upon_syntax.specs.TagFaults.{FirstLies, GoesNoFurther};
 ghost use Rattle.upon_tag_parser.specs.TagParsing.{OnStuck};
-ghost use Rattle.upon_tag_parser.specs.WholeTags.{IsInlineTag, IsTagInside};
+ghost use Rattle.upon_tag_parser.specs.WholeTags.{HoldsInline, HoldsTag};
 ghost use Rattle.upon_syntax.specs.TagReading.{AfterBegin, AfterEnd, IsSyntaxError};
 
 use crate::compile::parse::tag_faults::{refuse, refuse_end};
 use crate::compile::parse::tag_tokens::{Ended, read_tokens};
 use std::alloc::{AllocError, Global};
+use upon_instructions::types::program::Instr;
 use upon_lexer::compile::lex::Lexer;
 use upon_tag_parser::compile::parse::literal::Lexed;
 use upon_tag_parser::compile::parse::path::{Failure, TagParser};
@@ -22,7 +21,6 @@ use upon_tag_parser::compile::parse::tag::Tag;
 use upon_tag_parser::compile::parse::want::Want;
 use upon_types::error::{Error, Result};
 use upon_types::types::Span;
-use upon_types::types::ast::InlineExpr;
 
 /// Reads tags; it keeps the room for their tokens.
 #[derive(Drop)]
@@ -46,19 +44,23 @@ impl<'a> TagReader<'a> {
         }
     }
 
-    /// Returns the inline tag whose begin was read. The error reports the text's first fault, or that there was no
-    /// memory.
-    pub fn read_inline(&mut self, lexer: &mut Lexer, begin: Span) -> Result<InlineExpr>
+    /// Reads the inline tag whose begin was read, and appends the instructions that show its expression. The error
+    /// reports the text's first fault, or that there was no memory; after it the instructions can be any.
+    pub fn read_inline(
+        &mut self,
+        lexer: &mut Lexer,
+        begin: Span,
+        code: &mut Vec<Instr>,
+    ) -> Result<()>
         requires same { reader_text self.now ≡ lexer_text lexer.now }
-        ensures tag { IfOk result (λ tag. (ls : List Lexeme) → AfterBegin lexer.old expression begin ls
-            → AfterEnd
+        ensures tag { IfOk result (λ _. (ls : List Lexeme) → AfterBegin lexer.old expression begin ls
+            → (end : ℕ) × AfterEnd
             lexer.old
             lexer.new
             expression
             ls
-            tag.span.n
-            (IsInlineTag (lexer_text lexer.old) (expression_of tag.expr))) }
-        ensures start { IfOk result (λ tag. tag.span.m ≡ begin.m) }
+            end
+            (λ tokens. HoldsInline (lexer_text lexer.old) tokens code.old.items code.new.items)) }
         ensures fault { IfErr result (λ e. (ls : List Lexeme) → AfterBegin lexer.old expression begin ls
             → IsSyntaxError (lexer_delimiters lexer.old) (lexer_text lexer.old) e) }
         ensures text { lexer_text lexer.new ≡ lexer_text lexer.old }
@@ -66,28 +68,33 @@ impl<'a> TagReader<'a> {
         ensures reader { reader_text self.new ≡ reader_text self.old }
     {
         let ended = read_tokens(self.source, lexer, &mut self.tokens)?;
-        match self.parser().parse_inline_tag(&self.tokens) {
-            Ok(expr) => match end_of(self.alloc, self.source, Want::EndExpr, ended) {
-                Ok(end) => {
-                    let span = Span { m: begin.m, n: end };
-                    Ok(InlineExpr { expr, span })
-                }
-                // What was read is dropped by a call, not part by part: a proof of that is several times as long.
-                Err(error) => {
-                    drop(expr);
-                    Err(error)
-                }
-            },
+        match self.parser().parse_inline_tag(&self.tokens, code) {
+            Ok(()) => {
+                end_of(self.alloc, self.source, Want::EndExpr, ended)?;
+                Ok(())
+            }
             Err(failure) => Err(refuse_failure(self.alloc, self.source, failure, ended)),
         }
     }
 
-    /// Returns the tag of a block whose begin was read, and where the whole tag is. The error reports the text's first
-    /// fault, or that there was no memory.
-    pub fn read_block(&mut self, lexer: &mut Lexer, begin: Span) -> Result<(Tag, Span)>
+    /// Returns the tag of a block whose begin was read, and where the whole tag is, and appends the instructions that leave
+    /// the value of its expression, if it has one. The error reports the text's first fault, or that there was no memory;
+    /// after it the instructions can be any.
+    pub fn read_block(
+        &mut self,
+        lexer: &mut Lexer,
+        begin: Span,
+        code: &mut Vec<Instr>,
+    ) -> Result<(Tag, Span)>
         requires same { reader_text self.now ≡ lexer_text lexer.now }
         ensures tag { IfOk result (λ r. (ls : List Lexeme) → AfterBegin lexer.old block begin ls
-            → AfterEnd lexer.old lexer.new block ls r.1.n (IsTagInside (lexer_text lexer.old) (tag_of r.0))) }
+            → AfterEnd
+            lexer.old
+            lexer.new
+            block
+            ls
+            r.1.n
+            (λ tokens. HoldsTag (lexer_text lexer.old) r.0 tokens code.old.items code.new.items)) }
         ensures start { IfOk result (λ r. r.1.m ≡ begin.m) }
         ensures fault { IfErr result (λ e. (ls : List Lexeme) → AfterBegin lexer.old block begin ls
             → IsSyntaxError (lexer_delimiters lexer.old) (lexer_text lexer.old) e) }
@@ -96,10 +103,10 @@ impl<'a> TagReader<'a> {
         ensures reader { reader_text self.new ≡ reader_text self.old }
     {
         let ended = read_tokens(self.source, lexer, &mut self.tokens)?;
-        match self.parser().parse_block_tag(&self.tokens) {
+        match self.parser().parse_block_tag(&self.tokens, code) {
             Ok(tag) => match end_of(self.alloc, self.source, Want::EndBlock, ended) {
                 Ok(end) => Ok((tag, Span { m: begin.m, n: end })),
-                // Dropped by a call, as in `read_inline`.
+                // What was read is dropped by a call, not part by part: a proof of that is several times as long.
                 Err(error) => {
                     drop(tag);
                     Err(error)

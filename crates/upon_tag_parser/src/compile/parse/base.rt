@@ -1,29 +1,36 @@
-// Expressions without a filter in a tag: paths, literals, calls, parentheses.
-ghost use Rattle.std.specs.Prelude.{◌≡◌, ◌<◌, ◌≤◌, ℕ, List, ◌∷◌, length, IfOk};
+// The start of an expression without a filter in a tag, up to where another one is in it; and calls.
+ghost use Rattle.std.specs.Prelude.{◌≡◌, ◌<◌, ◌≤◌, List, ◌∷◌, Bool, length, IfOk, None};
 ghost use Rattle.upon_types.specs.Span.{LiesIn};
-ghost use Rattle.upon_types.specs.declared.types.token.Token.TheVariants.{Ident as Identifier, OpenParen};
+ghost use Rattle.upon_types.specs.declared.types.token.Token.TheVariants.{Ident as Identifier};
 ghost use Rattle.upon_types.specs.AstPath.{ident_of};
-ghost use Rattle.upon_types.specs.AstExpression.{base_of, bases_of};
+ghost use Rattle.upon_instructions.specs.Program.{program_view};
 ghost use Rattle.upon_language_spec.specs.Cut.{Lexeme};
-ghost use Rattle.upon_language_spec.specs.Tokens.{Goes, GoesBy, GoesName};
-ghost use Rattle.upon_language_spec.specs.Expressions.{last_end};
-ghost use Rattle.upon_language_spec.specs.Parts.{Part, a_base, filters, after_name, call_start, close_paren};
+ghost use Rattle.upon_language_spec.specs.Tokens.{Goes};
+ghost use Rattle.upon_language_spec.specs.Parts.{Part, after_name};
 ghost use Rattle.upon_tag_parser.specs.TagTokens.{lexemes_of, AreTagTokens, IsRest};
-ghost use Rattle.upon_tag_parser.specs.TagParsing.{IfStuck, IsStuck, StartsBase, ReadsBase, TakesComma, ReadsArgs};
+ghost use Rattle.upon_tag_parser.specs.TagParsing.{IfStuck, IsStuck, StartsBase};
+ghost use Rattle.upon_tag_parser.specs.Brackets.{place, place_of, IsStep, CallGoesOn, OpenGoesOn, OpenStuck};
 
+use crate::compile::parse::brackets::{Applied, Open, Step};
+use crate::compile::parse::instructions::{append, append_literal, append_path};
 use crate::compile::parse::literal::Lexed;
 use crate::compile::parse::path::{Failure, Parsed, TagParser, expect, take, take_op};
 use crate::compile::parse::want::Want;
-use upon_types::types::ast::{Args, BaseExpr, Call, Ident, Paren};
+use std::alloc::AllocError;
+use upon_instructions::types::program::Instr;
+use upon_types::types::ast::Ident;
 use upon_types::types::{Span, Token};
 
 impl<'a> TagParser<'a> {
-    /// Parses an expression without a filter.
-    #[cycle(parse)]
-    pub fn parse_base<'t>(&self, tokens: &'t [Lexed]) -> Parsed<'t, BaseExpr>
+    /// Reads an expression without a filter, up to where another one is in it.
+    pub(crate) fn start_base<'t>(
+        &self,
+        tokens: &'t [Lexed],
+        code: &mut Vec<Instr>,
+    ) -> Parsed<'t, Step>
         requires tokens { AreTagTokens self.now.source.now tokens.now }
-        ensures base { IfOk result (λ r.
-            ReadsBase self.now.source.now (base_of r.0) (lexemes_of tokens.now) (lexemes_of r.1.now)) }
+        ensures step { IfOk result (λ r. (whole : Bool) → IsStep self.now.source.now whole r.0
+            (place_of tokens.now code.old.items) (place_of r.1.now code.new.items)) }
         ensures rest { IfOk result (λ r. IsRest r.1.now tokens.now) }
         ensures shorter { IfOk result (λ r. length r.1.now < length tokens.now) }
         ensures stuck { IfStuck result (λ want left. (from parts : List Part)
@@ -31,34 +38,42 @@ impl<'a> TagParser<'a> {
             → IsStuck self.now.source.now from tokens.now want left) }
     {
         if let Some((span, rest)) = take(Token::Ident, tokens) {
-            return self.parse_name(span, rest);
+            return self.start_name(span, rest, code);
         }
         if let Some(((op, at), rest)) = take_op(tokens) {
             let (path, left) = self.parse_path_from(op, at, rest)?;
-            return Ok((BaseExpr::Var(path), left));
+            let span = append_path(path, code)?;
+            return Ok((Step::Base(span), left));
         }
         if let Some((opening, rest)) = take(Token::OpenBracket, tokens) {
-            return self.parse_list(opening, rest);
+            return Ok(self.start_list(opening, rest, code)?);
         }
         if let Some((opening, rest)) = take(Token::OpenBrace, tokens) {
-            return self.parse_map(opening, rest);
+            return self.start_map(opening, rest, code);
         }
         if let Some((opening, rest)) = take(Token::OpenParen, tokens) {
-            return self.parse_paren(opening, rest);
+            return Ok((Step::Opens(Open::Paren(opening)), rest));
         }
         match self.parse_literal(tokens)? {
             None => Err(Failure::Stuck(Want::Expression, tokens)),
-            Some((literal, rest)) => Ok((BaseExpr::Literal(literal), rest)),
+            Some((literal, rest)) => {
+                let span = append_literal(literal, code)?;
+                Ok((Step::Base(span), rest))
+            }
         }
     }
 
     // A call or a path, whose name was read.
-    #[cycle(parse)]
-    fn parse_name<'t>(&self, span: Span, tokens: &'t [Lexed]) -> Parsed<'t, BaseExpr>
+    fn start_name<'t>(
+        &self,
+        span: Span,
+        tokens: &'t [Lexed],
+        code: &mut Vec<Instr>,
+    ) -> Parsed<'t, Step>
         requires tokens { AreTagTokens self.now.source.now tokens.now }
         requires span { LiesIn self.now.source.now span }
-        ensures base { IfOk result (λ r. (before : List Lexeme) → Goes Identifier span before (lexemes_of tokens.now)
-            → ReadsBase self.now.source.now (base_of r.0) before (lexemes_of r.1.now)) }
+        ensures step { IfOk result (λ r. (whole : Bool) (before : List Lexeme) → Goes Identifier span before (lexemes_of tokens.now)
+            → IsStep self.now.source.now whole r.0 (place before code.old.items) (place_of r.1.now code.new.items)) }
         ensures rest { IfOk result (λ r. IsRest r.1.now tokens.now) }
         ensures shorter { IfOk result (λ r. length r.1.now ≤ length tokens.now) }
         ensures stuck { IfStuck result (λ want left. (parts : List Part)
@@ -68,112 +83,66 @@ impl<'a> TagParser<'a> {
         match take(Token::OpenParen, tokens) {
             None => {
                 let (path, left) = self.parse_path(name, tokens)?;
-                Ok((BaseExpr::Var(path), left))
+                let span = append_path(path, code)?;
+                Ok((Step::Base(span), left))
             }
-            Some((_, rest)) => self.parse_call(name, rest),
+            Some((_, rest)) => Ok(self.start_call(name, rest, code)?),
         }
     }
 
     // A call, whose name and opening parenthesis were read.
-    #[cycle(parse)]
-    fn parse_call<'t>(&self, name: Ident, tokens: &'t [Lexed]) -> Parsed<'t, BaseExpr>
-        requires tokens { AreTagTokens self.now.source.now tokens.now }
-        ensures call { IfOk result (λ r. (before mid : List Lexeme)
-            → GoesName self.now.source.now (ident_of name) before mid
-            → GoesBy OpenParen mid (lexemes_of tokens.now)
-            → ReadsBase self.now.source.now (base_of r.0) before (lexemes_of r.1.now)) }
+    fn start_call<'t>(
+        &self,
+        name: Ident,
+        tokens: &'t [Lexed],
+        code: &mut Vec<Instr>,
+    ) -> Result<(Step, &'t [Lexed]), AllocError>
+        ensures step { IfOk result (λ r. CallGoesOn self.now.source.now (ident_of name)
+            (place_of tokens.now code.old.items) r.0 (place_of r.1.now code.new.items)) }
         ensures rest { IfOk result (λ r. IsRest r.1.now tokens.now) }
-        ensures shorter { IfOk result (λ r. length r.1.now < length tokens.now) }
-        ensures stuck { IfStuck result (λ want left. (parts : List Part)
-            → IsStuck self.now.source.now (call_start ∷ parts) tokens.now want left) }
+        ensures shorter { IfOk result (λ r. length r.1.now ≤ length tokens.now) }
     {
-        let start = name.span.m;
-        if let Some((closing, rest)) = take(Token::CloseParen, tokens) {
-            let span = Span {
-                m: start,
-                n: closing.n,
-            };
-            let call = Call {
-                name,
-                args: None,
-                span,
-            };
-            return Ok((BaseExpr::Call(call), rest));
-        }
-        let (args, rest) = self.parse_args(start, tokens)?;
-        let (closing, left) = expect(Token::CloseParen, Want::CloseParen, rest)?;
-        let span = Span {
-            m: start,
-            n: closing.n,
-        };
-        let call = Call {
-            name,
-            args: Some(args),
-            span,
-        };
-        Ok((BaseExpr::Call(call), left))
-    }
-
-    /// Arguments, at least one; their span begins at an offset.
-    #[cycle(parse)]
-    pub fn parse_args<'t>(&self, start: usize, tokens: &'t [Lexed]) -> Parsed<'t, Args>
-        requires tokens { AreTagTokens self.now.source.now tokens.now }
-        ensures args { IfOk result (λ r. ReadsArgs
-            self.now.source.now
-            (bases_of r.0.values.items)
-            (lexemes_of tokens.now)
-            (lexemes_of r.1.now)) }
-        ensures start { IfOk result (λ r. r.0.span.m ≡ start) }
-        ensures end { IfOk result (λ r. r.0.span.n ≡ last_end 0 (bases_of r.0.values.items)) }
-        ensures rest { IfOk result (λ r. IsRest r.1.now tokens.now) }
-        ensures shorter { IfOk result (λ r. length r.1.now < length tokens.now) }
-        ensures stuck { IfStuck result (λ want left. (from parts : List Part) → TakesComma parts
-            → StartsBase self.now.source.now from parts (lexemes_of tokens.now)
-            → IsStuck self.now.source.now from tokens.now want left) }
-    {
-        let mut values = Vec::new(self.alloc);
-        let mut left = tokens;
-        'values: loop {
-            let (value, rest) = self.parse_base(left)?;
-            let end = value.span().n;
-            values.push(value)?;
-            match take(Token::Comma, rest) {
-                Some((_, next)) => left = next,
-                None => {
-                    let span = Span { m: start, n: end };
-                    return Ok((Args { values, span }, rest));
-                }
-            }
-        }
-    }
-
-    // An expression in parentheses, whose opening one was read.
-    #[cycle(parse)]
-    fn parse_paren<'t>(&self, opening: Span, tokens: &'t [Lexed]) -> Parsed<'t, BaseExpr>
-        requires tokens { AreTagTokens self.now.source.now tokens.now }
-        ensures paren { IfOk result (λ r. (before : List Lexeme)
-            → Goes OpenParen opening before (lexemes_of tokens.now)
-            → ReadsBase self.now.source.now (base_of r.0) before (lexemes_of r.1.now)) }
-        ensures rest { IfOk result (λ r. IsRest r.1.now tokens.now) }
-        ensures shorter { IfOk result (λ r. length r.1.now < length tokens.now) }
-        ensures stuck { IfStuck result (λ want left. (parts : List Part)
-            → IsStuck self.now.source.now (a_base ∷ filters ∷ close_paren ∷ parts) tokens.now want left) }
-    {
-        let (expr, rest) = self.parse_expr(tokens)?;
-        match expect(Token::CloseParen, Want::CloseParen, rest) {
-            Ok((closing, left)) => {
+        match take(Token::CloseParen, tokens) {
+            None => Ok((Step::Opens(Open::Call(Applied { name, count: 0 })), tokens)),
+            Some((closing, rest)) => {
                 let span = Span {
-                    m: opening.m,
+                    m: name.span.m,
                     n: closing.n,
                 };
-                let expr = Box::new(self.alloc, expr)?;
-                Ok((BaseExpr::Paren(Paren { expr, span }), left))
-            }
-            // Dropped by a call, as in `parse_inline_tag`.
-            Err(failure) => {
-                drop(expr);
-                Err(failure)
+                append(Instr::Apply(name, 0, span), code)?;
+                Ok((Step::Base(span), rest))
             }
         }
+    }
+
+    /// Goes on after an argument of a call.
+    pub(crate) fn after_argument<'t>(
+        &self,
+        call: Applied,
+        tokens: &'t [Lexed],
+        code: &mut Vec<Instr>,
+    ) -> Parsed<'t, Step>
+        requires { call.count ≤ length (program_view code.old.items) }
+        ensures step { IfOk result (λ r. OpenGoesOn self.now.source.now (Open.Call call)
+            (place_of tokens.now code.old.items) r.0 (place_of r.1.now code.new.items)) }
+        ensures rest { IfOk result (λ r. IsRest r.1.now tokens.now) }
+        ensures shorter { IfOk result (λ r. length r.1.now < length tokens.now) }
+        ensures stuck { IfStuck result (OpenStuck
+            self.now.source.now
+            (Open.Call call)
+            (place_of tokens.now code.old.items)) }
+    {
+        let Applied { name, count } = call;
+        let count = count + 1;
+        if let Some((_, rest)) = take(Token::Comma, tokens) {
+            return Ok((Step::Opens(Open::Call(Applied { name, count })), rest));
+        }
+        let (closing, rest) = expect(Token::CloseParen, Want::CloseParen, tokens)?;
+        let span = Span {
+            m: name.span.m,
+            n: closing.n,
+        };
+        append(Instr::Apply(name, count, span), code)?;
+        Ok((Step::Base(span), rest))
     }
 }

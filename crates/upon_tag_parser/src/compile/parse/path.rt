@@ -226,7 +226,8 @@ impl<'a> TagParser<'a> {
         ensures stuck { IfStuck result (λ want left. (from parts : List Part) → TakesOp from parts
             → IsStuck self.now.source.now from tokens.now want left) }
     {
-        let mut path = Vec::new(self.alloc);
+        // Most paths have one member.
+        let mut path = Vec::with_capacity(self.alloc, 1)?;
         path.push(first)?;
         let mut left = tokens;
         'members: loop {

@@ -1,52 +1,58 @@
 // What is in a tag: an expression, or one of the tags of blocks.
-ghost use Rattle.std.specs.Prelude.{◌≡◌, List, ◌∷◌, [], codes, IfOk};
+ghost use Rattle.std.specs.Prelude.{◌≡◌, List, ◌∷◌, [], codes, IfOk, OnOk};
 ghost use Rattle.upon_types.specs.declared.types.token.Token.TheVariants.{EndExpr, EndBlock};
-ghost use Rattle.upon_types.specs.AstExpression.{expression_of};
+ghost use Rattle.upon_types.specs.AstPath.{loop_vars_of};
+ghost use Rattle.upon_language_spec.specs.Cut.{Lexeme};
+ghost use Rattle.upon_language_spec.specs.Tokens.{GoesKeyword};
 ghost use Rattle.upon_language_spec.specs.Wanted.{an_end_expression, an_end_block};
 ghost use Rattle.upon_language_spec.specs.Parts.{Part, a_base, filters, end_expr, end_block, block_word, condition};
 ghost use Rattle.upon_language_spec.specs.Parts.{else_rest, loop_name, as_word, include_name};
 ghost use Rattle.upon_tag_parser.specs.TagTokens.{lexemes_of, AreTagTokens, IsRest};
 ghost use Rattle.upon_tag_parser.specs.TagParsing.{IfStuck, IsStuck};
-ghost use Rattle.upon_tag_parser.specs.BlockTags.{tag_of};
-ghost use Rattle.upon_tag_parser.specs.WholeTags.{LeadsToEnd, IsInlineTag, IsTagInside, ReadsTag, ReadsCondition};
+ghost use Rattle.upon_tag_parser.specs.Brackets.{place, place_of};
+ghost use Rattle.upon_tag_parser.specs.WholeTags.{LeadsToEnd, HoldsInline, HoldsTag, TagRead, ClosingRead, ConditionRead};
 ghost use Rattle.upon_tag_parser.specs.WholeTags.{ReadsLoopVars, IsTooLong, NoOpeningWord};
-ghost use Rattle.upon_language_spec.specs.Cut.{Lexeme};
-ghost use Rattle.upon_language_spec.specs.Tokens.{GoesKeyword};
-ghost use Rattle.upon_types.specs.AstPath.{loop_vars_of};
 
+use crate::compile::parse::instructions::show;
 use crate::compile::parse::literal::Lexed;
 use crate::compile::parse::path::{Failure, Parsed, TagParser, take};
 use crate::compile::parse::want::Want;
-use upon_types::types::ast::{Expr, Ident, Include, KeyValue, LoopVars};
+use upon_instructions::types::program::Instr;
+use upon_types::types::ast::{self, Ident, KeyValue, LoopVars};
 use upon_types::types::{Span, Token};
 
-/// A condition, and whether `not` is before it.
-#[derive(Drop)]
-pub struct Condition {
-    pub not: bool,
-    pub expr: Expr,
-}
-
-/// What is in the tag of a block.
+/// What is in the tag of a block, without its expression: the instructions of that are appended.
 #[derive(Drop)]
 pub enum Tag {
-    If(Condition),
-    ElseIf(Condition),
+    /// Whether `not` is before the condition.
+    If(bool),
+    /// Whether `not` is before the condition.
+    ElseIf(bool),
     Else,
     EndIf,
-    For(LoopVars, Expr),
+    /// The loop's variables, and where the iterable is.
+    For(LoopVars, Span),
     EndFor,
-    With(Expr, Ident),
+    /// The name of the value.
+    With(Ident),
     EndWith,
-    Include(Include),
+    /// The name of a template that sees all names.
+    Include(ast::String),
+    /// The name of a template that sees a value alone.
+    IncludeWith(ast::String),
 }
 
 impl<'a> TagParser<'a> {
-    /// Parses the expression in an inline tag, whose tokens are these.
-    pub fn parse_inline_tag<'t>(&self, tokens: &'t [Lexed]) -> Result<Expr, Failure<'t>>
+    /// Parses the expression in an inline tag, whose tokens are these, and appends the instructions that show it. After
+    /// an error the instructions can be any.
+    pub fn parse_inline_tag<'t>(
+        &self,
+        tokens: &'t [Lexed],
+        code: &mut Vec<Instr>,
+    ) -> Result<(), Failure<'t>>
         requires tokens { AreTagTokens self.now.source.now tokens.now }
-        ensures tag { IfOk result (λ e. IsInlineTag self.now.source.now (expression_of e) (lexemes_of tokens.now)) }
-        ensures leads { IfOk result (λ _. LeadsToEnd
+        ensures tag { OnOk result (HoldsInline self.now.source.now (lexemes_of tokens.now) code.old.items code.new.items) }
+        ensures leads { OnOk result (LeadsToEnd
             self.now.source.now
             (a_base ∷ filters ∷ end_expr ∷ [])
             (lexemes_of tokens.now)
@@ -54,21 +60,20 @@ impl<'a> TagParser<'a> {
             an_end_expression) }
         ensures stuck { IfStuck result (IsStuck self.now.source.now (a_base ∷ filters ∷ end_expr ∷ []) tokens.now) }
     {
-        let (expr, rest) = self.parse_expr(tokens)?;
-        match expect_end(Want::EndExpr, rest) {
-            Ok(()) => Ok(expr),
-            // What was read is dropped by a call, not part by part: a proof of that is several times as long.
-            Err(failure) => {
-                drop(expr);
-                Err(failure)
-            }
-        }
+        let (_, rest) = self.parse_expr(tokens, code)?;
+        expect_end(Want::EndExpr, rest)?;
+        Ok(show(code)?)
     }
 
-    /// Parses what is in the tag of a block, whose tokens are these.
-    pub fn parse_block_tag<'t>(&self, tokens: &'t [Lexed]) -> Result<Tag, Failure<'t>>
+    /// Parses what is in the tag of a block, whose tokens are these, and appends the instructions that leave the value of
+    /// its expression, if it has one. After an error the instructions can be any.
+    pub fn parse_block_tag<'t>(
+        &self,
+        tokens: &'t [Lexed],
+        code: &mut Vec<Instr>,
+    ) -> Result<Tag, Failure<'t>>
         requires tokens { AreTagTokens self.now.source.now tokens.now }
-        ensures tag { IfOk result (λ tag. IsTagInside self.now.source.now (tag_of tag) (lexemes_of tokens.now)) }
+        ensures tag { IfOk result (λ tag. HoldsTag self.now.source.now tag (lexemes_of tokens.now) code.old.items code.new.items) }
         ensures leads { IfOk result (λ _. LeadsToEnd
             self.now.source.now
             (block_word ∷ [])
@@ -77,40 +82,34 @@ impl<'a> TagParser<'a> {
             an_end_block) }
         ensures stuck { IfStuck result (IsStuck self.now.source.now (block_word ∷ []) tokens.now) }
     {
-        let (tag, rest) = self.parse_tag(tokens)?;
-        match expect_end(Want::EndBlock, rest) {
-            Ok(()) => Ok(tag),
-            // Dropped by a call, as in `parse_inline_tag`.
-            Err(failure) => {
-                drop(tag);
-                Err(failure)
-            }
-        }
+        let (tag, rest) = self.parse_tag(tokens, code)?;
+        expect_end(Want::EndBlock, rest)?;
+        Ok(tag)
     }
 
     // A tag of a block, up to where its end may be.
-    fn parse_tag<'t>(&self, tokens: &'t [Lexed]) -> Parsed<'t, Tag>
+    fn parse_tag<'t>(&self, tokens: &'t [Lexed], code: &mut Vec<Instr>) -> Parsed<'t, Tag>
         requires tokens { AreTagTokens self.now.source.now tokens.now }
-        ensures tag { IfOk result (λ r.
-            ReadsTag self.now.source.now (tag_of r.0) (lexemes_of tokens.now) (lexemes_of r.1.now)) }
+        ensures tag { IfOk result (λ r. TagRead self.now.source.now r.0
+            (place_of tokens.now code.old.items) (place_of r.1.now code.new.items)) }
         ensures rest { IfOk result (λ r. IsRest r.1.now tokens.now) }
         ensures stuck { IfStuck result (IsStuck self.now.source.now (block_word ∷ []) tokens.now) }
     {
         if let Some((_, rest)) = self.take_keyword("if", tokens) {
-            let (cond, left) = self.parse_condition(rest)?;
-            return Ok((Tag::If(cond), left));
+            let (not, left) = self.parse_condition(rest, code)?;
+            return Ok((Tag::If(not), left));
         }
         if let Some((_, rest)) = self.take_keyword("else", tokens) {
-            return self.parse_else(rest);
+            return self.parse_else(rest, code);
         }
         if let Some((_, rest)) = self.take_keyword("for", tokens) {
-            return self.parse_for(rest);
+            return self.parse_for(rest, code);
         }
         if let Some((_, rest)) = self.take_keyword("with", tokens) {
-            return self.parse_with(rest);
+            return self.parse_with(rest, code);
         }
         if let Some((_, rest)) = self.take_keyword("include", tokens) {
-            return self.parse_include(rest);
+            return self.parse_include(rest, code);
         }
         self.parse_closing_tag(tokens)
     }
@@ -119,7 +118,7 @@ impl<'a> TagParser<'a> {
     fn parse_closing_tag<'t>(&self, tokens: &'t [Lexed]) -> Parsed<'t, Tag>
         requires tokens { AreTagTokens self.now.source.now tokens.now }
         ensures tag { IfOk result (λ r.
-            ReadsTag self.now.source.now (tag_of r.0) (lexemes_of tokens.now) (lexemes_of r.1.now)) }
+            ClosingRead self.now.source.now r.0 (lexemes_of tokens.now) (lexemes_of r.1.now)) }
         ensures rest { IfOk result (λ r. IsRest r.1.now tokens.now) }
         ensures stuck { NoOpeningWord self.now.source.now (lexemes_of tokens.now)
             → IfStuck result (IsStuck self.now.source.now (block_word ∷ []) tokens.now) }
@@ -137,54 +136,50 @@ impl<'a> TagParser<'a> {
     }
 
     // An `else`, whose keyword was read.
-    fn parse_else<'t>(&self, tokens: &'t [Lexed]) -> Parsed<'t, Tag>
+    fn parse_else<'t>(&self, tokens: &'t [Lexed], code: &mut Vec<Instr>) -> Parsed<'t, Tag>
         requires tokens { AreTagTokens self.now.source.now tokens.now }
         ensures tag { IfOk result (λ r. (before : List Lexeme)
             → GoesKeyword self.now.source.now (codes "else") before (lexemes_of tokens.now)
-            → ReadsTag self.now.source.now (tag_of r.0) before (lexemes_of r.1.now)) }
+            → TagRead self.now.source.now r.0 (place before code.old.items) (place_of r.1.now code.new.items)) }
         ensures rest { IfOk result (λ r. IsRest r.1.now tokens.now) }
         ensures stuck { IfStuck result (IsStuck self.now.source.now (else_rest ∷ []) tokens.now) }
     {
         match self.take_keyword("if", tokens) {
             None => Ok((Tag::Else, tokens)),
             Some((_, rest)) => {
-                let (cond, left) = self.parse_condition(rest)?;
-                Ok((Tag::ElseIf(cond), left))
+                let (not, left) = self.parse_condition(rest, code)?;
+                Ok((Tag::ElseIf(not), left))
             }
         }
     }
 
-    // A condition: an expression, before which `not` may be.
-    fn parse_condition<'t>(&self, tokens: &'t [Lexed]) -> Parsed<'t, Condition>
+    // A condition: an expression, before which `not` may be; whether it is there is returned.
+    fn parse_condition<'t>(&self, tokens: &'t [Lexed], code: &mut Vec<Instr>) -> Parsed<'t, bool>
         requires tokens { AreTagTokens self.now.source.now tokens.now }
-        ensures condition { IfOk result (λ r. ReadsCondition
-            self.now.source.now
-            r.0.not
-            (expression_of r.0.expr)
-            (lexemes_of tokens.now)
-            (lexemes_of r.1.now)) }
+        ensures condition { IfOk result (λ r. ConditionRead self.now.source.now r.0
+            (place_of tokens.now code.old.items) (place_of r.1.now code.new.items)) }
         ensures rest { IfOk result (λ r. IsRest r.1.now tokens.now) }
         ensures stuck { IfStuck result (λ want left. (parts : List Part)
             → IsStuck self.now.source.now (condition ∷ parts) tokens.now want left) }
     {
         match self.take_keyword("not", tokens) {
             None => {
-                let (expr, left) = self.parse_expr(tokens)?;
-                Ok((Condition { not: false, expr }, left))
+                let (_, left) = self.parse_expr(tokens, code)?;
+                Ok((false, left))
             }
             Some((_, rest)) => {
-                let (expr, left) = self.parse_expr(rest)?;
-                Ok((Condition { not: true, expr }, left))
+                let (_, left) = self.parse_expr(rest, code)?;
+                Ok((true, left))
             }
         }
     }
 
     // A `for`, whose keyword was read.
-    fn parse_for<'t>(&self, tokens: &'t [Lexed]) -> Parsed<'t, Tag>
+    fn parse_for<'t>(&self, tokens: &'t [Lexed], code: &mut Vec<Instr>) -> Parsed<'t, Tag>
         requires tokens { AreTagTokens self.now.source.now tokens.now }
         ensures tag { IfOk result (λ r. (before : List Lexeme)
             → GoesKeyword self.now.source.now (codes "for") before (lexemes_of tokens.now)
-            → ReadsTag self.now.source.now (tag_of r.0) before (lexemes_of r.1.now)) }
+            → TagRead self.now.source.now r.0 (place before code.old.items) (place_of r.1.now code.new.items)) }
         ensures rest { IfOk result (λ r. IsRest r.1.now tokens.now) }
         ensures stuck { IfStuck result (IsStuck self.now.source.now (loop_name ∷ end_block ∷ []) tokens.now) }
     {
@@ -192,8 +187,8 @@ impl<'a> TagParser<'a> {
         match self.take_keyword("in", rest) {
             None => Err(Failure::Stuck(Want::In, rest)),
             Some((_, rest)) => {
-                let (iterable, left) = self.parse_expr(rest)?;
-                Ok((Tag::For(vars, iterable), left))
+                let (span, left) = self.parse_expr(rest, code)?;
+                Ok((Tag::For(vars, span), left))
             }
         }
     }
@@ -225,53 +220,42 @@ impl<'a> TagParser<'a> {
     }
 
     // A `with`, whose keyword was read.
-    fn parse_with<'t>(&self, tokens: &'t [Lexed]) -> Parsed<'t, Tag>
+    fn parse_with<'t>(&self, tokens: &'t [Lexed], code: &mut Vec<Instr>) -> Parsed<'t, Tag>
         requires tokens { AreTagTokens self.now.source.now tokens.now }
         ensures tag { IfOk result (λ r. (before : List Lexeme)
             → GoesKeyword self.now.source.now (codes "with") before (lexemes_of tokens.now)
-            → ReadsTag self.now.source.now (tag_of r.0) before (lexemes_of r.1.now)) }
+            → TagRead self.now.source.now r.0 (place before code.old.items) (place_of r.1.now code.new.items)) }
         ensures rest { IfOk result (λ r. IsRest r.1.now tokens.now) }
         ensures stuck { IfStuck result (IsStuck
             self.now.source.now
             (a_base ∷ filters ∷ as_word ∷ end_block ∷ [])
             tokens.now) }
     {
-        let (expr, rest) = self.parse_expr(tokens)?;
+        let (_, rest) = self.parse_expr(tokens, code)?;
         match self.take_keyword("as", rest) {
-            // Dropped by a call, as in `parse_inline_tag`.
-            None => {
-                drop(expr);
-                Err(Failure::Stuck(Want::As, rest))
+            None => Err(Failure::Stuck(Want::As, rest)),
+            Some((_, rest)) => {
+                let (name, left) = self.parse_ident(rest)?;
+                Ok((Tag::With(name), left))
             }
-            Some((_, rest)) => match self.parse_ident(rest) {
-                Ok((name, left)) => Ok((Tag::With(expr, name), left)),
-                Err(failure) => {
-                    drop(expr);
-                    Err(failure)
-                }
-            },
         }
     }
 
     // An `include`, whose keyword was read.
-    fn parse_include<'t>(&self, tokens: &'t [Lexed]) -> Parsed<'t, Tag>
+    fn parse_include<'t>(&self, tokens: &'t [Lexed], code: &mut Vec<Instr>) -> Parsed<'t, Tag>
         requires tokens { AreTagTokens self.now.source.now tokens.now }
         ensures tag { IfOk result (λ r. (before : List Lexeme)
             → GoesKeyword self.now.source.now (codes "include") before (lexemes_of tokens.now)
-            → ReadsTag self.now.source.now (tag_of r.0) before (lexemes_of r.1.now)) }
+            → TagRead self.now.source.now r.0 (place before code.old.items) (place_of r.1.now code.new.items)) }
         ensures rest { IfOk result (λ r. IsRest r.1.now tokens.now) }
         ensures stuck { IfStuck result (IsStuck self.now.source.now (include_name ∷ []) tokens.now) }
     {
         let (name, rest) = self.parse_string(tokens)?;
         match self.take_keyword("with", rest) {
-            None => {
-                let globals = None;
-                Ok((Tag::Include(Include { name, globals }), rest))
-            }
+            None => Ok((Tag::Include(name), rest)),
             Some((_, rest)) => {
-                let (expr, left) = self.parse_expr(rest)?;
-                let globals = Some(expr);
-                Ok((Tag::Include(Include { name, globals }), left))
+                let (_, left) = self.parse_expr(rest, code)?;
+                Ok((Tag::IncludeWith(name), left))
             }
         }
     }

@@ -1,100 +1,88 @@
-// Texts of raw parts, comments and expressions, with their trees.
-use crate::syntax::parsing::outcomes::{Tree, all_accepted};
+// Texts of raw parts, comments and expressions, with their instructions.
+use crate::syntax::parsing::outcomes::{Program, all_accepted};
 use std::test::Fail;
 use upon_syntax::compile::search::Searcher;
 
-/// Raw parts, comments and expressions with their trees.
-pub static EXPRESSIONS: &[Tree] = &[
+/// Raw parts, comments and expressions with their instructions.
+pub static EXPRESSIONS: &[Program] = &[
     ("", ""),
-    ("Hello", " (raw <Hello>)"),
+    ("Hello", "raw <Hello>\n"),
     (
         "Hello {{ name }}!",
-        " (raw <Hello >) (show <{{ name }}> (var <name> .name<name>)) (raw <!>)",
+        "raw <Hello >\nvar <name> .name<name>\nemit\nraw <!>\n",
     ),
     (
         "{% if a %}yes{% endif %}",
-        " (if (var <a> .a<a>) (raw <yes>))",
+        "var <a> .a<a>\njump if false 3\nraw <yes>\n",
     ),
-    ("a{# note #}b", " (raw <a>) (raw <b>)"),
-    (
-        "a  {{- 1 -}}  b",
-        " (raw <a>) (show <{{- 1 -}}> (literal <1> 1)) (raw <b>)",
-    ),
+    ("a{# note #}b", "raw <a>\nraw <b>\n"),
+    ("a  {{- 1 -}}  b", "raw <a>\nliteral <1> 1\nemit\nraw <b>\n"),
     (
         "a  {%- if true %} b {% endif -%} c",
-        " (raw <a>) (if (literal <true> true) (raw < b >)) (raw <c>)",
+        "raw <a>\nliteral <true> true\njump if false 4\nraw < b >\nraw <c>\n",
     ),
-    ("a {#- note -#} b", " (raw <a>) (raw <b>)"),
+    ("a {#- note -#} b", "raw <a>\nraw <b>\n"),
     (
         "{{ 42 }}{{ -7 }}{{ - 5 }}{{ +3 }}",
-        " (show <{{ 42 }}> (literal <42> 42)) (show <{{ -7 }}> (literal <-7> -7))\
-         \x20(show <{{ - 5 }}> (literal <- 5> -5)) (show <{{ +3 }}> (literal <+3> 3))",
+        "literal <42> 42\nemit\nliteral <-7> -7\nemit\nliteral <- 5> -5\nemit\nliteral <+3> 3\n\
+         emit\n",
     ),
     (
         "{{ 1_000 }}{{ 0b101 }}{{ 0o17 }}{{ 0xff }}",
-        " (show <{{ 1_000 }}> (literal <1_000> 1000)) (show <{{ 0b101 }}> (literal <0b101> 5))\
-         \x20(show <{{ 0o17 }}> (literal <0o17> 15)) (show <{{ 0xff }}> (literal <0xff> 255))",
+        "literal <1_000> 1000\nemit\nliteral <0b101> 5\nemit\nliteral <0o17> 15\nemit\n\
+         literal <0xff> 255\nemit\n",
     ),
     (
         "{{ \"line\\n\" }}{{ \"a \\\"b\\\" \\\\ c\" }}",
-        " (show <{{ \"line\\n\" }}> (literal <\"line\\n\"> line\n))\
-         \x20(show <{{ \"a \\\"b\\\" \\\\ c\" }}> (literal <\"a \\\"b\\\" \\\\ c\"> a \"b\" \\ c))",
+        "literal <\"line\\n\"> line\n\nemit\nliteral <\"a \\\"b\\\" \\\\ c\"> a \"b\" \\ c\nemit\n",
     ),
     (
         "{{ user.name }}{{ items.0 }}",
-        " (show <{{ user.name }}> (var <user.name> .user<user> .name<.name>))\
-         \x20(show <{{ items.0 }}> (var <items.0> .items<items> .0<.0>))",
+        "var <user.name> .user<user> .name<.name>\nemit\nvar <items.0> .items<items> .0<.0>\n\
+         emit\n",
     ),
     (
         "{{ user?.mail }}{{ .a }}{{ ?.a }}{{ a . b }}",
-        " (show <{{ user?.mail }}> (var <user?.mail> .user<user> ?.mail<?.mail>))\
-         \x20(show <{{ .a }}> (var <.a> .a<.a>)) (show <{{ ?.a }}> (var <?.a> ?.a<?.a>))\
-         \x20(show <{{ a . b }}> (var <a . b> .a<a> .b<. b>))",
+        "var <user?.mail> .user<user> ?.mail<?.mail>\nemit\nvar <.a> .a<.a>\nemit\n\
+         var <?.a> ?.a<?.a>\nemit\nvar <a . b> .a<a> .b<. b>\nemit\n",
     ),
     (
         "{{ [1, \"two\", [3],] }}",
-        " (show <{{ [1, \"two\", [3],] }}> (list <[1, \"two\", [3],]> (literal <1> 1)\
-         \x20(literal <\"two\"> two) (list <[3]> (literal <3> 3))))",
+        "list <[1, \"two\", [3],]>\nliteral <1> 1\nlist push\nliteral <\"two\"> two\nlist push\n\
+         list <[3]>\nliteral <3> 3\nlist push\nlist push\nemit\n",
     ),
     (
         "{{ {\"a\": 1, \"b\": x.y,} }}",
-        " (show <{{ {\"a\": 1, \"b\": x.y,} }}> (map <{\"a\": 1, \"b\": x.y,}>\
-         \x20a<\"a\"> (literal <1> 1) b<\"b\"> (var <x.y> .x<x> .y<.y>)))",
+        "map <{\"a\": 1, \"b\": x.y,}>\nliteral <1> 1\nmap insert <\"a\"> a\n\
+         var <x.y> .x<x> .y<.y>\nmap insert <\"b\"> b\nemit\n",
     ),
     (
         "{{ now() }}{{ max(1, x) }}",
-        " (show <{{ now() }}> (call <now()> now)) (show <{{ max(1, x) }}> (call <max(1, x)> max\
-         \x20(args <max(1, x> (literal <1> 1) (var <x> .x<x>))))",
+        "emit with now 0 <now()>\nliteral <1> 1\nvar <x> .x<x>\nemit with max 2 <max(1, x)>\n",
     ),
     (
         "{{ name | lower }}{{ a | f: 1, \"x\" | g }}",
-        " (show <{{ name | lower }}> (filter <name | lower> (var <name> .name<name>) lower))\
-         \x20(show <{{ a | f: 1, \"x\" | g }}> (filter <a | f: 1, \"x\" | g>\
-         \x20(filter <a | f: 1, \"x\"> (var <a> .a<a>) f\
-         \x20(args <: 1, \"x\"> (literal <1> 1) (literal <\"x\"> x))) g))",
+        "var <name> .name<name>\nemit with lower 1 <name | lower>\nvar <a> .a<a>\nliteral <1> 1\n\
+         literal <\"x\"> x\napply f 3 <a | f: 1, \"x\">\nemit with g 1 <a | f: 1, \"x\" | g>\n",
     ),
     (
         "{{ (a | lower) }}{{ (1) | f }}",
-        " (show <{{ (a | lower) }}> (paren <(a | lower)> (filter <a | lower> (var <a> .a<a>) lower)))\
-         \x20(show <{{ (1) | f }}> (filter <(1) | f> (paren <(1)> (literal <1> 1)) f))",
+        "var <a> .a<a>\nemit with lower 1 <a | lower>\nliteral <1> 1\nemit with f 1 <(1) | f>\n",
     ),
     (
         "{{ [(a | lower), 1] }}",
-        " (show <{{ [(a | lower), 1] }}> (list <[(a | lower), 1]>\
-         \x20(paren <(a | lower)> (filter <a | lower> (var <a> .a<a>) lower)) (literal <1> 1)))",
+        "list <[(a | lower), 1]>\nvar <a> .a<a>\napply lower 1 <a | lower>\nlist push\n\
+         literal <1> 1\nlist push\nemit\n",
     ),
-    (
-        "{{ a.0.5 }}",
-        " (show <{{ a.0.5 }}> (var <a.0.5> .a<a> .0<.0> .5<.5>))",
-    ),
+    ("{{ a.0.5 }}", "var <a.0.5> .a<a> .0<.0> .5<.5>\nemit\n"),
     (
         "{{ {\"a\": {\"b\": 1} } }}",
-        " (show <{{ {\"a\": {\"b\": 1} } }}> (map <{\"a\": {\"b\": 1} }> a<\"a\">\
-         \x20(map <{\"b\": 1}> b<\"b\"> (literal <1> 1))))",
+        "map <{\"a\": {\"b\": 1} }>\nmap <{\"b\": 1}>\nliteral <1> 1\nmap insert <\"b\"> b\n\
+         map insert <\"a\"> a\nemit\n",
     ),
 ];
 
 #[test]
-fn trees_of_expressions(rt: HostRuntime) -> Result<(), Fail> {
+fn programs_of_expressions(rt: HostRuntime) -> Result<(), Fail> {
     all_accepted(&rt, rt.alloc(), &Searcher::new(), EXPRESSIONS)
 }

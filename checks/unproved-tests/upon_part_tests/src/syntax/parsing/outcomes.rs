@@ -1,5 +1,5 @@
-// What the tests of the parser share: rows of texts with their faults or trees, and the functions that check them.
-use crate::syntax::picture::picture;
+// What the tests of the parser share: rows of texts with their faults or instructions, and the functions that check them.
+use crate::instructions::lines;
 use std::alloc::Global;
 use std::process::Abort;
 use std::test::Fail;
@@ -10,24 +10,29 @@ use upon_types::types::Span;
 /// A text, the reason why it is refused, and where the span of its fault begins and ends.
 pub type Refusal = (&'static str, &'static str, usize, usize);
 
-/// A text and the picture of its tree.
-pub type Tree = (&'static str, &'static str);
+/// A text and the lines of its instructions.
+pub type Program = (&'static str, &'static str);
 
 // The text is refused, for this reason, at this span.
 fn refused(rt: &impl Abort, alloc: Global, searcher: &Searcher, row: &Refusal) -> Result<(), Fail> {
     let (source, reason, m, n) = *row;
     let parser = Parser::new(alloc, searcher, source);
-    let error = parser.parse_template().err().ok_or("a tree")?;
+    let error = parser.compile_template().err().ok_or("instructions")?;
     assert_eq!(rt; error.reason(), Some(reason), "of {source}");
     assert_eq!(rt; error.place(), Some(Span { m, n }), "of {source}");
     Ok(())
 }
 
-// The text has this tree.
-fn accepted(rt: &impl Abort, alloc: Global, searcher: &Searcher, row: &Tree) -> Result<(), Fail> {
+// The text has these instructions.
+fn accepted(
+    rt: &impl Abort,
+    alloc: Global,
+    searcher: &Searcher,
+    row: &Program,
+) -> Result<(), Fail> {
     let (source, wanted) = *row;
-    let tree = Parser::new(alloc, searcher, source).parse_template()?;
-    let given = picture(alloc, source, &tree)?;
+    let code = Parser::new(alloc, searcher, source).compile_template()?;
+    let given = lines(alloc, &code, Some(source))?;
     assert_eq!(rt; given.as_str(), wanted, "of {source}");
     Ok(())
 }
@@ -45,12 +50,12 @@ pub fn all_refused(
     Ok(())
 }
 
-/// Each text of the rows has its tree, under the delimiters of a searcher.
+/// Each text of the rows has its instructions, under the delimiters of a searcher.
 pub fn all_accepted(
     rt: &impl Abort,
     alloc: Global,
     searcher: &Searcher,
-    rows: &[Tree],
+    rows: &[Program],
 ) -> Result<(), Fail> {
     for row in rows {
         accepted(rt, alloc, searcher, row)?;

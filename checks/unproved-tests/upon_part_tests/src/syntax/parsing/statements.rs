@@ -1,92 +1,90 @@
-// Texts of blocks and of several tags, with their trees.
-use crate::syntax::parsing::outcomes::{Tree, all_accepted};
+// Texts of blocks and of several tags, with their instructions.
+use crate::syntax::parsing::outcomes::{Program, all_accepted};
 use std::test::Fail;
 use upon_syntax::compile::search::Searcher;
 
-/// Blocks, and texts of several tags, with their trees.
-pub static STATEMENTS: &[Tree] = &[
+/// Blocks, and texts of several tags, with their instructions.
+pub static STATEMENTS: &[Program] = &[
     (
         "{% if not a %}x{% else %}y{% endif %}",
-        " (if not (var <a> .a<a>) (raw <x>) (else (raw <y>)))",
+        "var <a> .a<a>\njump if true 4\nraw <x>\njump 5\nraw <y>\n",
     ),
     (
         "{% if a %}x{% else if b %}y{% else %}z{% endif %}",
-        " (if (var <a> .a<a>) (raw <x>) (else (if (var <b> .b<b>) (raw <y>) (else (raw <z>)))))",
+        "var <a> .a<a>\njump if false 4\nraw <x>\njump 9\nvar <b> .b<b>\njump if false 8\n\
+         raw <y>\njump 9\nraw <z>\n",
     ),
     (
         "{% if a %}x{% else if not b %}y{% endif %}z",
-        " (if (var <a> .a<a>) (raw <x>) (else (if not (var <b> .b<b>) (raw <y>)))) (raw <z>)",
+        "var <a> .a<a>\njump if false 4\nraw <x>\njump 7\nvar <b> .b<b>\njump if true 7\nraw <y>\n\
+         raw <z>\n",
     ),
     (
         "{% if a %}{% else %}{% endif %}",
-        " (if (var <a> .a<a>) (else))",
+        "var <a> .a<a>\njump if false 3\njump 3\n",
     ),
     (
         "{% for x in items %}{{ x }}{% endfor %}",
-        " (for x (var <items> .items<items>) (show <{{ x }}> (var <x> .x<x>)))",
+        "var <items> .items<items>\nloop x <items>\nnext 6\nvar <x> .x<x>\nemit\njump 2\n",
     ),
     (
         "{% for k, v in prices %}{{ k }}: {{ v }}{% endfor %}",
-        " (for <k, v> k v (var <prices> .prices<prices>) (show <{{ k }}> (var <k> .k<k>)) (raw <: >)\
-         \x20(show <{{ v }}> (var <v> .v<v>)))",
+        "var <prices> .prices<prices>\nloop <k, v> k, v <prices>\nnext 9\nvar <k> .k<k>\nemit\n\
+         raw <: >\nvar <v> .v<v>\nemit\njump 2\n",
     ),
     (
         "{% with user.name as n %}{{ n }}{% endwith %}",
-        " (with n (var <user.name> .user<user> .name<.name>) (show <{{ n }}> (var <n> .n<n>)))",
+        "var <user.name> .user<user> .name<.name>\nwith n\nvar <n> .n<n>\nemit\nend with\n",
     ),
-    ("{% include \"footer\" %}", " (include <\"footer\"> footer)"),
+    ("{% include \"footer\" %}", "include <\"footer\"> footer\n"),
     (
         "{% include \"row\" with item %}",
-        " (include <\"row\"> row (var <item> .item<item>))",
+        "var <item> .item<item>\ninclude with <\"row\"> row\n",
     ),
     (
         "{% for i in [1, 2] %}{{ i }}{% if not loop.last %},{% endif %}{% endfor %}",
-        " (for i (list <[1, 2]> (literal <1> 1) (literal <2> 2)) (show <{{ i }}> (var <i> .i<i>))\
-         \x20(if not (var <loop.last> .loop<loop> .last<.last>) (raw <,>)))",
+        "list <[1, 2]>\nliteral <1> 1\nlist push\nliteral <2> 2\nlist push\nloop i <[1, 2]>\n\
+         next 13\nvar <i> .i<i>\nemit\nvar <loop.last> .loop<loop> .last<.last>\njump if true 12\n\
+         raw <,>\njump 6\n",
     ),
-    (
-        "{{ [] }}{{ {} }}",
-        " (show <{{ [] }}> (list <[]>)) (show <{{ {} }}> (map <{}>))",
-    ),
+    ("{{ [] }}{{ {} }}", "list <[]>\nemit\nmap <{}>\nemit\n"),
     (
         "{{ \"}}\" }}{{ \"\" }}",
-        " (show <{{ \"}}\" }}> (literal <\"}}\"> }})) (show <{{ \"\" }}> (literal <\"\"> ))",
+        "literal <\"}}\"> }}\nemit\nliteral <\"\"> \nemit\n",
     ),
     (
         "{{ 9223372036854775807 }}{{ -9223372036854775808 }}{{ 0x }}",
-        " (show <{{ 9223372036854775807 }}> (literal <9223372036854775807> 9223372036854775807))\
-         \x20(show <{{ -9223372036854775808 }}> (literal <-9223372036854775808> -9223372036854775808))\
-         \x20(show <{{ 0x }}> (literal <0x> 0))",
+        "literal <9223372036854775807> 9223372036854775807\nemit\n\
+         literal <-9223372036854775808> -9223372036854775808\nemit\nliteral <0x> 0\nemit\n",
     ),
     (
         "{{ a.18446744073709551615 }}",
-        " (show <{{ a.18446744073709551615 }}> (var <a.18446744073709551615> .a<a>\
-         \x20.18446744073709551615<.18446744073709551615>))",
+        "var <a.18446744073709551615> .a<a> .18446744073709551615<.18446744073709551615>\nemit\n",
     ),
     (
         "lorem {{ ipsum.123?.dolor }} sit amet",
-        " (raw <lorem >) (show <{{ ipsum.123?.dolor }}> (var <ipsum.123?.dolor> .ipsum<ipsum>\
-         \x20.123<.123> ?.dolor<?.dolor>)) (raw < sit amet>)",
+        "raw <lorem >\nvar <ipsum.123?.dolor> .ipsum<ipsum> .123<.123> ?.dolor<?.dolor>\nemit\n\
+         raw < sit amet>\n",
     ),
     (
         "lorem ipsum {# -#} \t\ndolor sit amet",
-        " (raw <lorem ipsum >) (raw <dolor sit amet>)",
+        "raw <lorem ipsum >\nraw <dolor sit amet>\n",
     ),
     (
         "lorem ipsum {# anything goes e.g. - # { #}",
-        " (raw <lorem ipsum >)",
+        "raw <lorem ipsum >\n",
     ),
     (
         "{{ 1 -}}  {{- 2 }}",
-        " (show <{{ 1 -}}> (literal <1> 1)) (raw <>) (show <{{- 2 }}> (literal <2> 2))",
+        "literal <1> 1\nemit\nraw <>\nliteral <2> 2\nemit\n",
     ),
     (
         "日{{ привіт }}é",
-        " (raw <日>) (show <{{ привіт }}> (var <привіт> .привіт<привіт>)) (raw <é>)",
+        "raw <日>\nvar <привіт> .привіт<привіт>\nemit\nraw <é>\n",
     ),
 ];
 
 #[test]
-fn trees_of_statements(rt: HostRuntime) -> Result<(), Fail> {
+fn programs_of_statements(rt: HostRuntime) -> Result<(), Fail> {
     all_accepted(&rt, rt.alloc(), &Searcher::new(), STATEMENTS)
 }

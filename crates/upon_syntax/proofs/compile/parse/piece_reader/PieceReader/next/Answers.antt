@@ -1,13 +1,13 @@
-use Rattle.std.proofs.Common.{ℕ, List, [], ◌∷◌, length, None, Some, Ok, Err, sym, ap, ◌∙◌, subst}
+use Rattle.std.proofs.Common.{ℕ, List, [], length, None, Some, Ok, Err, sym, ap, ◌∙◌, subst}
 use Rattle.std.proofs.lemmas.List.{append-nil}
 use Rattle.upon_language_spec.specs.Search.{DelimiterText}
 use Rattle.upon_language_spec.specs.Cut.{outside}
 use Rattle.upon_lexer.specs.Lexers.{lexer_text, lexer_delimiters, lexer_state}
-use Rattle.upon_syntax.specs.PieceReading.{pieces_text, pieces_delimiters, pieces_state, pieces_blocks, BetweenPieces, TokenGiven, ReadsOn, GoesFurther}
-use Rattle.upon_syntax.specs.Pieces.{Piece, piece_of}
+use Rattle.upon_syntax.specs.PieceReading.{pieces_text, pieces_delimiters, pieces_state, pieces_blocks, BetweenPieces, TokenGiven, ReadsOn, PieceRead, GoesFurther}
+use Rattle.upon_syntax.specs.Pieces.{Piece}
 use Rattle.upon_syntax.specs.TagReading.{IsSyntaxError}
 use Rattle.upon_syntax.proofs.NextTokens.{over, back, handed_on, next_in, cut_error}
-use Rattle.upon_syntax.proofs.PieceSteps.{token_given, at_end, so_far_on, all_found}
+use Rattle.upon_syntax.proofs.PieceSteps.{token_given, at_end, so_far_on, found_on, all_found}
 use Rattle.upon_syntax.proofs.compile.parse.piece_reader.PieceReader.next.Goals as goal
 
 pub returns-in_err-given-clause-fault : goal.returns-in_err-given-clause-fault
@@ -84,10 +84,12 @@ returns-in-Some-2-clause-found c = λ found so_far.
     let there = over F delimiters (lexer_delimiters c.next.new.self) s (lexer_text c.next.new.self) c.in_ok-given.ensures.delimiters c.in_ok-given.ensures.text given in
     let after = pieces_state c.read_piece.new.self in
     let next = pieces_blocks c.read_piece.new.self in
-    let more : List Piece = piece_of c.in-Some-2.piece ∷ [] in
-    let G : List DelimiterText → List ℕ → Type 0 = λ x y. ReadsOn x y before after stack next so_far.lexemes more in
+    let old = c.args.code.now.items in
+    let new = c.read_piece.new.code.items in
+    let kept = c.in-Some-2.piece in
+    let G : List DelimiterText → List ℕ → Type 0 = λ x y. PieceRead x y before after stack next so_far.lexemes old new kept in
     let on = rw c.in-Some-2.is at c.in_ok-piece-in-Some.ensures.piece before so_far.lexemes there in
-    so_far_on delimiters s texts before after stack next found more so_far (back G delimiters (lexer_delimiters c.next.new.self) s (lexer_text c.next.new.self) c.in_ok-given.ensures.delimiters c.in_ok-given.ensures.text on)
+    found_on delimiters s texts before after stack next found old new kept so_far (back G delimiters (lexer_delimiters c.next.new.self) s (lexer_text c.next.new.self) c.in_ok-given.ensures.delimiters c.in_ok-given.ensures.text on)
 
 pub returns-in-None-2-clause-found : goal.returns-in-None-2-clause-found
 returns-in-None-2-clause-found c = λ found so_far.
@@ -109,4 +111,4 @@ returns-in-None-2-clause-found c = λ found so_far.
     let G : List DelimiterText → List ℕ → Type 0 = λ x y. ReadsOn x y before after stack next so_far.lexemes none in
     let H : List Piece → Type 0 = λ x. GoesFurther delimiters s before after next x in
     let on = rw c.in-None-2.is at c.in_ok-piece-in-Some.ensures.piece before so_far.lexemes there in
-    subst H (append-nil found) (so_far_on delimiters s texts before after stack next found none so_far (back G delimiters (lexer_delimiters c.next.new.self) s (lexer_text c.next.new.self) c.in_ok-given.ensures.delimiters c.in_ok-given.ensures.text on))
+    (subst H (append-nil found) (so_far_on delimiters s texts before after stack next found none so_far (back G delimiters (lexer_delimiters c.next.new.self) s (lexer_text c.next.new.self) c.in_ok-given.ensures.delimiters c.in_ok-given.ensures.text on.0)), on.1)

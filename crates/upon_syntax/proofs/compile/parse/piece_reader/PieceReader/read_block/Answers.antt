@@ -10,7 +10,7 @@ use Rattle.upon_lexer.specs.Lexers.{lexer_text}
 use Rattle.upon_syntax.specs.declared.compile.parse.open_blocks.Closing.{Closing}
 use Rattle.upon_syntax.specs.OpenBlocks.{closer_of, stack_of}
 use Rattle.upon_syntax.specs.PieceReading.{pieces_text, pieces_delimiters, pieces_blocks, token_lexeme}
-use Rattle.upon_tag_parser.specs.BlockTags.{tag_of}
+use Rattle.upon_syntax.specs.Pieces.{block_piece}
 use Rattle.upon_syntax.specs.TagReading.{IsSyntaxError}
 use Rattle.upon_syntax.proofs.BlockFaults.{first_lies_in}
 use Rattle.upon_syntax.proofs.NextTokens.{handed_on, said_at}
@@ -36,8 +36,9 @@ unexpected-requires c =
     let text = subst IsUtf8 (sym self.same_text) (IsUtf8-had self.source.now self.is_text) in
     let x = c.requires.given.2 in
     let a = c.in_ok-tag.ensures.tag (c.requires.given.1 ++ token_lexeme BeginBlock x.hyphen x.at ∷ []) (after_begin_block lexer texts c.requires.given.0 stack c.requires.given.1 c.args.begin x) in
-    let refused = rw c.in-Some.is at c.in-Ok.ensures in
-    let first = untaken_first lexer texts c.requires.given.0 stack c.requires.given.1 c.args.begin c.read_block.new.lexer c.in_ok-tag.ensures.delimiters c.in_ok-tag.ensures.text (had_utf8 (pieces_delimiters self) lexer.searcher.now.syntax.has_utf8) text x (tag_of c.in_ok-tag.tag) c.in_ok-tag.span a c.in_ok-tag.ensures.start (closer_of c.in-Some.closer) refused.0 refused.1 in
+    let passed = rw c.in-Some.is at c.in-Ok.ensures in
+    let refused = passed a.tokens.tree a.tokens.keeps in
+    let first = untaken_first lexer texts c.requires.given.0 stack c.requires.given.1 c.args.begin c.read_block.new.lexer c.in_ok-tag.ensures.delimiters c.in_ok-tag.ensures.text (had_utf8 (pieces_delimiters self) lexer.searcher.now.syntax.has_utf8) text x c.in_ok-tag.tag c.in_ok-tag.span c.args.code.now.items c.read_block.new.code.items a c.in_ok-tag.ensures.start (closer_of c.in-Some.closer) refused.0 refused.1 in
     let F : List ℕ → Type 0 = λ s. LiesIn s c.in_ok-tag.span in
     subst F (sym c.in_ok-tag.ensures.text) (first_lies_in (pieces_delimiters self) (pieces_text self) c.in_ok-tag.span (reason c.in-Some.closer) texts lexer.searcher.now.syntax.has_utf8 text first)
 
@@ -49,8 +50,10 @@ returns-in-None-clause-tag c = λ before ls x.
     let stack = pieces_blocks self in
     let text = subst IsUtf8 (sym self.same_text) (IsUtf8-had self.source.now self.is_text) in
     let a = c.in_ok-tag.ensures.tag (ls ++ token_lexeme BeginBlock x.hyphen x.at ∷ []) (after_begin_block lexer texts before stack ls c.args.begin x) in
-    let taken = rw c.in-None.is at c.in-Ok.ensures in
-    block_step lexer texts before stack ls c.args.begin c.read_block.new.lexer c.in_ok-tag.ensures.delimiters c.in_ok-tag.ensures.text (had_utf8 (pieces_delimiters self) lexer.searcher.now.syntax.has_utf8) text x (tag_of c.in_ok-tag.tag) c.in_ok-tag.span a c.in_ok-tag.ensures.start (stack_of c.pass.new.self) taken.0 taken.1
+    let passed = rw c.in-None.is at c.in-Ok.ensures in
+    let taken = passed a.tokens.tree a.tokens.keeps in
+    let on = block_step lexer texts before stack ls c.args.begin c.read_block.new.lexer c.in_ok-tag.ensures.delimiters c.in_ok-tag.ensures.text (had_utf8 (pieces_delimiters self) lexer.searcher.now.syntax.has_utf8) text x c.in_ok-tag.tag c.in_ok-tag.span c.args.code.now.items c.read_block.new.code.items a c.in_ok-tag.ensures.start (stack_of c.pass.new.self) taken.0 taken.1 in
+    record { piece = block_piece a.tokens.tree; reads = on; keeps = (a.tokens.tree, refl, a.tokens.keeps); code = a.tokens.code }
 
 pub returns-in-Some-clause-fault : goal.returns-in-Some-clause-fault
 returns-in-Some-clause-fault c =
@@ -61,6 +64,7 @@ returns-in-Some-clause-fault c =
     let text = subst IsUtf8 (sym self.same_text) (IsUtf8-had self.source.now self.is_text) in
     let x = c.requires.given.2 in
     let a = c.in_ok-tag.ensures.tag (c.requires.given.1 ++ token_lexeme BeginBlock x.hyphen x.at ∷ []) (after_begin_block lexer texts c.requires.given.0 stack c.requires.given.1 c.args.begin x) in
-    let refused = rw c.in-Some.is at c.in-Ok.ensures in
-    let first = untaken_first lexer texts c.requires.given.0 stack c.requires.given.1 c.args.begin c.read_block.new.lexer c.in_ok-tag.ensures.delimiters c.in_ok-tag.ensures.text (had_utf8 (pieces_delimiters self) lexer.searcher.now.syntax.has_utf8) text x (tag_of c.in_ok-tag.tag) c.in_ok-tag.span a c.in_ok-tag.ensures.start (closer_of c.in-Some.closer) refused.0 refused.1 in
+    let passed = rw c.in-Some.is at c.in-Ok.ensures in
+    let refused = passed a.tokens.tree a.tokens.keeps in
+    let first = untaken_first lexer texts c.requires.given.0 stack c.requires.given.1 c.args.begin c.read_block.new.lexer c.in_ok-tag.ensures.delimiters c.in_ok-tag.ensures.text (had_utf8 (pieces_delimiters self) lexer.searcher.now.syntax.has_utf8) text x c.in_ok-tag.tag c.in_ok-tag.span c.args.code.now.items c.read_block.new.code.items a c.in_ok-tag.ensures.start (closer_of c.in-Some.closer) refused.0 refused.1 in
     said_at (pieces_delimiters self) (pieces_text self) (lexer_text c.read_block.new.lexer) c.in_ok-tag.span c.in_ok-tag.span (reason c.in-Some.closer) c.unexpected.result c.in_ok-tag.ensures.text refl first c.unexpected.ensures

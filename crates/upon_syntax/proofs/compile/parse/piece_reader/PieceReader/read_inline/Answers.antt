@@ -1,17 +1,17 @@
-use Rattle.std.proofs.Common.{◌≡◌, List, [], ◌∷◌, ◌++◌}
+use Rattle.std.proofs.Common.{ℕ, List, [], ◌∷◌, ◌++◌, refl}
 use Rattle.upon_types.specs.declared.error.Error.{Error}
-use Rattle.upon_types.specs.declared.types.ast.InlineExpr.{InlineExpr}
 use Rattle.upon_types.specs.declared.types.token.Token.TheVariants.{BeginExpr}
-use Rattle.upon_types.specs.AstExpression.{expression_of}
 use Rattle.upon_language_spec.specs.Cut.{Lexeme}
 use Rattle.upon_language_spec.specs.Delimiters.{expression}
+use Rattle.upon_language_spec.specs.Faults.{span_of}
 use Rattle.upon_language_spec.specs.Lexing.{LexerState}
-use Rattle.upon_lexer.specs.Lexers.{lexer_text, lexer_state}
-use Rattle.upon_syntax.specs.PieceReading.{pieces_text, pieces_delimiters, pieces_state, pieces_blocks, token_lexeme, TokenGiven, ReadsOn}
+use Rattle.upon_lexer.specs.Lexers.{lexer_state}
+use Rattle.upon_tag_parser.specs.WholeTags.{HoldsInline}
+use Rattle.upon_syntax.specs.declared.compile.parse.piece.Piece.TheVariants.{InlineExpr}
+use Rattle.upon_syntax.specs.PieceReading.{pieces_text, pieces_delimiters, pieces_state, pieces_blocks, token_lexeme, TokenGiven, PieceRead}
 use Rattle.upon_syntax.specs.Pieces.{inline_piece}
 use Rattle.upon_syntax.specs.TagReading.{AfterBegin, AfterEnd, IsSyntaxError}
-use Rattle.upon_tag_parser.specs.WholeTags.{IsInlineTag}
-use Rattle.upon_syntax.proofs.NextTokens.{ok_both, err_on}
+use Rattle.upon_syntax.proofs.NextTokens.{ok_on, err_on}
 use Rattle.upon_syntax.proofs.TagEnds.{after_begin_expr, inline_step}
 use Rattle.upon_syntax.proofs.compile.parse.piece_reader.PieceReader.read_inline.Goals as goal
 
@@ -19,17 +19,22 @@ pub returns-clause-tag : goal.returns-clause-tag
 returns-clause-tag c =
     let self = c.args.self.now in
     let lexer = self.lexer in
-    let after = c.read_inline.new.lexer in
+    let reader = c.read_inline.new in
+    let after = reader.lexer in
     let delimiters = pieces_delimiters self in
     let s = pieces_text self in
+    let stack = pieces_blocks self in
+    let old = c.args.code.now.items in
+    let new = reader.code.items in
+    let begin = c.args.begin in
     let texts = lexer.searcher.now.syntax.has_texts in
-    let P : InlineExpr → Type 0 = λ tag. (ls : List Lexeme) → AfterBegin lexer expression c.args.begin ls → AfterEnd lexer after expression ls tag.span.n (IsInlineTag (lexer_text lexer) (expression_of tag.expr)) in
-    let Q : InlineExpr → Type 0 = λ tag. tag.span.m ≡ c.args.begin.m in
-    let R : InlineExpr → Type 0 = λ tag. (before : LexerState) (ls : List Lexeme) → TokenGiven delimiters s before (pieces_state self) (pieces_blocks self) ls BeginExpr c.args.begin
-    → ReadsOn delimiters s before (lexer_state after) (pieces_blocks self) (pieces_blocks self) ls (inline_piece (expression_of tag.expr) tag.span ∷ []) in
-    ok_both P Q R c.read_inline.result (λ tag read start before ls x.
-    inline_step lexer texts before (pieces_blocks self) ls c.args.begin after c.read_inline.ensures.delimiters c.read_inline.ensures.text x (expression_of tag.expr) tag.span (read (ls ++ token_lexeme BeginExpr x.hyphen x.at ∷ []) (after_begin_expr lexer texts before (pieces_blocks self) ls c.args.begin x)) start)
-    c.read_inline.ensures.tag c.read_inline.ensures.start
+    let P : Unit {0} → Type 0 = λ _. (ls : List Lexeme) → AfterBegin lexer expression begin ls → (end : ℕ) × AfterEnd lexer after expression ls end (λ tokens. HoldsInline s tokens old new) in
+    let Q : Unit {0} → Type 0 = λ _. (before : LexerState) (ls : List Lexeme) → TokenGiven delimiters s before (pieces_state self) stack ls BeginExpr begin → PieceRead delimiters s before (lexer_state after) stack stack ls old new InlineExpr in
+    ok_on P Q c.read_inline.result (λ _ read before ls x.
+    let (to, a) = read (ls ++ token_lexeme BeginExpr x.hyphen x.at ∷ []) (after_begin_expr lexer texts before stack ls begin x) in
+    let span = span_of x.at.m a.ends.to in
+    let on = inline_step lexer texts before stack ls begin after c.read_inline.ensures.delimiters c.read_inline.ensures.text x to old new a in
+    record { piece = inline_piece a.tokens.tree span; reads = on; keeps = (a.tokens.tree, span, refl); code = a.tokens.code }) c.read_inline.ensures.tag
 
 pub returns-clause-fault : goal.returns-clause-fault
 returns-clause-fault c =

@@ -1,7 +1,10 @@
-use Rattle.std.proofs.Common.{List, [], ◌∷◌, ◌++◌, sym, subst}
+use Rattle.std.proofs.Common.{List, [], ◌∷◌, ◌++◌, refl, sym, subst}
+use Rattle.std.proofs.lemmas.List.{append-nil}
 use Rattle.upon_types.specs.declared.types.token.Token.{Token}
 use Rattle.upon_types.specs.declared.types.token.Token.TheVariants.{BeginComment}
 use Rattle.upon_language_spec.specs.Blocks.{OpenBlock}
+use Rattle.upon_instructions.specs.Program.{program_view}
+use Rattle.upon_syntax.specs.Pieces.{raw_piece}
 use Rattle.upon_syntax.specs.PieceReading.{pieces_text, pieces_delimiters, pieces_state, pieces_blocks, token_lexeme, TokenGiven, ReadsOn}
 use Rattle.upon_syntax.specs.TagReading.{IsSyntaxError}
 use Rattle.upon_syntax.proofs.Comments.{comment_begins}
@@ -31,9 +34,11 @@ returns-in_ok-pass_comment-in-BeginComment-clause-piece c = λ before ls given.
     let begun = comment_begins delimiters s texts before (pieces_state self) stack ls c.args.span x in
     let passes = c.in_ok-pass_comment-in-BeginComment.ensures.passes (ls ++ token_lexeme BeginComment x.hyphen x.at ∷ []) begun in
     let G : List OpenBlock → Type 0 = λ y. ReadsOn delimiters s before after stack y ls [] in
-    subst G (sym c.in_ok-pass_comment-in-BeginComment.ensures.blocks) (comment_on delimiters s texts before (pieces_state self) after stack ls c.args.span x passes)
+    (subst G (sym c.in_ok-pass_comment-in-BeginComment.ensures.blocks) (comment_on delimiters s texts before (pieces_state self) after stack ls c.args.span x passes), refl)
 
 pub returns-in_default-clause-piece : goal.returns-in_default-clause-piece
 returns-in_default-clause-piece c = λ before ls given.
     let self = c.args.self.now in
-    raw_on (pieces_delimiters self) (pieces_text self) self.lexer.searcher.now.syntax.has_texts before (pieces_state self) (pieces_blocks self) ls c.args.token c.args.span c.in_default.not-BeginExpr c.in_default.not-BeginBlock c.in_default.not-BeginComment given
+    let span = c.args.span in
+    let on = raw_on (pieces_delimiters self) (pieces_text self) self.lexer.searcher.now.syntax.has_texts before (pieces_state self) (pieces_blocks self) ls c.args.token span c.in_default.not-BeginExpr c.in_default.not-BeginBlock c.in_default.not-BeginComment given in
+    record { piece = raw_piece span; reads = on; keeps = refl; code = sym (append-nil (program_view c.args.code.now.items)) }

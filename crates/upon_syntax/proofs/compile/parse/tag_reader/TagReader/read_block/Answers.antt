@@ -1,7 +1,5 @@
 use Rattle.std.proofs.Common.{ℕ, List, [], ◌∷◌, None, false, refl, sym, ◌∙◌, subst}
 use Rattle.upon_types.specs.declared.types.token.Token.TheVariants.{EndBlock}
-use Rattle.upon_tag_parser.specs.BlockTags.{tag_of}
-use Rattle.upon_language_spec.specs.Cut.{Lexeme}
 use Rattle.upon_language_spec.specs.Delimiters.{block}
 use Rattle.upon_language_spec.specs.Parts.{Part, block_word}
 use Rattle.upon_language_spec.specs.Wanted.{an_end_block}
@@ -14,7 +12,7 @@ use Rattle.upon_tag_parser.specs.TagParsing.{OnStuck, IsStuck}
 use Rattle.upon_syntax.specs.TagEnds.{ReadsUpTo}
 use Rattle.upon_syntax.specs.TagFaults.{GoesNoFurther}
 use Rattle.upon_syntax.specs.TagReading.{IsSyntaxError}
-use Rattle.upon_tag_parser.specs.WholeTags.{LeadsToEnd, IsTagInside}
+use Rattle.upon_tag_parser.specs.WholeTags.{LeadsToEnd, HoldsTag}
 use Rattle.upon_syntax.proofs.WholeTags.{mode_is, tag_read, end_is, failure_lies, failure_stops, end_stops, leads_all, after_end}
 use Rattle.upon_syntax.proofs.compile.parse.tag_reader.TagReader.read_block.Goals as goal
 
@@ -81,7 +79,9 @@ returns-in-Ok-end_of-clause-tag c = λ ls a.
     let same = c.parser.ensures ∙ c.requires.same in
     let To : List ℕ → List Lexed → Type 0 = λ x ks. LeadsToEnd x from (lexemes_of ks) EndBlock an_end_block in
     let to : To s tokens = subst (λ ks. To s ks) c.deref.ensures.value (subst (λ x. To x c.deref.result.now) same c.in-Ok.ensures.leads) in
-    let Is : List ℕ → List Lexed → Type 0 = λ x ks. IsTagInside x (tag_of c.in-Ok.tag) (lexemes_of ks) in
+    let old = c.args.code.now.items in
+    let new = c.parse_block_tag.new.code.items in
+    let Is : List ℕ → List Lexed → Type 0 = λ x ks. HoldsTag x c.in-Ok.tag (lexemes_of ks) old new in
     let is : Is s tokens = subst (λ ks. Is s ks) c.deref.ensures.value (subst (λ x. Is x c.deref.result.now) same c.in-Ok.ensures.tag) in
     let (l, ends, at) = c.in-Ok-end_of.ensures.end in
-    after_end lexer c.read_tokens.new.lexer block ls from to.to (lexemes_of tokens) ended l c.in-Ok-end_of.end (IsTagInside s (tag_of c.in-Ok.tag)) c.in_ok-ended.ensures.text c.in_ok-ended.ensures.delimiters tag (leads_all s from (lexemes_of tokens) EndBlock an_end_block to) to.ends (end_is ended l ends) at is
+    after_end lexer c.read_tokens.new.lexer block ls from to.to (lexemes_of tokens) ended l c.in-Ok-end_of.end (λ ts. HoldsTag s c.in-Ok.tag ts old new) c.in_ok-ended.ensures.text c.in_ok-ended.ensures.delimiters tag (leads_all s from (lexemes_of tokens) EndBlock an_end_block to) to.ends (end_is ended l ends) at is

@@ -17,7 +17,7 @@ use Rattle.upon_tag_parser.proofs.compile.parse.path.TagParser.parse_members.Goa
 
 pub members-init : goal.members-init
 members-init c = record {
-  read = ([], c.in_ok-push.ensures.items ∙ ap (λ (x : List Member). x ++ c.args.first ∷ []) c.new-path.ensures.items, refl);
+  read = ([], c.in_ok-push.ensures.items ∙ ap (λ (x : List Member). x ++ c.args.first ∷ []) c.in_ok-path.ensures.items, refl);
   rest = rest_all (lexemes_of c.args.tokens.now);
   shorter = omega arith;
 }

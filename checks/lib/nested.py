@@ -1,0 +1,59 @@
+"""Texts of templates that nest deep or go on long: for check-program and checks/measure.
+
+`nested.py KINDS` prints the names of the texts of some kinds (`blocks`, `tags` or `values`), a line each. `nested.py NAME
+COUNT [MIDDLE]` prints the text of a name, with so many begins and ends, and with MIDDLE between them if it is given.
+"""
+import sys
+
+
+def hidden(before, begin, middle, end="", after=""):
+    """The same five texts in a tag that is compiled, and not run, since `c` is empty."""
+    return "{% if c %}{{ " + before, begin, middle, end, after + " }}{% endif %}"
+
+
+# The text before the begins, a begin, the text between, an end, and the text after the ends. Those of blocks show an `x`
+# where `a` is a text and `c` is empty.
+BLOCKS = {
+    "`if` blocks in each other": ("", "{% if a %}", "x", "{% endif %}", ""),
+    "`else` branches in each other": ("", "{% if c %}{% else %}", "x", "{% endif %}", ""),
+    "`for` blocks in each other": ("", "{% for x in [1] %}", "x", "{% endfor %}", ""),
+    "`else` branches of `for` in each other": ("", "{% for x in [] %}{% else %}", "x", "{% endfor %}", ""),
+    "`with` blocks in each other": ("", "{% with 1 as x %}", "x", "{% endwith %}", ""),
+    "`else if` in a row": ("{% if c %}", "{% else if c %}", "", "", "{% else %}x{% endif %}"),
+    "names in text": ("{% if c %}", "x{{ a }}", "", "", "{% endif %}x"),
+}
+TAGS = {
+    "parentheses in each other": hidden("", "(", "a", ")"),
+    "list literals in each other": hidden("", "[", "a", "]"),
+    "map literals in each other": hidden("", '{"a": ', "a", "} "),
+    "calls in each other": hidden("", "f(", "a", ")"),
+    "arguments of filters in each other": hidden("", "(a | f: ", "a", ")"),
+    "calls in a filter's argument": hidden("a | f: ", "f(", "a", ")"),
+    "filters in a row": hidden("a", " | f", ""),
+    "filters with arguments in a row": hidden("a", " | f: a", ""),
+    "items of a list": hidden("[", "a, ", "", "", "]"),
+    "members of a path": hidden("a", ".b", ""),
+}
+# What makes a value as deep as there are begins.
+VALUES = {
+    "lists in a list": ("{{ ", "[", "", "]", " }}"),
+    "maps in a map": ("{{ ", '{"a": ', "1", "} ", "}}"),
+    "lists of a `with`": ("", "{% with [a] as a %}", "", "{% endwith %}", ""),
+    "maps of a `with`": ("", '{% with {"a": a} as a %}', "", "{% endwith %}", ""),
+    "lists of a `for`": ("", "{% for a in [[a]] %}", "", "{% endfor %}", ""),
+}
+KINDS = {"blocks": BLOCKS, "tags": TAGS, "values": VALUES}
+TEXTS = BLOCKS | TAGS | VALUES
+
+
+def text(name, count, middle=None):
+    """The text of a name, with so many begins and ends."""
+    before, begin, between, end, after = TEXTS[name]
+    return before + begin * count + (between if middle is None else middle) + end * count + after
+
+
+if __name__ == "__main__":
+    if len(sys.argv) == 2:
+        print("\n".join(KINDS[sys.argv[1]]))
+    else:
+        sys.stdout.write(text(sys.argv[1], int(sys.argv[2]), *sys.argv[3:]))

@@ -1,0 +1,57 @@
+// What the compiler is told of a piece of a template.
+ghost use Rattle.std.specs.Prelude.{◌≡◌, [], OnOk};
+ghost use Rattle.upon_compiler.specs.After.{after};
+ghost use Rattle.upon_compiler.specs.Compiler.{state_of};
+ghost use Rattle.upon_instructions.specs.Program.{program_view};
+ghost use Rattle.upon_tag_parser.specs.BlockTags.{BlockTag, Keeps, tag_code};
+ghost use Rattle.upon_syntax.specs.Pieces.{Piece as ToldPiece, KeepsPiece, piece_code};
+ghost use Rattle.upon_syntax.specs.Told.{event_of, tag_event};
+
+use crate::compile::parse::piece::Piece;
+use std::alloc::AllocError;
+use upon_compiler::compile::Compiler;
+use upon_instructions::types::program::Instr;
+use upon_tag_parser::compile::parse::tag::Tag;
+
+/// Tells a compiler of a piece, whose expression has these instructions if it has one, and leaves none of them behind. It
+/// fails if memory is out.
+pub(crate) fn tell(
+    compiler: &mut Compiler,
+    piece: Piece,
+    code: &mut Vec<Instr>,
+) -> Result<(), AllocError>
+    ensures state { (told : ToldPiece) → KeepsPiece piece told → program_view code.old.items ≡ piece_code told
+        → OnOk result (state_of compiler.new ≡ after (event_of told) (state_of compiler.old)) }
+    ensures moved { (told : ToldPiece) → KeepsPiece piece told → program_view code.old.items ≡ piece_code told
+        → OnOk result (code.new.items ≡ []) }
+{
+    match piece {
+        Piece::Raw(span) => compiler.raw(span),
+        Piece::InlineExpr => compiler.shown(code),
+        Piece::Block(tag) => tell_tag(compiler, tag, code),
+    }
+}
+
+// Does the same for a tag of a block.
+fn tell_tag(compiler: &mut Compiler, tag: Tag, code: &mut Vec<Instr>) -> Result<(), AllocError>
+    ensures state { (told : BlockTag) → Keeps tag told → program_view code.old.items ≡ tag_code told
+        → OnOk result (state_of compiler.new ≡ after (tag_event told) (state_of compiler.old)) }
+    ensures moved { (told : BlockTag) → Keeps tag told → program_view code.old.items ≡ tag_code told
+        → OnOk result (code.new.items ≡ []) }
+{
+    match tag {
+        Tag::If(not) => compiler.begin_if(code, not),
+        Tag::ElseIf(not) => compiler.else_if(code, not),
+        Tag::Else => compiler.begin_else(),
+        Tag::EndIf => {
+            compiler.end_if();
+            Ok(())
+        }
+        Tag::For(vars, span) => compiler.begin_for(code, vars, span),
+        Tag::EndFor => compiler.end_for(),
+        Tag::With(name) => compiler.begin_with(code, name),
+        Tag::EndWith => compiler.end_with(),
+        Tag::Include(name) => compiler.include(name),
+        Tag::IncludeWith(name) => compiler.include_with(code, name),
+    }
+}
