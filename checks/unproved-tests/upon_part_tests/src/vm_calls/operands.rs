@@ -93,13 +93,12 @@ fn goes_into_a_list(alloc: std::alloc::Global, depth: usize) -> Result<bool, All
     Ok(push_item(&mut operands).is_ok())
 }
 
-// Whether it may be put into a map; it is lent.
+// Whether it may be put into a map.
 fn goes_into_a_map(alloc: std::alloc::Global, depth: usize) -> Result<bool, AllocError> {
-    let lent = nested(alloc, depth)?;
     let map = Value::from_entries(alloc, Vec::<(String, Value)>::new(alloc).into_iter())?;
     let mut operands = Operands::new(alloc);
     operands.push(ValueCow::Owned(map), at(0))?;
-    operands.push(ValueCow::Borrowed(&lent), at(1))?;
+    operands.push(ValueCow::Owned(nested(alloc, depth)?), at(1))?;
     Ok(insert_entry(&mut operands, &key(alloc, "k")?).is_ok())
 }
 
