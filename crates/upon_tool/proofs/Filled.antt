@@ -17,14 +17,14 @@ use Rattle.upon_meaning_spec.specs.Engine.{Table, Template}
 use Rattle.upon_engine.specs.Changes.{empty_engine, unless_refused, with_callable, with_default_formatter, with_text}
 use Rattle.upon_engine.specs.Faults.{IsSyntaxErrorOf}
 use Rattle.upon_engine.specs.Texts.{Stored, Texts}
-use Rattle.upon_engine.specs.Theorem.{IsTable, Sends}
+use Rattle.upon_engine.specs.Theorem.{IsTable}
 use Rattle.upon_engine.specs.declared.needs.Needs.{Needs}
 use Rattle.upon_tool_io.specs.declared.files.ReadFault.{ReadFault}
 use Rattle.upon_html.specs.Escaped.{escaped}
 use Rattle.upon_json.specs.Context.{set_pairs}
 use Rattle.upon_tool.specs.Library.{IsOfAdded}
 use Rattle.upon_tool.specs.Names.{needs_text, NeededBy}
-use Rattle.upon_tool.specs.Rendering.{json_in, Renders, ShowsPage}
+use Rattle.upon_tool.specs.Rendering.{json_in, Renders, SendsPage, ShowsPage, StaysWithin}
 use Rattle.upon_tool.specs.Sources.{IsTextAt}
 use Rattle.upon_tool.specs.Status.{end_status}
 use Rattle.upon_tool.specs.Words.{json_named}
@@ -67,7 +67,8 @@ json_is (Some name) later (Some text) is = refl
 pub page_shown : (html : Bool) (files : List FolderFile) (folder e : Texts) (page : Page) (text : List ℕ) (status : ℕ) (old new : Option (List ℕ)) (json : Option (List ℕ)) (pairs : List (List ℕ × Val)) → TakesFiles files (html_engine html) folder
     → e ≡ with_text page.name.now text folder → EachHasTree e → ShowsPage e page status old new → json_in page.json ≡ json → set_pairs page.set.now ≡ pairs
     → (tree : Statements) × ∥ HasTree default_delimiters text tree ∥₁
-    × ((end : Result (Unit {0}) Failure) × (status ≡ end_status end) × Renders json pairs (λ v r. Sends (with_text page.name.now text folder) (Some page.name.now) text tree v r old new) end)
+    × ((end : Result (Unit {0}) Failure) × (status ≡ end_status end) × Renders json pairs (λ v r. SendsPage page.limits (with_text page.name.now text folder) (Some page.name.now) text tree v r old new) end
+    × StaysWithin page.limits.output old new)
 page_shown html files folder e page text status old new json pairs takes is each shows same_json same_pairs =
     let name = page.name.now in
     let filled : Texts = with_text name text folder in
@@ -80,8 +81,9 @@ page_shown html files folder e page text status old new json pairs takes is each
       (
         said.0,
         said.1,
-        subst (λ json. Renders json pairs (λ v r. Sends filled (Some name) text has.0 v r old new) said.0) same_json
-            (subst (λ pairs. Renders (json_in page.json) pairs (λ v r. Sends filled (Some name) text has.0 v r old new) said.0) same_pairs said.2),
+        subst (λ json. Renders json pairs (λ v r. SendsPage page.limits filled (Some name) text has.0 v r old new) said.0) same_json
+            (subst (λ pairs. Renders (json_in page.json) pairs (λ v r. SendsPage page.limits filled (Some name) text has.0 v r old new) said.0) same_pairs said.2),
+        said.3,
       ),
     )
 

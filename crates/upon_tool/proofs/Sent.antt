@@ -1,5 +1,5 @@
 -- What an output has received of a page.
-use Rattle.std.proofs.Common.{◌≡◌, ◌∙◌, ℕ, List, [], Option, Some, None, Result, Ok, Err, IsErrAnd, sym, subst, inl, inr}
+use Rattle.std.proofs.Common.{◌≡◌, ◌∙◌, ◌||◌, arith, ℕ, List, [], Bool, true, false, Option, Some, None, is_some, Result, Ok, Err, IsErrAnd, IsSomeAnd, sym, subst, inl, inr}
 use Rattle.std.proofs.lemmas.List.{append-nil}
 use Rattle.std.specs.Io.KnownBytes.{Appends, Keeps}
 use Rattle.std.specs.declared.alloc.Global.{Global}
@@ -9,12 +9,16 @@ use Rattle.upon_types.specs.Tree.{Statements}
 use Rattle.upon_types.specs.Val.{Val}
 use Rattle.upon_types.specs.declared.error.Error.{Error}
 use Rattle.upon_meaning_spec.specs.Outcome.{Outcome}
+use Rattle.upon_vm.specs.Limits.{GrowsWithin}
 use Rattle.upon_vm.specs.Reports.{IsAnyIo, Writes}
-use Rattle.upon_engine.specs.Texts.{texts_of}
-use Rattle.upon_engine.specs.Theorem.{Sends, meaning}
+use Rattle.upon_vm.specs.Within.{WritesWithin}
+use Rattle.upon_vm.specs.declared.limits.Limits.{Limits}
+use Rattle.upon_engine.specs.Texts.{texts_of, Texts}
+use Rattle.upon_engine.specs.Theorem.{meaning}
+use Rattle.upon_engine.specs.Within.{runs}
 use Rattle.upon_engine.specs.declared.engine.Engine.{Engine as Held}
 use Rattle.upon_json.specs.Context.{IsContext}
-use Rattle.upon_tool.specs.Rendering.{Renders, Shows}
+use Rattle.upon_tool.specs.Rendering.{is_limited, Renders, SendsIf, SendsPage, Shows, StaysWithin}
 use Rattle.upon_tool.specs.declared.failure.Failure.{Failure}
 use Rattle.upon_tool.specs.declared.failure.Failure.TheVariants.{NoEquals, InputTwice, Unreadable, NotText}
 use Rattle.upon_tool.specs.declared.failure.Failure.TheVariants.{Data, Unwritable, Fault}
@@ -29,58 +33,114 @@ writes_kept : {Q : Type 0} (limit : ℕ) (e : Error) (old mid new : Option (List
 writes_kept limit e old mid new o keeps (inl said) = inl (said.0, appends_kept old mid new o.text said.1 keeps)
 writes_kept limit e old mid new o keeps (inr said) = inr (said.0, (said.1.0, said.1.1, said.1.2, appends_kept old mid new said.1.0 said.1.3 keeps))
 
+-- the same within limits
+within_kept : {Q : Type 0} (depth : ℕ) (limits : Limits) (ran : ℕ → Option (Outcome Q)) (e : Error) (old mid new : Option (List ℕ)) (o : Outcome Q) → Keeps mid new → WritesWithin depth IsAnyIo limits ran (Err e) old mid o → WritesWithin depth IsAnyIo limits ran (Err e) old new o
+within_kept depth limits ran e old mid new o keeps (inl said) = inl (said.0, appends_kept old mid new o.text said.1 keeps, said.2)
+within_kept depth limits ran e old mid new o keeps (inr said) = inr (said.0, (said.1.0, said.1.1, said.1.2, appends_kept old mid new said.1.0 said.1.3 keeps))
+
+-- ---- by whether a limit is set
+module _ (limits : Limits) (e : Texts) (name : Option (List ℕ)) (source : List ℕ) (tree : Statements) (v : Val) (old sent new : Option (List ℕ)) (keeps : Keeps sent new) where
+  -- what was sent stays so as the output is flushed
+  whole_kept : (limited : Bool) → SendsIf limited limits e name source tree v (Ok tt) old sent → SendsIf limited limits e name source tree v (Ok tt) old new
+  whole_kept false says = λ table it.
+      ((says table it).0, appends_kept old sent new (meaning e table name source tree v).text (says table it).1 keeps)
+  whole_kept true says = λ table it.
+      ((says table it).0, appends_kept old sent new (meaning e table name source tree v).text (says table it).1 keeps, (says table it).2)
+
+  -- and so it is if the rendering failed
+  fault_kept : (limited : Bool) (error : Error) → SendsIf limited limits e name source tree v (Err error) old sent → SendsIf limited limits e name source tree v (Err error) old new
+  fault_kept false error says = λ table it. writes_kept e.depth error old sent new (meaning e table name source tree v) keeps (says table it)
+  fault_kept true error says = λ table it. within_kept e.depth limits (runs e table name source tree v) error old sent new (meaning e table name source tree v) keeps (says table it)
+
+  -- if the flush fails, the output may have less of it
+  flush_failed : (limited : Bool) (error : Error) → IsAnyIo error → SendsIf limited limits e name source tree v (Ok tt) old sent → SendsIf limited limits e name source tree v (Err error) old new
+  flush_failed false error io says = λ table it.
+      let whole = (meaning e table name source tree v).text in
+      inr (inr io, (whole, [], sym (append-nil whole), appends_kept old sent new whole (says table it).1 keeps))
+  flush_failed true error io says = λ table it.
+      let whole = (meaning e table name source tree v).text in
+      inr (inr (inl io), (whole, [], sym (append-nil whole), appends_kept old sent new whole (says table it).1 keeps))
+
+-- ---- how many bytes were sent
+-- of nothing
+pub nothing_stays : (limit : Option ℕ) (old : Option (List ℕ)) → StaysWithin limit old old
+nothing_stays None old = tt
+nothing_stays (Some n) None = ([], omega arith, tt)
+nothing_stays (Some n) (Some xs) = ([], omega arith, sym (append-nil xs))
+
+-- of what was sent within limits
+pub grown_stays : (limit : Option ℕ) (old new : Option (List ℕ)) → GrowsWithin limit old new → StaysWithin limit old new
+grown_stays None old new grows = tt
+grown_stays (Some n) old new grows = grows
+
+-- without a limit
+unlimited : (steps output : Option ℕ) (old new : Option (List ℕ)) → (is_some steps || is_some output) ≡ false → StaysWithin output old new
+unlimited steps None old new is = tt
+unlimited None (Some n) old new is = absurd cc
+unlimited (Some k) (Some n) old new is = absurd cc
+
+pub unlimited_stays : (limits : Limits) (old new : Option (List ℕ)) → is_limited limits ≡ false → StaysWithin limits.output old new
+unlimited_stays limits old new is = unlimited limits.steps limits.output old new is
+
+-- a flush sends nothing more
+pub stays_kept : (limit : Option ℕ) (old sent new : Option (List ℕ)) → Keeps sent new → StaysWithin limit old sent → StaysWithin limit old new
+stays_kept None old sent new keeps stays = tt
+stays_kept (Some n) old sent new keeps stays = (stays.0, stays.1, appends_kept old sent new stays.0 stays.2 keeps)
+
 module _ {X Y : Type 0} {P : X → Type 0} {Q : Y → Type 0} (formats : DynBox X Global P → Formatter) (answers : DynBox Y Global Q → Function) where
+  -- what is said of a call within limits, or without them
+  pub sent_by : (h : Held X Y P Q) (limits : Limits) (name : Option (List ℕ)) (source : List ℕ) (tree : Statements) (v : Val) (old new : Option (List ℕ)) (limited : Bool) (r : Option (Result (Unit {0}) Error)) → is_limited limits ≡ limited
+      → IsSomeAnd r (λ r. SendsIf limited limits (texts_of formats answers h) name source tree v r old new)
+      → IsSomeAnd r (λ r. SendsPage limits (texts_of formats answers h) name source tree v r old new)
+  sent_by h limits name source tree v old new limited r is says =
+      subst (λ limited. IsSomeAnd r (λ r. SendsIf limited limits (texts_of formats answers h) name source tree v r old new)) (sym is) says
+
   -- a rendering that ended well has shown the page
-  pub shown : (h : Held X Y P Q) (name : Option (List ℕ)) (source : List ℕ) (tree : Statements) (json : Option (List ℕ)) (pairs : List (List ℕ × Val)) (old new : Option (List ℕ)) (v : Val) (r : Result (Unit {0}) Error) (u : Unit {0})
-      → r ≡ Ok u → IsContext json pairs v → Sends (texts_of formats answers h) name source tree v r old new
-      → Shows json pairs (λ v r. Sends (texts_of formats answers h) name source tree v r old new)
-  shown h name source tree json pairs old new v r u is context says =
-      (v, context, λ table it. subst (λ r. Writes h.depth IsAnyIo r old new (meaning (texts_of formats answers h) table name source tree v)) is (says table it))
+  pub shown : (h : Held X Y P Q) (limits : Limits) (name : Option (List ℕ)) (source : List ℕ) (tree : Statements) (json : Option (List ℕ)) (pairs : List (List ℕ × Val)) (old new : Option (List ℕ)) (v : Val) (r : Result (Unit {0}) Error) (u : Unit {0})
+      → r ≡ Ok u → IsContext json pairs v → SendsPage limits (texts_of formats answers h) name source tree v r old new
+      → Shows json pairs (λ v r. SendsPage limits (texts_of formats answers h) name source tree v r old new)
+  shown h limits name source tree json pairs old new v r u is context says =
+      (v, context, subst (λ r. SendsPage limits (texts_of formats answers h) name source tree v r old new) is says)
 
   -- one that failed has its fault
-  pub failed : (h : Held X Y P Q) (name : Option (List ℕ)) (source : List ℕ) (tree : Statements) (json : Option (List ℕ)) (pairs : List (List ℕ × Val)) (old new : Option (List ℕ)) (v : Val) (r : Result (Unit {0}) Error) (e : Error)
-      → r ≡ Err e → IsContext json pairs v → Sends (texts_of formats answers h) name source tree v r old new
-      → (v : Val) × IsContext json pairs v × Sends (texts_of formats answers h) name source tree v (Err e) old new
-  failed h name source tree json pairs old new v r e is context says =
-      (v, context, λ table it. subst (λ r. Writes h.depth IsAnyIo r old new (meaning (texts_of formats answers h) table name source tree v)) is (says table it))
+  pub failed : (h : Held X Y P Q) (limits : Limits) (name : Option (List ℕ)) (source : List ℕ) (tree : Statements) (json : Option (List ℕ)) (pairs : List (List ℕ × Val)) (old new : Option (List ℕ)) (v : Val) (r : Result (Unit {0}) Error) (e : Error)
+      → r ≡ Err e → IsContext json pairs v → SendsPage limits (texts_of formats answers h) name source tree v r old new
+      → (v : Val) × IsContext json pairs v × SendsPage limits (texts_of formats answers h) name source tree v (Err e) old new
+  failed h limits name source tree json pairs old new v r e is context says =
+      (v, context, subst (λ r. SendsPage limits (texts_of formats answers h) name source tree v r old new) is says)
 
   -- what was shown stays so as the output is flushed
-  pub shows_kept : (h : Held X Y P Q) (name : Option (List ℕ)) (source : List ℕ) (tree : Statements) (json : Option (List ℕ)) (pairs : List (List ℕ × Val)) (old sent new : Option (List ℕ)) → Keeps sent new
-      → Shows json pairs (λ v r. Sends (texts_of formats answers h) name source tree v r old sent)
-      → Shows json pairs (λ v r. Sends (texts_of formats answers h) name source tree v r old new)
-  shows_kept h name source tree json pairs old sent new keeps shown =
-      (shown.0, shown.1, λ table is. ((shown.2 table is).0, appends_kept old sent new (meaning (texts_of formats answers h) table name source tree shown.0).text (shown.2 table is).1 keeps))
+  pub shows_kept : (h : Held X Y P Q) (limits : Limits) (name : Option (List ℕ)) (source : List ℕ) (tree : Statements) (json : Option (List ℕ)) (pairs : List (List ℕ × Val)) (old sent new : Option (List ℕ)) → Keeps sent new
+      → Shows json pairs (λ v r. SendsPage limits (texts_of formats answers h) name source tree v r old sent)
+      → Shows json pairs (λ v r. SendsPage limits (texts_of formats answers h) name source tree v r old new)
+  shows_kept h limits name source tree json pairs old sent new keeps shown =
+      (shown.0, shown.1, whole_kept limits (texts_of formats answers h) name source tree shown.0 old sent new keeps (is_limited limits) shown.2)
 
   -- and so does what a failed rendering has sent
-  pub renders_kept : (h : Held X Y P Q) (name : Option (List ℕ)) (source : List ℕ) (tree : Statements) (json : Option (List ℕ)) (pairs : List (List ℕ × Val)) (old sent new : Option (List ℕ)) (f : Failure) → Keeps sent new
-      → Renders json pairs (λ v r. Sends (texts_of formats answers h) name source tree v r old sent) (Err f)
-      → Renders json pairs (λ v r. Sends (texts_of formats answers h) name source tree v r old new) (Err f)
-  renders_kept h name source tree json pairs old sent new (Fault e) keeps said =
-      (said.0, said.1, λ table it. writes_kept h.depth e old sent new (meaning (texts_of formats answers h) table name source tree said.0) keeps (said.2 table it))
-  renders_kept h name source tree json pairs old sent new (Data file fault) keeps said = said
-  renders_kept h name source tree json pairs old sent new (NoEquals word) keeps said = said
-  renders_kept h name source tree json pairs old sent new InputTwice keeps said = said
-  renders_kept h name source tree json pairs old sent new (Unreadable file) keeps said = said
-  renders_kept h name source tree json pairs old sent new (NotText file) keeps said = said
-  renders_kept h name source tree json pairs old sent new (Unwritable file error) keeps said = said
+  pub renders_kept : (h : Held X Y P Q) (limits : Limits) (name : Option (List ℕ)) (source : List ℕ) (tree : Statements) (json : Option (List ℕ)) (pairs : List (List ℕ × Val)) (old sent new : Option (List ℕ)) (f : Failure) → Keeps sent new
+      → Renders json pairs (λ v r. SendsPage limits (texts_of formats answers h) name source tree v r old sent) (Err f)
+      → Renders json pairs (λ v r. SendsPage limits (texts_of formats answers h) name source tree v r old new) (Err f)
+  renders_kept h limits name source tree json pairs old sent new (Fault e) keeps said =
+      (said.0, said.1, fault_kept limits (texts_of formats answers h) name source tree said.0 old sent new keeps (is_limited limits) e said.2)
+  renders_kept h limits name source tree json pairs old sent new (Data file fault) keeps said = said
+  renders_kept h limits name source tree json pairs old sent new (NoEquals word) keeps said = said
+  renders_kept h limits name source tree json pairs old sent new InputTwice keeps said = said
+  renders_kept h limits name source tree json pairs old sent new (Unreadable file) keeps said = said
+  renders_kept h limits name source tree json pairs old sent new (NotText file) keeps said = said
+  renders_kept h limits name source tree json pairs old sent new (Unwritable file error) keeps said = said
 
   -- a rendering that ended well, of which the output was not flushed
-  pub not_flushed : (h : Held X Y P Q) (name : Option (List ℕ)) (source : List ℕ) (tree : Statements) (json : Option (List ℕ)) (pairs : List (List ℕ × Val)) (old sent new : Option (List ℕ)) (e : Error) → IsAnyIo e → Keeps sent new
-      → Shows json pairs (λ v r. Sends (texts_of formats answers h) name source tree v r old sent)
-      → Renders json pairs (λ v r. Sends (texts_of formats answers h) name source tree v r old new) (Err (Fault e))
-  not_flushed h name source tree json pairs old sent new e io keeps shown = (
-    shown.0,
-    shown.1,
-    λ table it.
-        let whole = (meaning (texts_of formats answers h) table name source tree shown.0).text in
-        inr (inr io, (whole, [], sym (append-nil whole), appends_kept old sent new whole (shown.2 table it).1 keeps)),
-  )
+  pub not_flushed : (h : Held X Y P Q) (limits : Limits) (name : Option (List ℕ)) (source : List ℕ) (tree : Statements) (json : Option (List ℕ)) (pairs : List (List ℕ × Val)) (old sent new : Option (List ℕ)) (e : Error) → IsAnyIo e → Keeps sent new
+      → Shows json pairs (λ v r. SendsPage limits (texts_of formats answers h) name source tree v r old sent)
+      → Renders json pairs (λ v r. SendsPage limits (texts_of formats answers h) name source tree v r old new) (Err (Fault e))
+  not_flushed h limits name source tree json pairs old sent new e io keeps shown =
+      (shown.0, shown.1, flush_failed limits (texts_of formats answers h) name source tree shown.0 old sent new keeps (is_limited limits) e io shown.2)
 
   -- a failure that is handed on
-  pub handed_on : (h : Held X Y P Q) (name : Option (List ℕ)) (source : List ℕ) (tree : Statements) (json : Option (List ℕ)) (pairs : List (List ℕ × Val)) (old new : Option (List ℕ)) (f : Failure) (r : Result (Unit {0}) Failure)
+  pub handed_on : (h : Held X Y P Q) (limits : Limits) (name : Option (List ℕ)) (source : List ℕ) (tree : Statements) (json : Option (List ℕ)) (pairs : List (List ℕ × Val)) (old new : Option (List ℕ)) (f : Failure) (r : Result (Unit {0}) Failure)
       → IsErrAnd r (λ x. x ≡ f)
-      → Renders json pairs (λ v r. Sends (texts_of formats answers h) name source tree v r old new) (Err f)
-      → Renders json pairs (λ v r. Sends (texts_of formats answers h) name source tree v r old new) r
-  handed_on h name source tree json pairs old new f (Ok u) is said = absurd is
-  handed_on h name source tree json pairs old new f (Err x) is said =
-      subst (λ x. Renders json pairs (λ v r. Sends (texts_of formats answers h) name source tree v r old new) (Err x)) (sym is) said
+      → Renders json pairs (λ v r. SendsPage limits (texts_of formats answers h) name source tree v r old new) (Err f)
+      → Renders json pairs (λ v r. SendsPage limits (texts_of formats answers h) name source tree v r old new) r
+  handed_on h limits name source tree json pairs old new f (Ok u) is said = absurd is
+  handed_on h limits name source tree json pairs old new f (Err x) is said =
+      subst (λ x. Renders json pairs (λ v r. SendsPage limits (texts_of formats answers h) name source tree v r old new) (Err x)) (sym is) said

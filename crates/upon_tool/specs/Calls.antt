@@ -5,10 +5,10 @@ use Rattle.upon_types.specs.Tree.{Statements}
 use Rattle.upon_types.specs.declared.error.Error.{Error}
 use Rattle.upon_language_spec.specs.DefaultDelimiters.{default_delimiters}
 use Rattle.upon_language_spec.specs.Grammar.{HasTree}
+use Rattle.upon_vm.specs.declared.limits.Limits.{Limits}
 use Rattle.upon_engine.specs.Changes.{with_text}
 use Rattle.upon_engine.specs.Faults.{IsSyntaxErrorOf}
 use Rattle.upon_engine.specs.Texts.{Texts}
-use Rattle.upon_engine.specs.Theorem.{Sends}
 use Rattle.upon_tool_io.specs.declared.arguments.Call.{Call}
 use Rattle.upon_tool_io.specs.declared.arguments.Call.TheVariants.{Render as RenderAsked, Check as CheckAsked, Names as NamesAsked}
 use Rattle.upon_tool_io.specs.declared.arguments.CheckCall.{CheckCall}
@@ -16,7 +16,7 @@ use Rattle.upon_tool_io.specs.declared.arguments.NamesCall.{NamesCall}
 use Rattle.upon_tool_io.specs.declared.arguments.RenderCall.{RenderCall}
 use Rattle.upon_tool.specs.Filled.{html_engine, TakesFiles}
 use Rattle.upon_tool.specs.Refusals.{Refuses}
-use Rattle.upon_tool.specs.Rendering.{Renders}
+use Rattle.upon_tool.specs.Rendering.{Renders, SendsPage, StaysWithin}
 use Rattle.upon_tool.specs.Sources.{IsTextAt, IsTextOf}
 use Rattle.upon_tool.specs.Status.{end_status, status_of}
 use Rattle.upon_tool.specs.Words.{is_standard, split_words}
@@ -24,9 +24,14 @@ use Rattle.upon_tool.specs.Work.{to_standard, ChecksFiles, EachFileIsRight, List
 use Rattle.upon_tool.specs.declared.failure.Failure.{Failure}
 use Rattle.upon_tool.specs.declared.sources.FolderFile.{FolderFile}
 
+-- the limits that a call asks for
+abbrev pub limits_asked : RenderCall → Limits
+limits_asked call = record { steps = call.max_steps; output = call.max_output }
+
 -- A call of `render` ends with a status, by what standard input had left, if that is known. FILE's text was read, and
 -- the text of the context, after it; and then the folder's files. If the output is standard output, FILE's text has a
--- tree, whose meaning was sent to it on the context, with FILE over the folder's files, up to an end of this status.
+-- tree, whose meaning was sent to it on the context, with FILE over the folder's files, up to an end of this status; and
+-- no more bytes than the call allows.
 pub record RendersCall (call : RenderCall) (input : Option (List ℕ)) (status : ℕ) (old new : Option (List ℕ))
     : Type 0 where
   pub text : List ℕ
@@ -41,7 +46,8 @@ pub record RendersCall (call : RenderCall) (input : Option (List ℕ)) (status :
   pub taken : TakesFiles files (html_engine call.html) folder
   pub shown : to_standard call.out ≡ true → (tree : Statements) × ∥ HasTree default_delimiters text tree ∥₁
       × ((end : Result (Unit {0}) Failure) × (status ≡ end_status end) × Renders json (split_words call.set.items)
-      (λ v r. Sends (with_text call.file.now text folder) (Some call.file.now) text tree v r old new) end)
+      (λ v r. SendsPage (limits_asked call) (with_text call.file.now text folder) (Some call.file.now) text tree v r
+      old new) end × StaysWithin call.max_output old new)
 
 -- A call of `names` ends with a status, so. If that is 0, it was listed what FILE's text needs, with the folder's files.
 pub record ListsCall (call : NamesCall) (input : Option (List ℕ)) (status : ℕ) (old new : Option (List ℕ))

@@ -1,12 +1,15 @@
 -- What a rendering on JSON answers.
-use Rattle.std.specs.Prelude.{◌≡◌, ℕ, List, Bool, true, false, Option, Some, option_map, Result, Ok, Err}
+use Rattle.std.specs.Prelude.{◌≡◌, ◌||◌, ℕ, List, Bool, true, false, Option, Some, None, is_some, option_map, Result, Ok, Err}
 use Rattle.std.specs.Borrow.{Bor}
 use Rattle.upon_types.specs.Tree.{Statements}
 use Rattle.upon_types.specs.Val.{Val}
 use Rattle.upon_types.specs.declared.error.Error.{Error}
 use Rattle.upon_language_spec.specs.Grammar.{HasTree}
+use Rattle.upon_vm.specs.Limits.{GrowsWithin}
+use Rattle.upon_vm.specs.declared.limits.Limits.{Limits}
 use Rattle.upon_engine.specs.Texts.{Stored, Texts}
 use Rattle.upon_engine.specs.Theorem.{Sends}
+use Rattle.upon_engine.specs.Within.{SendsWithin}
 use Rattle.upon_json.specs.Context.{set_pairs, IsContext, IsRefusal}
 use Rattle.upon_tool.specs.Status.{end_status}
 use Rattle.upon_tool.specs.declared.rendering.Page.{Page}
@@ -28,6 +31,27 @@ is_of_data (NotText name) = false
 is_of_data (Unwritable name error) = false
 is_of_data (Fault error) = false
 
+-- whether a limit is set
+abbrev pub is_limited : Limits → Bool
+is_limited limits = is_some limits.steps || is_some limits.output
+
+-- what was sent of the tree of a text: without limits, or within them
+abbrev pub SendsIf : Bool → Limits → Texts → Option (List ℕ) → List ℕ → Statements → Val → Result (Unit {0}) Error
+    → Option (List ℕ) → Option (List ℕ) → Type 0
+SendsIf false limits e name text tree v result old new = Sends e name text tree v result old new
+SendsIf true limits e name text tree v result old new = SendsWithin e limits name text tree v result old new
+
+-- What was sent, by the limits: what the theorem says if none is set, and else what is said of renderings within limits.
+abbrev pub SendsPage : Limits → Texts → Option (List ℕ) → List ℕ → Statements → Val → Result (Unit {0}) Error
+    → Option (List ℕ) → Option (List ℕ) → Type 0
+SendsPage limits e name text tree v result old new =
+    SendsIf (is_limited limits) limits e name text tree v result old new
+
+-- no more bytes were received than the limit is, if that is set
+abbrev pub StaysWithin : Option ℕ → Option (List ℕ) → Option (List ℕ) → Type 0
+StaysWithin None old new = Unit {0}
+StaysWithin (Some limit) old new = GrowsWithin (Some limit) old new
+
 -- it is shown on the context
 abbrev pub Shows : Option (List ℕ) → List (List ℕ × Val) → (Val → Result (Unit {0}) Error → Type 0) → Type 0
 Shows json pairs Sent = (v : Val) × IsContext json pairs v × Sent v (Ok tt)
@@ -45,10 +69,11 @@ Renders json pairs Sent (Err (NotText name)) = ⊥
 Renders json pairs Sent (Err (Unwritable name error)) = ⊥
 
 -- A page is shown by an engine that holds these texts. If a text is held under its name, what its tree means was sent on
--- the context, up to an end that has this status.
+-- the context, up to an end that has this status, and no more bytes than a limit allows.
 abbrev pub ShowsPage : Texts → Page → ℕ → Option (List ℕ) → Option (List ℕ) → Type 0
 ShowsPage e page status old new = (held : Stored) (tree : Statements) → e.texts page.name.now ≡ Some held
     → ∥ HasTree held.syntax held.text tree ∥₁
     → (end : Result (Unit {0}) Failure) × (status ≡ end_status end)
     × Renders (json_in page.json) (set_pairs page.set.now)
-    (λ v r. Sends e (Some page.name.now) held.text tree v r old new) end
+    (λ v r. SendsPage page.limits e (Some page.name.now) held.text tree v r old new) end
+    × StaysWithin page.limits.output old new

@@ -15,6 +15,7 @@ use crate::work::{Templates, Work, carry_out};
 use std::alloc::Global;
 use std::io::{Read, Write};
 use std::rt::Files;
+use upon::Limits;
 use upon_tool_io::arguments::{self, Call, CheckCall, NamesCall, RenderCall};
 
 /// Does what the words ask for, of which the first is the program's name, and returns the status. Templates and
@@ -126,6 +127,10 @@ fn run_render<'a, R: Files + AllocGlobal + Clone + Drop, I: Read, O: Write, E: W
         name: call.file,
         json: named(call.data, &json),
         set: set.as_slice(),
+        limits: Limits {
+            steps: call.max_steps,
+            output: call.max_output,
+        },
     };
     carry_out(
         rt,

@@ -1,18 +1,18 @@
 // A template rendered on the value of JSON.
-ghost use Rattle.std.specs.Prelude.{◌≡◌, ◌≤◌, None, Some, IfErr, IsErr, option_map, true};
+ghost use Rattle.std.specs.Prelude.{◌≡◌, ◌≤◌, ◌↔◌, None, Some, IfErr, IsErr, IsNone, IsSomeAnd, option_map, true};
 ghost use Rattle.upon_types.specs.Tree.{Statements};
+ghost use Rattle.upon_types.specs.View.{view};
 ghost use Rattle.upon_language_spec.specs.Grammar.{HasTree};
 ghost use Rattle.upon_engine.specs.Texts.{Stored};
-ghost use Rattle.upon_engine.specs.Theorem.{Sends};
 ghost use Rattle.upon_json.specs.Context.{set_pairs};
-ghost use Rattle.upon_tool.specs.Rendering.{json_in, is_of_data, Renders, Shows, ShowsPage};
+ghost use Rattle.upon_tool.specs.Rendering.{json_in, is_limited, is_of_data, Renders, SendsPage, Shows, ShowsPage, StaysWithin};
 ghost use Rattle.upon_tool.specs.Status.{status_of};
 
 use crate::failure::{Failure, report, report_fault};
 use crate::library::{Library, Refusal};
 use std::alloc::Global;
 use std::io;
-use upon::{AnyEngine, Engine, EngineTexts};
+use upon::{AnyEngine, Engine, EngineTexts, Limits, Value};
 use upon_json::context::context;
 
 /// A template of an engine, with what it is rendered on.
@@ -24,6 +24,8 @@ pub struct Page<'a, 't, 's> {
     pub json: Option<(&'a str, &'t str)>,
     /// Texts that are set over it, by their keys; of equal keys the last counts.
     pub set: &'s [(&'a str, &'a str)],
+    /// How far its rendering may go.
+    pub limits: Limits,
 }
 
 /// Writes the text of a page.
@@ -38,7 +40,10 @@ pub fn render<'a, O: io::Write>(
         (held : Stored) (tree : Statements) → texts.texts page.now.name.now ≡ Some held
         → ∥ HasTree held.syntax held.text tree ∥₁
         → Renders (json_in page.now.json) (set_pairs page.now.set.now) (λ v r.
-        Sends texts (Some page.now.name.now) held.text tree v r (O.contents out.old) (O.contents out.new)) result }
+        SendsPage page.now.limits texts (Some page.now.name.now) held.text tree v r
+        (O.contents out.old) (O.contents out.new)) result }
+    // It never receives more bytes than the limit is, if that is set.
+    ensures bounded { StaysWithin page.now.limits.output (O.contents out.old) (O.contents out.new) }
     // If none is, there is an error.
     ensures absent { let texts = ⟦<AnyEngine as EngineTexts>⟧.texts engine.now in
         texts.texts page.now.name.now ≡ None → IsErr result }
@@ -50,13 +55,43 @@ pub fn render<'a, O: io::Write>(
         Ok(value) => value,
         Err(fault) => return Err(Failure::Data(file, fault)),
     };
-    let Some(rendered) = engine.render_template_to(page.name, &value, out) else {
+    let Some(rendered) = send_on(engine, page, &value, out) else {
         return Err(Failure::Unreadable(page.name));
     };
     match rendered {
         Ok(()) => Ok(()),
         Err(error) => Err(Failure::Fault(error)),
     }
+}
+
+// Sends the text of a page's template on a value. If no limit is set, nothing is counted.
+fn send_on<O: io::Write>(
+    engine: &Engine<'_>,
+    page: &Page<'_, '_, '_>,
+    value: &Value,
+    out: &mut O,
+) -> Option<upon::Result<()>>
+    ensures means { let texts = ⟦<AnyEngine as EngineTexts>⟧.texts engine.now in
+        (held : Stored) (tree : Statements) → texts.texts page.now.name.now ≡ Some held
+        → ∥ HasTree held.syntax held.text tree ∥₁
+        → IsSomeAnd result (λ r. SendsPage page.now.limits texts (Some page.now.name.now) held.text tree (view value.now)
+        r (O.contents out.old) (O.contents out.new)) }
+    ensures bounded { StaysWithin page.now.limits.output (O.contents out.old) (O.contents out.new) }
+    ensures absent { let texts = ⟦<AnyEngine as EngineTexts>⟧.texts engine.now in
+        IsNone result ↔ (texts.texts page.now.name.now ≡ None) }
+{
+    if is_limited(&page.limits) {
+        engine.render_template_to_within(&page.limits, page.name, value, out)
+    } else {
+        engine.render_template_to(page.name, value, out)
+    }
+}
+
+// Whether a limit is set.
+fn is_limited(limits: &Limits) -> bool
+    ensures { result ≡ is_limited limits.now }
+{
+    limits.steps.is_some() || limits.output.is_some()
 }
 
 // The name of the context's file, and its text if it is there.
@@ -81,7 +116,10 @@ pub fn send<'a, O: io::Write>(
         (held : Stored) (tree : Statements) → texts.texts page.now.name.now ≡ Some held
         → ∥ HasTree held.syntax held.text tree ∥₁
         → Renders (json_in page.now.json) (set_pairs page.now.set.now) (λ v r.
-        Sends texts (Some page.now.name.now) held.text tree v r (O.contents out.old) (O.contents out.new)) result }
+        SendsPage page.now.limits texts (Some page.now.name.now) held.text tree v r
+        (O.contents out.old) (O.contents out.new)) result }
+    // It never receives more bytes than the limit is, if that is set.
+    ensures bounded { StaysWithin page.now.limits.output (O.contents out.old) (O.contents out.new) }
     // If none is, there is an error.
     ensures absent { let texts = ⟦<AnyEngine as EngineTexts>⟧.texts engine.now in
         texts.texts page.now.name.now ≡ None → IsErr result }
@@ -115,7 +153,8 @@ pub fn show<O: io::Write, E: io::Write>(
         (held : Stored) (tree : Statements) → texts.texts page.now.name.now ≡ Some held
         → ∥ HasTree held.syntax held.text tree ∥₁
         → result ≡ 0 → Shows (json_in page.now.json) (set_pairs page.now.set.now) (λ v r.
-        Sends texts (Some page.now.name.now) held.text tree v r (O.contents out.old) (O.contents out.new)) }
+        SendsPage page.now.limits texts (Some page.now.name.now) held.text tree v r
+        (O.contents out.old) (O.contents out.new)) }
     // If none is, the status is not 0.
     ensures absent { let texts = ⟦<AnyEngine as EngineTexts>⟧.texts engine.now in
         texts.texts page.now.name.now ≡ None → 1 ≤ result }

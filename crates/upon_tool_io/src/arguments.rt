@@ -1,6 +1,6 @@
 // The arguments of the program.
 use clap::error::ErrorKind;
-use clap::{Arg, ArgAction, ArgMatches, Command};
+use clap::{Arg, ArgAction, ArgMatches, Command, value_parser};
 use std::alloc::{AllocError, Global};
 
 /// What a call of the program asks for.
@@ -31,6 +31,10 @@ pub struct RenderCall<'a> {
     pub html: bool,
     /// Where the text goes; none and `-` are standard output.
     pub out: Option<&'a str>,
+    /// The most steps that the rendering takes; none is no limit.
+    pub max_steps: Option<usize>,
+    /// The most bytes that it writes; none is no limit.
+    pub max_output: Option<usize>,
 }
 
 /// A check that is asked for.
@@ -73,6 +77,10 @@ const FOLLOW: &str = "follow";
 const HTML: &str = "html";
 
 const OUT: &str = "out";
+
+const MAX_STEPS: &str = "max-steps";
+
+const MAX_OUTPUT: &str = "max-output";
 
 const JSON: &str = "json";
 
@@ -127,6 +135,8 @@ fn render_call<'a>(alloc: Global, matches: &ArgMatches<'a>) -> Result<RenderCall
         follow: matches.get_flag(FOLLOW),
         html: matches.get_flag(HTML),
         out: matches.get_str(OUT),
+        max_steps: matches.get_one::<usize>(MAX_STEPS),
+        max_output: matches.get_one::<usize>(MAX_OUTPUT),
     })
 }
 
@@ -202,7 +212,9 @@ fn render_command<'a>(alloc: Global) -> Result<Command<'a>, AllocError> {
             OUT,
             "OUT",
             "Write to this file, which is replaced if all went well",
-        ))
+        ))?
+        .arg(max_steps(alloc))?
+        .arg(max_output(alloc))
 }
 
 fn check_command<'a>(alloc: Global) -> Result<Command<'a>, AllocError> {
@@ -266,6 +278,24 @@ fn html<'a>(alloc: Global) -> Arg<'a> {
     )
 }
 
+fn max_steps<'a>(alloc: Global) -> Arg<'a> {
+    number(
+        alloc,
+        MAX_STEPS,
+        "N",
+        "Stop a rendering that takes more than N steps",
+    )
+}
+
+fn max_output<'a>(alloc: Global) -> Arg<'a> {
+    number(
+        alloc,
+        MAX_OUTPUT,
+        "BYTES",
+        "Stop a rendering that writes more than this many bytes",
+    )
+}
+
 fn json<'a>(alloc: Global) -> Arg<'a> {
     flag(alloc, JSON, "Write one JSON object in place of lines")
 }
@@ -285,4 +315,9 @@ fn option<'a>(alloc: Global, name: &'a str, value: &'a str, help: &'a str) -> Ar
         .value_name(value)
         .help(help)
         .action(ArgAction::Set)
+}
+
+// An argument by a name, with a whole number.
+fn number<'a>(alloc: Global, name: &'a str, value: &'a str, help: &'a str) -> Arg<'a> {
+    option(alloc, name, value, help).value_parser(value_parser!(usize))
 }

@@ -3,7 +3,7 @@ use crate::tool::libraries::library;
 use std::alloc::{AllocError, Global};
 use std::borrow::CowStr;
 use std::test::Fail;
-use upon::Engine;
+use upon::{Engine, Limits};
 use upon_html::formatters::{Escape, Verbatim};
 use upon_tool::library::Library;
 use upon_tool::rendering::{Page, show};
@@ -17,14 +17,24 @@ fn answer<'a>(
     json: &str,
     set: &[(&'a str, &'a str)],
 ) -> Result<String, AllocError> {
-    let mut out = Vec::new(alloc);
-    let mut err = Vec::new(alloc);
     let page = Page {
         name,
         json: Some(("data.json", json)),
         set,
+        limits: Limits::none(),
     };
-    let status = show(alloc, engine, library, &page, &mut out, &mut err);
+    shown(alloc, engine, library, &page)
+}
+
+fn shown(
+    alloc: Global,
+    engine: &Engine<'_>,
+    library: &Library,
+    page: &Page<'_, '_, '_>,
+) -> Result<String, AllocError> {
+    let mut out = Vec::new(alloc);
+    let mut err = Vec::new(alloc);
+    let status = show(alloc, engine, library, page, &mut out, &mut err);
     let out = String::from_utf8_lossy(alloc, out.as_slice())?;
     let err = String::from_utf8_lossy(alloc, err.as_slice())?;
     format!(in alloc; "{status}|{out}|{err}")
@@ -147,5 +157,35 @@ fn shows_the_fault_that_is_reached(rt: HostRuntime) -> Result<(), Fail> {
             .starts_with("1||invalid syntax\n\n  --> wr\"ng:1:3\n"),
         "{line}"
     );
+    Ok(())
+}
+
+#[test]
+fn stops_at_limits(rt: HostRuntime) -> Result<(), Fail> {
+    let alloc = rt.alloc();
+    let mut engine = Engine::new(alloc);
+    let files: [(&str, &[u8]); 1] = [("page", b"ab{{ x }}cd")];
+    let library = library(alloc, &mut engine, files.as_slice())?;
+    for (steps, output, wanted) in [
+        (None, None, "0|ab12cd|"),
+        (Some(5), None, "0|ab12cd|"),
+        (None, Some(6), "0|ab12cd|"),
+        (Some(5), Some(6), "0|ab12cd|"),
+        (Some(4), None, "1|ab12cd|render error\n\n  --> page:1:10\n"),
+        (Some(0), None, "1||render error\n\n  --> page:1:1\n"),
+        (None, Some(5), "1|ab12|render error\n\n  --> page:1:10\n"),
+        (None, Some(0), "1||render error\n\n  --> page:1:1\n"),
+    ] {
+        let page = Page {
+            name: "page",
+            json: Some(("data.json", "{\"x\": 12}")),
+            set: &[],
+            limits: Limits { steps, output },
+        };
+        let line = shown(alloc, &engine, &library, &page)?;
+        if !line.as_str().starts_with(wanted) {
+            return Err(Fail::new(format_args!("{line:?} in place of {wanted:?}")));
+        }
+    }
     Ok(())
 }

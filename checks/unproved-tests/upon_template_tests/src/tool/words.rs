@@ -31,8 +31,11 @@ fn render_line(alloc: Global, call: &RenderCall<'_>) -> Result<String, AllocErro
         follow,
         html,
         out,
+        max_steps,
+        max_output,
     } = call;
-    format!(in alloc; "{file} {data:?} {set:?} {templates:?} {follow} {html} {out:?}")
+    let limits = format!(in alloc; "{max_steps:?} {max_output:?}")?;
+    format!(in alloc; "{file} {data:?} {set:?} {templates:?} {follow} {html} {out:?} {limits}")
 }
 
 fn check_line(alloc: Global, call: &CheckCall<'_>) -> Result<String, AllocError> {
@@ -57,7 +60,7 @@ fn names_line(alloc: Global, call: &NamesCall<'_>) -> Result<String, AllocError>
 #[test]
 fn renderings(rt: HostRuntime) -> Result<(), Fail> {
     let alloc = rt.alloc();
-    asks(alloc, &["t", "render", "a"], "a None [] None false false None")?;
+    asks(alloc, &["t", "render", "a"], "a None [] None false false None None None")?;
     let words = [
         "t",
         "render",
@@ -74,10 +77,52 @@ fn renderings(rt: HostRuntime) -> Result<(), Fail> {
     asks(
         alloc,
         words.as_slice(),
-        "a Some(\"-\") [\"k=v\", \"k=-w\"] None false true Some(\"o\")",
+        "a Some(\"-\") [\"k=v\", \"k=-w\"] None false true Some(\"o\") None None",
     )?;
     let words = ["t", "render", "--templates", "d", "--follow", "--", "-a"];
-    asks(alloc, words.as_slice(), "-a None [] Some(\"d\") true false None")
+    asks(alloc, words.as_slice(), "-a None [] Some(\"d\") true false None None None")
+}
+
+#[test]
+fn limits(rt: HostRuntime) -> Result<(), Fail> {
+    let alloc = rt.alloc();
+    for (word, limits) in [
+        ("--max-steps=0", "Some(0) None"),
+        ("--max-output=0", "None Some(0)"),
+        ("--max-steps=18446744073709551615", "Some(18446744073709551615) None"),
+        ("--max-output=18446744073709551615", "None Some(18446744073709551615)"),
+    ] {
+        let wanted = format!(in alloc; "a None [] None false false None {limits}")?;
+        asks(alloc, &["t", "render", "a", word], wanted.as_str())?;
+    }
+    let words = ["t", "render", "--max-output", "20", "a", "--max-steps", "007"];
+    asks(alloc, words.as_slice(), "a None [] None false false None Some(7) Some(20)")
+}
+
+#[test]
+fn limits_that_are_refused(rt: HostRuntime) -> Result<(), Fail> {
+    let alloc = rt.alloc();
+    for option in ["--max-steps", "--max-output"] {
+        for (number, wanted) in [
+            ("x", "ValueValidation"),
+            ("1x", "ValueValidation"),
+            ("1.5", "ValueValidation"),
+            ("1e3", "ValueValidation"),
+            ("-1", "ValueValidation"),
+            (" 1", "ValueValidation"),
+            ("18446744073709551616", "ValueValidation"),
+            ("", "ValueValidation"),
+        ] {
+            let word = format!(in alloc; "{option}={number}")?;
+            asks(alloc, &["t", "render", "a", word.as_str()], wanted)?;
+        }
+        asks(alloc, &["t", "render", "a", option], "InvalidValue")?;
+        asks(alloc, &["t", "render", "a", option, "-1"], "UnknownArgument")?;
+        asks(alloc, &["t", "render", "a", option, "1", option, "1"], "ArgumentConflict")?;
+        asks(alloc, &["t", "check", "a", option, "1"], "UnknownArgument")?;
+        asks(alloc, &["t", "names", "a", option, "1"], "UnknownArgument")?;
+    }
+    Ok(())
 }
 
 #[test]

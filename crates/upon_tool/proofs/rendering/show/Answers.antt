@@ -2,7 +2,7 @@ use Rattle.std.proofs.Common.{◌≡◌, ◌≤◌, ◌∙◌, Some, Ok, Err, re
 use Rattle.upon_json.specs.Context.{set_pairs}
 use Rattle.upon_tool.specs.Rendering.{json_in}
 use Rattle.upon_tool.specs.Status.{status_of}
-use Rattle.upon_tool.proofs.Sent.{renders_kept}
+use Rattle.upon_tool.proofs.Sent.{renders_kept, stays_kept}
 use Rattle.upon_tool.proofs.Statuses.{least_status, most_status, no_success}
 use Rattle.upon_tool.proofs.rendering.show.Goals as goal
 
@@ -25,9 +25,13 @@ returns-clause-absent g c = λ none.
     subst (λ n. 1 ≤ n) (sym is) (least_status c.in-Err.failure)
 
 pub returns-in-Ok-clause-ends : goal.returns-in-Ok-clause-ends
-returns-in-Ok-clause-ends g c = λ held tree there has. (Ok tt, refl, c.in-Ok.ensures.means held tree there has)
+returns-in-Ok-clause-ends g c = λ held tree there has. (Ok tt, refl, c.in-Ok.ensures.means held tree there has, c.send.ensures.bounded)
 
 pub returns-clause-ends : goal.returns-clause-ends
 returns-clause-ends g c = λ held tree there has.
-    let page = c.args.page.now in
-    (Err c.in-Err.failure, c.explain.ensures, renders_kept _ _ c.args.engine.now (Some page.name.now) held.text tree (json_in page.json) (set_pairs page.set.now) (g.O.Write.contents c.args.out.now) (g.O.Write.contents c.send.new.out) (g.O.Write.contents c.flush.new.self) c.in-Err.failure c.flush.ensures.bytes (c.in-Err.ensures.means held tree there has))
+    let page = c.args.page.now in (
+      Err c.in-Err.failure,
+      c.explain.ensures,
+      renders_kept _ _ c.args.engine.now page.limits (Some page.name.now) held.text tree (json_in page.json) (set_pairs page.set.now) (g.O.Write.contents c.args.out.now) (g.O.Write.contents c.send.new.out) (g.O.Write.contents c.flush.new.self) c.in-Err.failure c.flush.ensures.bytes (c.in-Err.ensures.means held tree there has),
+      stays_kept page.limits.output (g.O.Write.contents c.args.out.now) (g.O.Write.contents c.send.new.out) (g.O.Write.contents c.flush.new.self) c.flush.ensures.bytes c.send.ensures.bounded,
+    )
