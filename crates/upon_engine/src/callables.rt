@@ -4,7 +4,7 @@ use std::alloc::Global;
 use upon_fmt::fmt::{self, Formatter};
 use upon_functions::function::CallError;
 use upon_types::value::{Value, ValueCow};
-use upon_vm_calls::callables::{Callables, EngineCallable};
+use upon_vm_calls::callables::{Applied, Callables, EngineCallable};
 
 impl<'r, 'e> Callables for &'r Engine<'e> {
     ghost use Rattle.upon_meaning_spec.specs.DefaultFormat.{formatter_or_default};
@@ -37,6 +37,19 @@ impl<'r, 'e> Callables for &'r Engine<'e> {
             Some(Callable::Formatter(formatter)) => formatter.format(f, value),
             Some(Callable::Function(_)) => fmt::default(f, value),
             None => fmt::default(f, value),
+        }
+    }
+
+    fn apply(&self, alloc: Global, name: &str, f: &mut Formatter, values: &[ValueCow]) -> Applied {
+        match self.callable(name) {
+            Some(Callable::Formatter(formatter)) => {
+                if values.len() != 1 {
+                    return Applied::Miscounted;
+                }
+                Applied::Formatted(formatter.format(f, &values[0]))
+            }
+            Some(Callable::Function(function)) => Applied::Called(function.call(alloc, values)),
+            None => Applied::Unknown,
         }
     }
 

@@ -12,7 +12,7 @@ use upon_fmt::fmt;
 use upon_fmt::fmt::{Format, Formatter};
 use upon_functions::function::CallError;
 use upon_types::value::{Value, ValueCow};
-use upon_vm_calls::callables::{Callables, EngineCallable};
+use upon_vm_calls::callables::{Applied, Callables, EngineCallable};
 
 /// The same functions and formatters, with the text that each formatter writes escaped, also that of the default one.
 #[derive(Drop)]
@@ -50,6 +50,16 @@ impl<C: Callables> Callables for Escaping<C> {
         let mut inner = Formatter::new(f.allocator());
         let ended = self.callables.format(name, &mut inner, value);
         append_escaped(f, inner, ended)
+    }
+
+    fn apply(&self, alloc: Global, name: &str, f: &mut Formatter, values: &[ValueCow]) -> Applied {
+        let mut inner = Formatter::new(f.allocator());
+        match self.callables.apply(alloc, name, &mut inner, values) {
+            Applied::Formatted(ended) => Applied::Formatted(append_escaped(f, inner, ended)),
+            Applied::Called(answer) => Applied::Called(answer),
+            Applied::Miscounted => Applied::Miscounted,
+            Applied::Unknown => Applied::Unknown,
+        }
     }
 
     fn is_plain(&self) -> bool {

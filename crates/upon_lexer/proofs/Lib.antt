@@ -19,4 +19,6 @@ pub mod Written
 pub mod Ways
 pub mod Marking
 pub mod Pairing
+pub mod DefaultBest
+pub mod Plain
 pub mod Built

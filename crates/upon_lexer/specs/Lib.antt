@@ -16,6 +16,8 @@ pub mod Nodes
 pub mod Grown
 pub mod Trie
 pub mod Pairs
+pub mod DefaultBest
+pub mod Plain
 pub mod FewBytes
 pub mod Marks
 pub mod Ways

@@ -7,6 +7,7 @@ mod few_bytes;
 mod inside;
 pub mod lex;
 mod marks;
+mod plain;
 mod roles;
 pub mod search;
 mod tags;

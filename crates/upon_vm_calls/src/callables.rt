@@ -6,7 +6,7 @@ ghost use Rattle.upon_types.specs.Answers.{Callable, Formatter as PureFormatter,
 ghost use Rattle.upon_types.specs.View.{view};
 ghost use Rattle.upon_meaning_spec.specs.DefaultFormat.{default_format};
 ghost use Rattle.upon_fmt.specs.Formatter.{Formats};
-ghost use Rattle.upon_vm_calls.specs.Calls.{sort_of};
+ghost use Rattle.upon_vm_calls.specs.Calls.{Applies, sort_of};
 
 use std::alloc::Global;
 use upon_fmt::fmt::{self, Formatter};
@@ -20,6 +20,19 @@ pub enum EngineCallable {
     Formatter,
     /// A function, which makes a value.
     Function,
+}
+
+/// What was done with a name and values.
+#[derive(Drop)]
+pub enum Applied {
+    /// Nothing: the name denotes nothing.
+    Unknown,
+    /// Nothing: the name is a formatter's, and there is not one value.
+    Miscounted,
+    /// The formatter wrote the value, and ended so.
+    Formatted(fmt::Result),
+    /// The function was called, and answered so.
+    Called(Result<Value, CallError>),
 }
 
 /// Functions and formatters by their names, and the formatter of all values that are shown without one.
@@ -45,6 +58,11 @@ pub trait Callables {
     fn format(&self, name: &str, f: &mut Formatter, value: &Value) -> fmt::Result
         ensures { (g : PureFormatter) → callables self.now name.now ≡ Some (formatter g)
             → Formats f.old f.new result (g (view value.now)) };
+
+    /// Does what the name denotes, which is searched once: calls a function on the values, or appends what a formatter
+    /// writes for the only value.
+    fn apply(&self, alloc: Global, name: &str, f: &mut Formatter, values: &[ValueCow]) -> Applied
+        ensures { Applies result f.old f.new (arguments_view values.now) (callables self.now name.now) };
 
     /// Returns whether the default formatter is the plain one, which writes a text as it is and an integer in decimal.
     /// `false` says nothing.

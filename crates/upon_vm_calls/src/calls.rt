@@ -12,7 +12,7 @@ ghost use Rattle.upon_vm_calls.specs.Halt.{IsHalt, Finds};
 ghost use Rattle.upon_vm_calls.specs.Operands.{row};
 
 use crate::callables::{Callables, EngineCallable};
-use crate::depth::{DEPTH_LIMIT, is_within};
+use crate::depth::{DEPTH_LIMIT, fits};
 use crate::fault::{self, Halt};
 use std::alloc::Global;
 use upon_functions::function::{ArgError, CallError};
@@ -49,8 +49,8 @@ pub fn call<C: Callables>(
     }
 }
 
-/// Does the same for a name that is a function's.
-pub(crate) fn call_function<C: Callables>(
+// Does the same for a name that is a function's.
+fn call_function<C: Callables>(
     alloc: Global,
     callables: &C,
     name: &Ident,
@@ -68,7 +68,7 @@ pub(crate) fn call_function<C: Callables>(
 }
 
 // The value of an answer, or its fault; a value that is too deep is refused.
-fn report(
+pub(crate) fn report(
     alloc: Global,
     answer: Result<Value, CallError>,
     name: &Ident,
@@ -81,12 +81,8 @@ fn report(
         (answer_value (ident_of name.now) whole (row values.now spans.now) a) }
 {
     match answer {
-        Ok(value) => {
-            if !is_within(&value, DEPTH_LIMIT) {
-                return Err(Halt::Memory);
-            }
-            Ok(value)
-        }
+        Ok(value) if fits(&value, DEPTH_LIMIT) => Ok(value),
+        Ok(_) => Err(Halt::Memory),
         Err(CallError::Arity(expected)) => {
             Err(fault::function_expects(alloc, expected, values.len(), whole))
         }

@@ -10,9 +10,21 @@ use upon_types::value::Value;
 /// So many lists and maps may be in each other in a value that a template makes.
 pub(crate) const DEPTH_LIMIT: usize = 256;
 
-/// Returns whether at most so many lists and maps of the value are in each other. It looks no deeper than that.
+/// Returns whether at most so many lists and maps of the value are in each other. Only for a list or a map is anything
+/// called.
+#[inline(always)]
+pub(crate) fn fits(value: &Value, depth: usize) -> bool
+    ensures { IsTrue result ↔ (depth_of (view value.now) ≤ depth) }
+{
+    match value {
+        Value::None | Value::Bool(_) | Value::Integer(_) | Value::String(_) => true,
+        Value::List(_) | Value::Map(_) => is_within(value, depth),
+    }
+}
+
+// The same of any value. It looks no deeper than that.
 #[cycle(within)]
-pub(crate) fn is_within(value: &Value, depth: usize) -> bool
+fn is_within(value: &Value, depth: usize) -> bool
     ensures { IsTrue result ↔ (depth_of (view value.now) ≤ depth) }
 {
     match value {

@@ -6,7 +6,7 @@ ghost use Rattle.upon_types.specs.View.{view};
 ghost use Rattle.upon_vm_calls.specs.Items.{list_with, map_with, with_item, with_pair};
 ghost use Rattle.upon_vm_calls.specs.Operands.{operands_of};
 
-use crate::depth::{DEPTH_LIMIT, is_within};
+use crate::depth::{DEPTH_LIMIT, fits};
 use crate::operands::Operands;
 use std::alloc::AllocError;
 use upon_types::types::Span;
@@ -43,7 +43,7 @@ fn push_into<'a>(
         (λ _. list_with (cow_view list.entry) (cow_view item.entry) span (operands_of operands.old)
         ≡ Some (operands_of operands.new))) }
 {
-    if !is_within(&item, DEPTH_LIMIT - 1) {
+    if !fits(&item, DEPTH_LIMIT - 1) {
         return Err(AllocError);
     }
     let list = into_value(list)?;
@@ -91,7 +91,7 @@ fn insert_into<'a>(
         (λ _. map_with (cow_view map.entry) (string_of key.now) (cow_view value.entry) span (operands_of operands.old)
         ≡ Some (operands_of operands.new))) }
 {
-    if !is_within(&value, DEPTH_LIMIT - 1) {
+    if !fits(&value, DEPTH_LIMIT - 1) {
         return Err(AllocError);
     }
     let map = into_value(map)?;

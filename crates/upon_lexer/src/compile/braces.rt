@@ -1,8 +1,12 @@
 // Where a default delimiter may begin: with a pair of bytes, of which one is a brace, or a byte before such a pair.
-ghost use Rattle.std.specs.Prelude.{◌≡◌, ℕ, ◌<◌, ◌≤◌, length, slice_index, false, true, MatchOption};
+ghost use Rattle.std.specs.Prelude.{◌≡◌, ℕ, ◌+◌, ◌<◌, ◌≤◌, length, slice_index, slice_index_or, false, true, MatchOption, IfSome};
+ghost use Rattle.upon_types.specs.Span.{LiesIn};
 ghost use Rattle.upon_language_spec.specs.DefaultDelimiters.{default_delimiters};
-ghost use Rattle.upon_language_spec.specs.Search.{NoneAt, NoneFrom};
+ghost use Rattle.upon_language_spec.specs.Search.{IsBestDelimiter, NoneAt, NoneFrom};
+ghost use Rattle.upon_lexer.specs.DefaultBest.{begin_with, best_of, end_with, hyphened};
 ghost use Rattle.upon_lexer.specs.Pairs.{is_pair, NoPairWith, IsFirstPairWith};
+
+use upon_types::types::Delimiter;
 
 /// Returns the first offset at or after another from which a default delimiter may occur; the text's length if there is
 /// none.
@@ -29,6 +33,83 @@ pub(crate) fn may_begin(bytes: &[u8], at: usize) -> bool
     ensures { result ≡ false → NoneAt default_delimiters bytes.now at }
 {
     matches!(bytes.get(at), Some(b'{' | b'}' | b'%' | b'#' | b'-'))
+}
+
+/// Returns the kind of the best default delimiter at an offset, and the offset of its end.
+pub(crate) fn best_at(source: &str, at: usize) -> Option<(Delimiter, usize)>
+    requires { at ≤ length source.now }
+    ensures best { MatchOption
+        result
+        (NoneAt default_delimiters source.now at)
+        (λ best. IsBestDelimiter default_delimiters source.now best.0 at best.1) }
+    ensures span { IfSome result (λ best. LiesIn source.now (record { m = at; n = best.1 })) }
+{
+    let bytes = source.as_bytes();
+    let first = byte_at(bytes, at);
+    let second = byte_at(bytes, at + 1);
+    let third = byte_at(bytes, at + 2);
+    match best_of(first, second, third) {
+        Some((kind, length)) => Some((kind, at + length)),
+        None => None,
+    }
+}
+
+// The byte at an offset; 0 if there is none.
+fn byte_at(bytes: &[u8], at: usize) -> u8
+    ensures { result ≡ slice_index_or bytes.now at 0 }
+{
+    match bytes.get(at) {
+        Some(byte) => *byte,
+        None => 0,
+    }
+}
+
+// The longest default delimiter that three bytes begin with, and its length.
+fn best_of(first: u8, second: u8, third: u8) -> Option<(Delimiter, usize)>
+    ensures value { result ≡ best_of first second third }
+    ensures short { IfSome result (λ best. best.1 ≤ 3) }
+{
+    match first {
+        b'{' => begin_with(second, third == b'-'),
+        b'-' if third == b'}' => end_with(second, true),
+        b'-' => None,
+        _ if second == b'}' => end_with(first, false),
+        _ => None,
+    }
+}
+
+// The delimiter that an open brace and a byte begin, with a hyphen or without one, and its length.
+fn begin_with(byte: u8, hyphen: bool) -> Option<(Delimiter, usize)>
+    ensures value { result ≡ begin_with byte hyphen }
+    ensures short { IfSome result (λ best. best.1 ≤ 3) }
+{
+    match byte {
+        b'{' => Some(hyphened(hyphen, Delimiter::BeginExpr, Delimiter::BeginExprTrim)),
+        b'%' => Some(hyphened(hyphen, Delimiter::BeginBlock, Delimiter::BeginBlockTrim)),
+        b'#' => Some(hyphened(hyphen, Delimiter::BeginComment, Delimiter::BeginCommentTrim)),
+        _ => None,
+    }
+}
+
+// The delimiter that a byte and a close brace end, with a hyphen or without one, and its length.
+fn end_with(byte: u8, hyphen: bool) -> Option<(Delimiter, usize)>
+    ensures value { result ≡ end_with byte hyphen }
+    ensures short { IfSome result (λ best. best.1 ≤ 3) }
+{
+    match byte {
+        b'}' => Some(hyphened(hyphen, Delimiter::EndExpr, Delimiter::EndExprTrim)),
+        b'%' => Some(hyphened(hyphen, Delimiter::EndBlock, Delimiter::EndBlockTrim)),
+        b'#' => Some(hyphened(hyphen, Delimiter::EndComment, Delimiter::EndCommentTrim)),
+        _ => None,
+    }
+}
+
+// The delimiter of two bytes, or the one with a hyphen too, and its length.
+fn hyphened(hyphen: bool, plain: Delimiter, trimming: Delimiter) -> (Delimiter, usize)
+    ensures value { result ≡ hyphened hyphen plain trimming }
+    ensures short { result.1 ≤ 3 }
+{
+    if hyphen { (trimming, 3) } else { (plain, 2) }
 }
 
 // The first offset at or after another where a pair is that a brace belongs to.

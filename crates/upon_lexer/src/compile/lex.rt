@@ -27,6 +27,7 @@ use crate::compile::brackets::{
 use crate::compile::chars::char_at;
 use crate::compile::fault::{SyntaxFault, Wrong};
 use crate::compile::inside::token_inside;
+use crate::compile::plain::plain_at;
 use crate::compile::roles::{Role, Sort, has_hyphen, role_of};
 use crate::compile::search::Searcher;
 use crate::compile::tags::{OpenTag, end_trims, is_space, tag_after};
@@ -163,6 +164,9 @@ impl<'a> Lexer<'a> {
         ensures wrong { IfErr result (λ wrong. GoesWrong self.now wrong) }
         ensures wrong_span { IfErr result (λ wrong. LiesIn (lexer_text self.now) wrong.span) }
     {
+        if let Some(found) = self.plain() {
+            return Ok(Some(found));
+        }
         if let Some((kind, span)) = self.searcher.starts_with(self.source, self.offset) {
             return self.delimiter(kind, span).map(Some);
         }
@@ -173,6 +177,31 @@ impl<'a> Lexer<'a> {
             Some(tag) if tag.sort != Sort::Comment => self.inside(first, tag).map(Some),
             _ => Ok(Some(self.raw())),
         }
+    }
+
+    // The token where the lexer is, if it is a frequent one in a tag and no delimiter may begin there; `None` says
+    // nothing.
+    fn plain(&self) -> Option<NextToken>
+        ensures token { IfSome result (λ f. Finds self.now f) }
+        ensures span { IfSome result (λ f. LiesIn (lexer_text self.now) f.span) }
+    {
+        let tag = self.tag?;
+        if let Sort::Comment = tag.sort {
+            return None;
+        }
+        let bytes = self.source.as_bytes();
+        if self.offset >= bytes.len() || self.searcher.may_begin(bytes, self.offset) {
+            return None;
+        }
+        let (token, end) = plain_at(self.source, self.offset)?;
+        Some(NextToken {
+            token,
+            hyphen: false,
+            span: Span {
+                m: self.offset,
+                n: end,
+            },
+        })
     }
 
     // The token of the delimiter where the lexer is.

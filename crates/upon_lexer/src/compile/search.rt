@@ -135,8 +135,8 @@ impl Searcher {
         }
     }
 
-    // Whether a delimiter may begin at an offset, by the first byte there or the first two.
-    fn may_begin(&self, bytes: &[u8], at: usize) -> bool
+    /// Returns whether a delimiter may begin at an offset, by the first byte there or the first two.
+    pub(crate) fn may_begin(&self, bytes: &[u8], at: usize) -> bool
         requires { at < length bytes.now }
         ensures { result ≡ false → NoneAt (searcher_delimiters self.now) bytes.now at }
     {
@@ -156,6 +156,9 @@ impl Searcher {
             (λ best. IsBestDelimiter (searcher_delimiters self.now) source.now best.0 at best.1) }
         ensures span { IfSome result (λ best. LiesIn source.now (record { m = at; n = best.1 })) }
     {
+        if self.syntax.is_default() {
+            return braces::best_at(source, at);
+        }
         let longest = self.longest_at(source, at)?;
         let (kind, text) = self.syntax.get(longest);
         Some((kind, end_of(source, at, text)))
