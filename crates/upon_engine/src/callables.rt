@@ -32,14 +32,6 @@ impl<'r, 'e> Callables for &'r Engine<'e> {
         }
     }
 
-    fn format(&self, name: &str, f: &mut Formatter, value: &Value) -> fmt::Result {
-        match self.callable(name) {
-            Some(Callable::Formatter(formatter)) => formatter.format(f, value),
-            Some(Callable::Function(_)) => fmt::default(f, value),
-            None => fmt::default(f, value),
-        }
-    }
-
     fn apply(&self, alloc: Global, name: &str, f: &mut Formatter, values: &[ValueCow]) -> Applied {
         match self.callable(name) {
             Some(Callable::Formatter(formatter)) => {

@@ -46,12 +46,6 @@ impl<C: Callables> Callables for Escaping<C> {
         self.callables.call(alloc, name, args)
     }
 
-    fn format(&self, name: &str, f: &mut Formatter, value: &Value) -> fmt::Result {
-        let mut inner = Formatter::new(f.allocator());
-        let ended = self.callables.format(name, &mut inner, value);
-        append_escaped(f, inner, ended)
-    }
-
     fn apply(&self, alloc: Global, name: &str, f: &mut Formatter, values: &[ValueCow]) -> Applied {
         let mut inner = Formatter::new(f.allocator());
         match self.callables.apply(alloc, name, &mut inner, values) {

@@ -2,7 +2,7 @@
 ghost use Rattle.std.specs.Prelude.{◌≡◌, List, ℕ, Option, Some, IsTrue, option_map};
 ghost use Rattle.upon_functions.specs.Blames.{BlamesGiven};
 ghost use Rattle.upon_functions.specs.Says.{Says, arguments_view};
-ghost use Rattle.upon_types.specs.Answers.{Callable, Formatter as PureFormatter, Function as PureFunction, formatter, function};
+ghost use Rattle.upon_types.specs.Answers.{Callable, Formatter as PureFormatter, Function as PureFunction, function};
 ghost use Rattle.upon_types.specs.View.{view};
 ghost use Rattle.upon_meaning_spec.specs.DefaultFormat.{default_format};
 ghost use Rattle.upon_fmt.specs.Formatter.{Formats};
@@ -53,11 +53,6 @@ pub trait Callables {
             → Says result (f (arguments_view args.now)) }
         ensures blames_given { (f : PureFunction) → callables self.now name.now ≡ Some (function f)
             → BlamesGiven (arguments_view args.now) (f (arguments_view args.now)) };
-
-    /// Appends what the formatter of this name writes for a value.
-    fn format(&self, name: &str, f: &mut Formatter, value: &Value) -> fmt::Result
-        ensures { (g : PureFormatter) → callables self.now name.now ≡ Some (formatter g)
-            → Formats f.old f.new result (g (view value.now)) };
 
     /// Does what the name denotes, which is searched once: calls a function on the values, or appends what a formatter
     /// writes for the only value.

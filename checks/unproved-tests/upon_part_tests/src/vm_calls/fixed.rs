@@ -8,7 +8,7 @@ use std::alloc::{AllocError, Global};
 use upon_fmt::fmt::{self, Formatter, default};
 use upon_functions::function::{ArgError, CallError};
 use upon_types::value::{Value, ValueCow};
-use upon_vm_calls::callables::{Callables, EngineCallable};
+use upon_vm_calls::callables::{Applied, Callables, EngineCallable};
 
 // What each name stands for.
 #[derive(Clone, Copy)]
@@ -88,8 +88,13 @@ impl Callables for Fixed {
         }
     }
 
-    fn format(&self, _name: &str, f: &mut Formatter, value: &Value) -> fmt::Result {
-        default(f, value)
+    fn apply(&self, alloc: Global, name: &str, f: &mut Formatter, values: &[ValueCow]) -> Applied {
+        match self {
+            Fixed::Nothing => Applied::Unknown,
+            Fixed::Formats if values.len() == 1 => Applied::Formatted(default(f, &values[0])),
+            Fixed::Formats => Applied::Miscounted,
+            _ => Applied::Called(self.call(alloc, name, values)),
+        }
     }
 
     // Where all names are formatters, the default one is asked too.
