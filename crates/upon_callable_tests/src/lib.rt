@@ -1,4 +1,5 @@
-// Tests of functions and formatters that a program adds, and of what takes no memory: where growths are refused.
+// Tests of functions and formatters that a program adds, of contexts, pages and the store, and of what takes no memory:
+// where growths are refused.
 #![tactic(auto)]
 
 #[cfg(test)]
@@ -6,10 +7,16 @@ mod callables;
 #[cfg(test)]
 mod growths;
 #[cfg(test)]
+mod html;
+#[cfg(test)]
 mod lent_loops;
 #[cfg(test)]
 mod memory;
 #[cfg(test)]
+mod serde;
+#[cfg(test)]
 mod skipped;
 #[cfg(test)]
 mod starved;
+#[cfg(test)]
+mod store;

@@ -1,0 +1,2 @@
+// Tests of the store where growths are refused.
+pub mod memory;

@@ -1,2 +1,0 @@
-pub mod Callables
-pub mod Formatters
