@@ -1,4 +1,4 @@
-// Renderings within limits: so many steps of the machine, and so many bytes.
+// Renderings within limits: so many steps of the machine, so many bytes of output, and so many bytes of values.
 ghost use Rattle.std.specs.Prelude.{◌≡◌, ◌↔◌, None, Some, IsErr, IsNone, IsSomeAnd, IfErr, option_map};
 ghost use Rattle.upon_types.specs.Tree.{Statements};
 ghost use Rattle.upon_types.specs.View.{view};
@@ -30,8 +30,8 @@ use upon_vm::within::{render_within, reported_within};
 impl<'e> Engine<'e> {
     /// Renders the text of a template on a value within limits, or says why there is no text.
     ///
-    /// If its rendering goes beyond a limit, the answer is the fault `reached the limit of 10 steps` (or `bytes`), of
-    /// the kind `Render`, at the place where the template was.
+    /// If its rendering goes beyond a limit, the answer is the fault `reached the limit of 10 steps` (or `bytes`, or
+    /// `bytes of values`), of the kind `Render`, at the place where the template was.
     pub fn render_text_within(&self, limits: &Limits, source: &str, value: &Value) -> Result<String>
         // If the source has a tree, the answer is what that tree means on the value, or names a limit.
         ensures means { let engine = texts_of formats answers self.now in (tree : Statements)
@@ -47,6 +47,8 @@ impl<'e> Engine<'e> {
     }
 
     /// Renders the template of a name on a value within limits, or returns `None` if there is none of this name.
+    ///
+    /// Beyond a limit of steps, of bytes or of bytes of values the answer is the fault that names it.
     pub fn render_template_within(
         &self,
         limits: &Limits,
@@ -66,7 +68,7 @@ impl<'e> Engine<'e> {
     }
 
     /// Renders the text of a template on a value to a writer within limits. If the text has no tree, nothing is
-    /// written; beyond a limit a beginning of the text is.
+    /// written; beyond a limit (of steps, of bytes or of bytes of values) a beginning of the text is.
     pub fn render_text_to_within<W: io::Write>(
         &self,
         limits: &Limits,
@@ -95,7 +97,7 @@ impl<'e> Engine<'e> {
     }
 
     /// Renders the template of a name on a value to a writer within limits, or returns `None` if there is none of this
-    /// name. Beyond a limit the writer receives a beginning of the text.
+    /// name. Beyond a limit (of steps, of bytes or of bytes of values) the writer receives a beginning of the text.
     pub fn render_template_to_within<W: io::Write>(
         &self,
         limits: &Limits,

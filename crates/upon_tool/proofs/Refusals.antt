@@ -28,7 +28,7 @@ module _ (set : List (Bor (List ℕ))) (Twice : Type 0) (Named : Bor (List ℕ) 
   pub of_memory : (f : Failure) → IsMemory f → Refuses set Twice Named Faulty f
   of_memory (NoEquals word) out = absurd out
   of_memory InputTwice out = absurd out
-  of_memory (Unreadable name) out = absurd out
+  of_memory (Unreadable name error) out = absurd out
   of_memory (NotText name) out = absurd out
   of_memory (Data name fault) out = absurd out
   of_memory (Unwritable name error) out = absurd out
@@ -36,9 +36,9 @@ module _ (set : List (Bor (List ℕ))) (Twice : Type 0) (Named : Bor (List ℕ) 
 
   -- a file was not read
   unread_so : (name : Bor (List ℕ)) (fault : ReadFault) (f : Failure) → Named name → Unread name fault f → Refuses set Twice Named Faulty f
-  unread_so name FileUnreadable f named is = subst (Refuses set Twice Named Faulty) (sym is) named
+  unread_so name (FileUnreadable error) f named is = subst (Refuses set Twice Named Faulty) (sym is) named
   unread_so name FileNotText f named is = subst (Refuses set Twice Named Faulty) (sym is) named
-  unread_so name FileOutside f named is = subst (Refuses set Twice Named Faulty) (sym is) named
+  unread_so name FileOutside f named is = subst (Refuses set Twice Named Faulty) (sym is.1) named
   unread_so name OutOfMemory f named is = of_memory f is
 
   pub of_unread : (name : Bor (List ℕ)) (f : Failure) → Named name → IsUnread name f → Refuses set Twice Named Faulty f
@@ -52,7 +52,7 @@ module _ (set : List (Bor (List ℕ))) (Twice : Type 0) (Named : Bor (List ℕ) 
   pub of_words : (f : Failure) → IsNoPair set f → Refuses set Twice Named Faulty f
   of_words (NoEquals word) is = is
   of_words InputTwice is = absurd is
-  of_words (Unreadable name) is = absurd is
+  of_words (Unreadable name error) is = absurd is
   of_words (NotText name) is = absurd is
   of_words (Data name fault) is = absurd is
   of_words (Unwritable name error) is = absurd is
@@ -63,7 +63,7 @@ module _ (set : List (Bor (List ℕ))) (Twice : Type 0) (Named : Bor (List ℕ) 
       → (f : Failure) → Refuses [] ⊥ Mine Own f → Refuses set Twice Named Faulty f
   of_part Mine Own names faults (NoEquals word) is = absurd (no_word word is.0)
   of_part Mine Own names faults InputTwice is = absurd is
-  of_part Mine Own names faults (Unreadable name) is = names name is
+  of_part Mine Own names faults (Unreadable name error) is = names name is
   of_part Mine Own names faults (NotText name) is = names name is
   of_part Mine Own names faults (Data name fault) is = absurd is
   of_part Mine Own names faults (Unwritable name error) is = absurd is

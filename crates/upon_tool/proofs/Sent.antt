@@ -74,13 +74,13 @@ grown_stays None old new grows = tt
 grown_stays (Some n) old new grows = grows
 
 -- without a limit
-unlimited : (steps output : Option ℕ) (old new : Option (List ℕ)) → (is_some steps || is_some output) ≡ false → StaysWithin output old new
-unlimited steps None old new is = tt
-unlimited None (Some n) old new is = absurd cc
-unlimited (Some k) (Some n) old new is = absurd cc
+unlimited : (steps output values : Option ℕ) (old new : Option (List ℕ)) → ((is_some steps || is_some output) || is_some values) ≡ false → StaysWithin output old new
+unlimited steps None values old new is = tt
+unlimited None (Some n) values old new is = absurd cc
+unlimited (Some k) (Some n) values old new is = absurd cc
 
 pub unlimited_stays : (limits : Limits) (old new : Option (List ℕ)) → is_limited limits ≡ false → StaysWithin limits.output old new
-unlimited_stays limits old new is = unlimited limits.steps limits.output old new is
+unlimited_stays limits old new is = unlimited limits.steps limits.output limits.values old new is
 
 -- a flush sends nothing more
 pub stays_kept : (limit : Option ℕ) (old sent new : Option (List ℕ)) → Keeps sent new → StaysWithin limit old sent → StaysWithin limit old new
@@ -125,7 +125,7 @@ module _ {X Y : Type 0} {P : X → Type 0} {Q : Y → Type 0} (formats : DynBox 
   renders_kept h limits name source tree json pairs old sent new (Data file fault) keeps said = said
   renders_kept h limits name source tree json pairs old sent new (NoEquals word) keeps said = said
   renders_kept h limits name source tree json pairs old sent new InputTwice keeps said = said
-  renders_kept h limits name source tree json pairs old sent new (Unreadable file) keeps said = said
+  renders_kept h limits name source tree json pairs old sent new (Unreadable file error) keeps said = said
   renders_kept h limits name source tree json pairs old sent new (NotText file) keeps said = said
   renders_kept h limits name source tree json pairs old sent new (Unwritable file error) keeps said = said
 

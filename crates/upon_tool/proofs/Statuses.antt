@@ -8,7 +8,7 @@ use Rattle.upon_tool.specs.declared.failure.Failure.TheVariants.{NoEquals, Input
 pub least_status : (f : Failure) → 1 ≤ status_of f
 least_status (NoEquals word) = omega arith
 least_status InputTwice = omega arith
-least_status (Unreadable name) = omega arith
+least_status (Unreadable name error) = omega arith
 least_status (NotText name) = omega arith
 least_status (Data name fault) = omega arith
 least_status (Unwritable name error) = omega arith
@@ -17,7 +17,7 @@ least_status (Fault error) = omega arith
 pub most_status : (f : Failure) → status_of f ≤ 2
 most_status (NoEquals word) = omega arith
 most_status InputTwice = omega arith
-most_status (Unreadable name) = omega arith
+most_status (Unreadable name error) = omega arith
 most_status (NotText name) = omega arith
 most_status (Data name fault) = omega arith
 most_status (Unwritable name error) = omega arith

@@ -1,5 +1,5 @@
 -- What a call of the program does, from its words and what it reads to its output and its status.
-use Rattle.std.specs.Prelude.{◌≡◌, ◌⊎◌, ℕ, List, [], Contains, true, false, Option, Some, IsNone, IsSomeAnd, Result, Ok, Err}
+use Rattle.std.specs.Prelude.{◌≡◌, ◌⊎◌, ℕ, List, [], Contains, true, false, Option, None, Some, IsNone, IsSomeAnd, Result, Ok, Err}
 use Rattle.std.specs.Borrow.{Bor}
 use Rattle.upon_types.specs.Tree.{Statements}
 use Rattle.upon_types.specs.declared.error.Error.{Error}
@@ -26,7 +26,7 @@ use Rattle.upon_tool.specs.declared.sources.FolderFile.{FolderFile}
 
 -- the limits that a call asks for
 abbrev pub limits_asked : RenderCall → Limits
-limits_asked call = record { steps = call.max_steps; output = call.max_output }
+limits_asked call = record { steps = call.max_steps; output = call.max_output; values = call.max_memory }
 
 -- A call of `render` ends with a status, by what standard input had left, if that is known. FILE's text was read, and
 -- the text of the context, after it; and then the folder's files. If the output is standard output, FILE's text has a

@@ -19,7 +19,7 @@ refusal_of library name = get_by_text library.refused name
 
 -- why a file is no template that was not read; none if memory was out
 abbrev pub read_refusal : ReadFault → Option Refusal
-read_refusal FileUnreadable = Some Unreadable
+read_refusal (FileUnreadable error) = Some (Unreadable error)
 read_refusal FileNotText = Some NotText
 read_refusal FileOutside = Some Outside
 read_refusal OutOfMemory = None

@@ -14,7 +14,7 @@ use Rattle.upon_tool.specs.declared.failure.Failure.TheVariants.{Data, Unwritabl
 abbrev pub Refuses : List (Bor (List ℕ)) → Type 0 → (Bor (List ℕ) → Type 0) → (Error → Type 0) → Failure → Type 0
 Refuses set Twice Named Faulty (NoEquals word) = Contains set word × (has_equals word.now ≡ false)
 Refuses set Twice Named Faulty InputTwice = Twice
-Refuses set Twice Named Faulty (Unreadable name) = Named name
+Refuses set Twice Named Faulty (Unreadable name error) = Named name
 Refuses set Twice Named Faulty (NotText name) = Named name
 Refuses set Twice Named Faulty (Data name fault) = ⊥
 Refuses set Twice Named Faulty (Unwritable name error) = ⊥

@@ -26,14 +26,14 @@ abbrev pub is_of_data : Failure → Bool
 is_of_data (Data name fault) = true
 is_of_data (NoEquals word) = false
 is_of_data InputTwice = false
-is_of_data (Unreadable name) = false
+is_of_data (Unreadable name error) = false
 is_of_data (NotText name) = false
 is_of_data (Unwritable name error) = false
 is_of_data (Fault error) = false
 
 -- whether a limit is set
 abbrev pub is_limited : Limits → Bool
-is_limited limits = is_some limits.steps || is_some limits.output
+is_limited limits = (is_some limits.steps || is_some limits.output) || is_some limits.values
 
 -- what was sent of the tree of a text: without limits, or within them
 abbrev pub SendsIf : Bool → Limits → Texts → Option (List ℕ) → List ℕ → Statements → Val → Result (Unit {0}) Error
@@ -64,7 +64,7 @@ Renders json pairs Sent (Err (Fault e)) = (v : Val) × IsContext json pairs v ×
 Renders json pairs Sent (Err (Data name fault)) = IsRefusal json fault
 Renders json pairs Sent (Err (NoEquals word)) = ⊥
 Renders json pairs Sent (Err InputTwice) = ⊥
-Renders json pairs Sent (Err (Unreadable name)) = ⊥
+Renders json pairs Sent (Err (Unreadable name error)) = ⊥
 Renders json pairs Sent (Err (NotText name)) = ⊥
 Renders json pairs Sent (Err (Unwritable name error)) = ⊥
 

@@ -1,6 +1,7 @@
 -- The files that a run reads, and why one is not read.
 use Rattle.std.specs.Prelude.{◌≡◌, ℕ, List, [], ◌∷◌, Option, Some, None, true, false}
 use Rattle.std.specs.Borrow.{Bor}
+use Rattle.std.specs.declared.io.Error.{Error as IoError}
 use Rattle.upon_tool_io.specs.declared.files.ReadFault.{ReadFault}
 use Rattle.upon_tool_io.specs.declared.files.ReadFault.TheVariants.{Unreadable as FileUnreadable, NotText as FileNotText, Outside as FileOutside, OutOfMemory}
 use Rattle.upon_tool.specs.Status.{IsMemory}
@@ -10,9 +11,9 @@ use Rattle.upon_tool.specs.declared.failure.Failure.TheVariants.{Unreadable, Not
 
 -- the failure that a fault of reading is
 abbrev pub Unread : Bor (List ℕ) → ReadFault → Failure → Type 0
-Unread name FileUnreadable failure = failure ≡ Unreadable name
+Unread name (FileUnreadable error) failure = failure ≡ Unreadable name error
 Unread name FileNotText failure = failure ≡ NotText name
-Unread name FileOutside failure = failure ≡ Unreadable name
+Unread name FileOutside failure = (error : IoError) × (failure ≡ Unreadable name error)
 Unread name OutOfMemory failure = IsMemory failure
 
 -- the file was not read, or memory was out

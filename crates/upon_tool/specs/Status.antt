@@ -11,7 +11,7 @@ use Rattle.upon_tool.specs.declared.failure.Failure.TheVariants.{Data, Unwritabl
 abbrev pub status_of : Failure → ℕ
 status_of (NoEquals word) = 2
 status_of InputTwice = 2
-status_of (Unreadable name) = 2
+status_of (Unreadable name error) = 2
 status_of (NotText name) = 2
 status_of (Data name fault) = 1
 status_of (Unwritable name error) = 1
@@ -21,7 +21,7 @@ status_of (Fault error) = 1
 abbrev pub IsMemory : Failure → Type 0
 IsMemory (NoEquals word) = ⊥
 IsMemory InputTwice = ⊥
-IsMemory (Unreadable name) = ⊥
+IsMemory (Unreadable name error) = ⊥
 IsMemory (NotText name) = ⊥
 IsMemory (Data name fault) = ⊥
 IsMemory (Unwritable name error) = ⊥

@@ -41,7 +41,7 @@ abbrev pub IsNoPair : List (Bor (List ℕ)) → Failure → Type 0
 IsNoPair words (NoEquals word) = Contains words word × (has_equals word.now ≡ false)
 IsNoPair words (Fault error) = IsMemory (Fault error)
 IsNoPair words InputTwice = ⊥
-IsNoPair words (Unreadable name) = ⊥
+IsNoPair words (Unreadable name error) = ⊥
 IsNoPair words (NotText name) = ⊥
 IsNoPair words (Data name fault) = ⊥
 IsNoPair words (Unwritable name error) = ⊥

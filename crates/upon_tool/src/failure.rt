@@ -2,6 +2,7 @@
 ghost use Rattle.std.specs.Prelude.{◌≡◌};
 ghost use Rattle.upon_tool.specs.Status.{is_memory, status_of, IsMemory};
 
+use crate::hints::hint_of;
 use crate::picture::shown;
 use std::alloc::{AllocError, AllocFailed, Global};
 use std::io::{self, Write};
@@ -17,8 +18,8 @@ pub enum Failure<'a> {
     NoEquals(&'a str),
     /// Standard input is asked for twice.
     InputTwice,
-    /// A file or folder of this name could not be read.
-    Unreadable(&'a str),
+    /// A file or folder of this name could not be read, by this error of the system.
+    Unreadable(&'a str, io::Error),
     /// The file of this name is not UTF-8.
     NotText(&'a str),
     /// The file of this name is no context.
@@ -68,8 +69,8 @@ pub fn report<E: Write>(alloc: Global, failure: &Failure<'_>, err: &mut E) -> u8
             let _ = writeln!(err, "upon-tool: standard input can be read only once");
             2
         }
-        Failure::Unreadable(name) => {
-            let _ = writeln!(err, "upon-tool: cannot read {name}");
+        Failure::Unreadable(name, error) => {
+            let _ = writeln!(err, "upon-tool: cannot read {name}: {error}");
             2
         }
         Failure::NotText(name) => {
@@ -126,10 +127,16 @@ pub fn report_fault<E: Write>(alloc: Global, error: &Error, err: &mut E) {
     };
 }
 
-// What an error is, with its picture, ended by a newline.
+// What an error is, with its picture, ended by a newline; and a hint, if there is one.
 fn told(alloc: Global, error: &Error) -> Result<String, AllocError> {
     let text = error.pretty(alloc)?;
-    shown(alloc, text.as_str())
+    let mut told = shown(alloc, text.as_str())?;
+    if let Some(hint) = hint_of(error.reason().unwrap_or_default(), text.as_str()) {
+        told.push_str("   = hint: ")?;
+        told.push_str(hint)?;
+        told.push('\n')?;
+    }
+    Ok(told)
 }
 
 /// Returns whether an error says that memory is out.

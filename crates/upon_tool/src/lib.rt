@@ -4,6 +4,7 @@
 
 pub mod check;
 pub mod failure;
+mod hints;
 pub mod includes;
 pub mod library;
 pub mod names;

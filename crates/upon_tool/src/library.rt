@@ -8,14 +8,15 @@ use crate::failure::is_memory;
 use crate::includes::including;
 use std::alloc::{AllocError, Global};
 use std::collections::BTreeMap;
+use std::io;
 use upon::{Engine, Error};
 use upon_tool_io::files::ReadFault;
 
 /// Why a file is no template.
 #[derive(Drop)]
 pub enum Refusal {
-    /// It could not be read.
-    Unreadable,
+    /// It could not be read, by this error of the system.
+    Unreadable(io::Error),
     /// It is not UTF-8.
     NotText,
     /// It is a link that leads out of the folder.
@@ -33,7 +34,7 @@ impl Refusal {
         match fault {
             ReadFault::NotText => Ok(Refusal::NotText),
             ReadFault::Outside => Ok(Refusal::Outside),
-            ReadFault::Unreadable => Ok(Refusal::Unreadable),
+            ReadFault::Unreadable(error) => Ok(Refusal::Unreadable(error)),
             ReadFault::OutOfMemory => Err(AllocError),
         }
     }

@@ -28,7 +28,7 @@ pub fn needed<'n, 'a>(engine: &'n Engine<'_>, name: &'a str) -> Result<Needs<'n>
 {
     match engine.needs(name) {
         Some(needs) => Ok(needs?),
-        None => Err(Failure::Unreadable(name)),
+        None => Err(Failure::Unreadable(name, io::ErrorKind::NotFound.into())),
     }
 }
 

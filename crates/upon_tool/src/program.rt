@@ -130,6 +130,7 @@ fn run_render<'a, R: Files + AllocGlobal + Clone + Drop, I: Read, O: Write, E: W
         limits: Limits {
             steps: call.max_steps,
             output: call.max_output,
+            values: call.max_memory,
         },
     };
     carry_out(

@@ -56,7 +56,7 @@ pub fn render<'a, O: io::Write>(
         Err(fault) => return Err(Failure::Data(file, fault)),
     };
     let Some(rendered) = send_on(engine, page, &value, out) else {
-        return Err(Failure::Unreadable(page.name));
+        return Err(Failure::Unreadable(page.name, io::ErrorKind::NotFound.into()));
     };
     match rendered {
         Ok(()) => Ok(()),
@@ -91,7 +91,7 @@ fn send_on<O: io::Write>(
 fn is_limited(limits: &Limits) -> bool
     ensures { result ≡ is_limited limits.now }
 {
-    limits.steps.is_some() || limits.output.is_some()
+    limits.steps.is_some() || limits.output.is_some() || limits.values.is_some()
 }
 
 // The name of the context's file, and its text if it is there.
@@ -195,8 +195,8 @@ pub fn explain<E: io::Write>(
 pub fn report_refusal<E: io::Write>(alloc: Global, name: &str, refusal: &Refusal, err: &mut E) {
     match refusal {
         Refusal::Fault(error) => report_fault(alloc, error, err),
-        Refusal::Unreadable => {
-            let _ = writeln!(err, "upon-tool: cannot read {name}");
+        Refusal::Unreadable(error) => {
+            let _ = writeln!(err, "upon-tool: cannot read {name}: {error}");
         }
         Refusal::NotText => {
             let _ = writeln!(err, "upon-tool: {name} is not UTF-8");

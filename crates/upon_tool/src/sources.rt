@@ -5,7 +5,7 @@ ghost use Rattle.upon_tool.specs.Words.{is_standard};
 
 use crate::failure::Failure;
 use std::alloc::AllocError;
-use std::io::Read;
+use std::io::{ErrorKind, Read};
 use std::rt::Files;
 use upon_tool_io::files::{ReadFault, joined, read_file, read_text};
 use upon_tool_io::folder::files_of;
@@ -96,7 +96,8 @@ fn failure_of<'a>(name: &'a str, fault: ReadFault) -> Failure<'a>
     ensures { Unread name.entry fault result }
 {
     match fault {
-        ReadFault::Unreadable | ReadFault::Outside => Failure::Unreadable(name),
+        ReadFault::Unreadable(error) => Failure::Unreadable(name, error),
+        ReadFault::Outside => Failure::Unreadable(name, ErrorKind::PermissionDenied.into()),
         ReadFault::NotText => Failure::NotText(name),
         ReadFault::OutOfMemory => AllocError.into(),
     }

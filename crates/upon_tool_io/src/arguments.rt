@@ -35,6 +35,8 @@ pub struct RenderCall<'a> {
     pub max_steps: Option<usize>,
     /// The most bytes that it writes; none is no limit.
     pub max_output: Option<usize>,
+    /// The most bytes of values that it makes; none is no limit.
+    pub max_memory: Option<usize>,
 }
 
 /// A check that is asked for.
@@ -81,6 +83,8 @@ const OUT: &str = "out";
 const MAX_STEPS: &str = "max-steps";
 
 const MAX_OUTPUT: &str = "max-output";
+
+const MAX_MEMORY: &str = "max-memory";
 
 const JSON: &str = "json";
 
@@ -137,6 +141,7 @@ fn render_call<'a>(alloc: Global, matches: &ArgMatches<'a>) -> Result<RenderCall
         out: matches.get_str(OUT),
         max_steps: matches.get_one::<usize>(MAX_STEPS),
         max_output: matches.get_one::<usize>(MAX_OUTPUT),
+        max_memory: matches.get_one::<usize>(MAX_MEMORY),
     })
 }
 
@@ -214,7 +219,8 @@ fn render_command<'a>(alloc: Global) -> Result<Command<'a>, AllocError> {
             "Write to this file, which is replaced if all went well",
         ))?
         .arg(max_steps(alloc))?
-        .arg(max_output(alloc))
+        .arg(max_output(alloc))?
+        .arg(max_memory(alloc))
 }
 
 fn check_command<'a>(alloc: Global) -> Result<Command<'a>, AllocError> {
@@ -293,6 +299,15 @@ fn max_output<'a>(alloc: Global) -> Arg<'a> {
         MAX_OUTPUT,
         "BYTES",
         "Stop a rendering that writes more than this many bytes",
+    )
+}
+
+fn max_memory<'a>(alloc: Global) -> Arg<'a> {
+    number(
+        alloc,
+        MAX_MEMORY,
+        "BYTES",
+        "Stop a rendering that makes more than this many bytes of values",
     )
 }
 

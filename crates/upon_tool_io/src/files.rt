@@ -12,8 +12,8 @@ use std::rt::Files;
 /// Why a file gives no text.
 #[derive(Debug, Drop)]
 pub enum ReadFault {
-    /// It could not be read.
-    Unreadable,
+    /// It could not be read, by this error of the system.
+    Unreadable(io::Error),
     /// It is not UTF-8.
     NotText,
     /// It is a link that leads out of the folder that it is in.
@@ -45,7 +45,7 @@ impl From<io::Error> for ReadFault {
         if error.kind() == io::ErrorKind::OutOfMemory {
             ReadFault::OutOfMemory
         } else {
-            ReadFault::Unreadable
+            ReadFault::Unreadable(error)
         }
     }
 }

@@ -1,4 +1,5 @@
-// How far a rendering may go: how many steps its machine may take, and how many bytes it may write.
+// How far a rendering may go: how many steps its machine may take, how many bytes it may write, and how many bytes of
+// values it may make.
 ghost use Rattle.std.specs.Prelude.{◌≡◌, MatchOption, None};
 ghost use Rattle.upon_vm.specs.Limits.{Exceeds, Leaves};
 
@@ -10,6 +11,8 @@ pub struct Limits {
     pub steps: Option<usize>,
     /// The most bytes that it writes.
     pub output: Option<usize>,
+    /// The most bytes of values that it makes, also those that it no longer holds.
+    pub values: Option<usize>,
 }
 
 impl Limits {
@@ -19,10 +22,12 @@ impl Limits {
     pub fn none() -> Limits
         ensures steps { result.steps ≡ None }
         ensures output { result.output ≡ None }
+        ensures values { result.values ≡ None }
     {
         Limits {
             steps: None,
             output: None,
+            values: None,
         }
     }
 }
@@ -34,6 +39,8 @@ pub enum Limit {
     Steps,
     /// How many bytes of output.
     Output,
+    /// How many bytes of values.
+    Values,
 }
 
 /// Returns what is left of a limit after so many, or `None` if they are more than it.

@@ -27,6 +27,7 @@ ghost use Rattle.upon_vm.specs.Within.{IsAtLimit, IsReportWithin, MarksWithin, R
 use crate::failure::{Failure, in_template, stopped};
 use crate::limits::{Limit, Limits, spend};
 use crate::machine::{Machine, Running};
+use crate::made::{bytes_put_in, bytes_started};
 use crate::place::place;
 use crate::report::reported;
 use crate::run::{Ending, end_of};
@@ -61,6 +62,7 @@ fn limit_error(alloc: Global, running: Running, limit: Limit, count: usize, span
     let reason = match limit {
         Limit::Steps => format!(in alloc; "reached the limit of {count} steps"),
         Limit::Output => format!(in alloc; "reached the limit of {count} bytes"),
+        Limit::Values => format!(in alloc; "reached the limit of {count} bytes of values"),
     };
     match reason {
         Ok(reason) => {
@@ -123,6 +125,7 @@ pub(crate) fn run_within<'r, V: ValueSource, T: ProgramSource<'r>, C: Callables,
     let mut stop = None;
     let mut steps = limits.steps;
     let mut room = limits.output;
+    let mut made: usize = 0;
     let mut left = Steps::some::<_, _, Brand>(callables, &*machine);
     'turns: loop {
         let running = machine.running;
@@ -130,6 +133,7 @@ pub(crate) fn run_within<'r, V: ValueSource, T: ProgramSource<'r>, C: Callables,
         let Some(fewer) = spend(steps, 1) else {
             return at_limit(alloc, running, position, Limit::Steps, limits.steps);
         };
+        let put_in = bytes_put_in(limits.values, &*machine);
         match take_turn(alloc, callables, machine, room, out, &mut stop) {
             Turn::Over => return at_limit(alloc, running, position, Limit::Output, limits.output),
             Turn::Stopped => return Within::Ended(Err(stopped(alloc, running, stop))),
@@ -140,6 +144,11 @@ pub(crate) fn run_within<'r, V: ValueSource, T: ProgramSource<'r>, C: Callables,
                 room = rest;
             }
         }
+        let started = bytes_started(limits.values, running.program, position, &machine.operands);
+        made = made.saturating_add(put_in).saturating_add(started);
+        let Some(_) = spend(limits.values, made) else {
+            return at_limit(alloc, running, position, Limit::Values, limits.values);
+        };
         steps = fewer;
         left = Steps::less(&left);
     }
@@ -149,7 +158,8 @@ pub(crate) fn run_within<'r, V: ValueSource, T: ProgramSource<'r>, C: Callables,
 /// within so many steps and the text has no more bytes than are allowed.
 ///
 /// If it goes beyond a limit, it is stopped there, with an error that names the limit and shows where the template was.
-/// The output then has a beginning of the text. All else is as for [`render`](crate::render::render).
+/// The output then has a beginning of the text. So it is if it makes too many bytes of values: only of a limit of these
+/// that is set. All else is as for [`render`](crate::render::render).
 pub fn render_within<'r, V: ValueSource, T: ProgramSource<'r>, C: Callables, W: Output>(
     alloc: Global,
     callables: &C,

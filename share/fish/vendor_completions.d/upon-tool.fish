@@ -10,6 +10,7 @@ complete -c upon-tool -n '__fish_seen_subcommand_from render' -l html -d 'Escape
 complete -c upon-tool -n '__fish_seen_subcommand_from render' -r -l out -d 'Write to this file'
 complete -c upon-tool -n '__fish_seen_subcommand_from render' -x -l max-steps -d 'Stop a rendering that takes more than N steps'
 complete -c upon-tool -n '__fish_seen_subcommand_from render' -x -l max-output -d 'Stop a rendering that writes more than this many bytes'
+complete -c upon-tool -n '__fish_seen_subcommand_from render' -x -l max-memory -d 'Stop a rendering that makes more than this many bytes of values'
 complete -c upon-tool -n '__fish_seen_subcommand_from render check names' -x -a '(__fish_complete_directories)' -l templates -d 'A folder of templates to include'
 complete -c upon-tool -n '__fish_seen_subcommand_from render check names' -l follow -d 'Follow links that lead out of DIR'
 complete -c upon-tool -n '__fish_seen_subcommand_from render check names' -s h -l help -d 'Print help'

@@ -1,4 +1,5 @@
 // Renderings within limits: what is just enough, what is one too few, and where a rendering is stopped.
+use crate::callables::added;
 use std::alloc::{AllocError, Global};
 use std::borrow::CowStr;
 use std::process::Abort;
@@ -24,9 +25,16 @@ fn of_bytes(count: usize) -> Limits {
     }
 }
 
+fn of_values(count: usize) -> Limits {
+    Limits {
+        values: Some(count),
+        ..Limits::none()
+    }
+}
+
 // The source within the limits answers what is wanted.
 fn answers(alloc: Global, limits: &Limits, source: &str, wanted: &str) -> std::result::Result<(), Fail> {
-    let engine = Engine::new(alloc);
+    let engine = added::engine(alloc)?;
     let line = line_of(alloc, engine.render_text_within(limits, source, &context(alloc)?))?;
     if line.as_str() != wanted {
         return Err(Fail::new(format_args!("{line:?} in place of {wanted:?}, of {source}")));
@@ -97,6 +105,54 @@ fn bytes_that_are_just_enough(rt: HostRuntime) -> std::result::Result<(), Fail> 
 }
 
 #[test]
+fn values_that_are_just_enough(rt: HostRuntime) -> std::result::Result<(), Fail> {
+    let alloc = rt.alloc();
+    for (source, bytes, text, stopped) in [
+        ("{% with [1, 2] as a %}b{% endwith %}", 128, "b", "12..13"),
+        ("{% with [x] as a %}b{% endwith %}", 66, "b", "9..10"),
+        ("{% with [[]] as a %}b{% endwith %}", 32, "b", "9..11"),
+        ("{% with {\"k\": x} as a %}b{% endwith %}", 67, "b", "9..12"),
+        ("{% with {\"k\": {} } as a %}b{% endwith %}", 33, "b", "9..12"),
+        ("{% with [x] as a %}{{ a.0 }}{% endwith %}", 100, "12", "22..25"),
+        ("{% with double(21) as a %}b{% endwith %}", 32, "b", "8..18"),
+        ("{{ double(double(21)) }}", 32, "84", "10..20"),
+        ("{% with x as a %}{{ a }}{% endwith %}", 0, "12", ""),
+        ("{% for y in xs %}{{ y }}{% endfor %}", 0, "0123456789", ""),
+        ("{% for y in xs %}{{ loop.index }}{% endfor %}", 320, "0123456789", "20..30"),
+    ] {
+        answers(alloc, &of_values(bytes), source, text)?;
+        answers(alloc, &of_values(bytes + 1), source, text)?;
+        if bytes > 0 {
+            let fewer = bytes - 1;
+            let wanted = format!(in alloc; "render error: reached the limit of {fewer} bytes of values at {stopped}")?;
+            answers(alloc, &of_values(fewer), source, wanted.as_str())?;
+        }
+    }
+    Ok(())
+}
+
+// Each include has a value that is twice as large as the one around it.
+#[test]
+fn values_that_double_end_at_once(rt: HostRuntime) -> std::result::Result<(), Fail> {
+    let alloc = rt.alloc();
+    let mut engine = Engine::new(alloc);
+    engine.add_template(CowStr::Borrowed("it"), CowStr::Borrowed("{% include \"it\" with {\"a\": [a, a]} %}"))?;
+    let one = value! { in alloc; a: 1 }?;
+    for (bytes, wanted) in [
+        (100_000, "render error: reached the limit of 100000 bytes of values at 31..32 in it"),
+        (98_473, "render error: reached the limit of 98473 bytes of values at 31..32 in it"),
+        (98_472, "render error: reached the limit of 98472 bytes of values at 28..29 in it"),
+        (98_440, "render error: reached the limit of 98440 bytes of values at 28..29 in it"),
+    ] {
+        let Some(rendered) = engine.render_template_within(&of_values(bytes), "it", &one) else {
+            return Err(Fail::from("no template"));
+        };
+        assert_eq!(&rt; line_of(alloc, rendered)?.as_str(), wanted);
+    }
+    Ok(())
+}
+
+#[test]
 fn faults_before_a_limit(rt: HostRuntime) -> std::result::Result<(), Fail> {
     let alloc = rt.alloc();
     let fault = "render error: not found in this scope at 4..5";
@@ -115,6 +171,7 @@ fn the_limit_that_comes_first(rt: HostRuntime) -> std::result::Result<(), Fail> 
     let both = Limits {
         steps: Some(3),
         output: Some(1),
+        values: None,
     };
     answers(alloc, &both, "ab", "render error: reached the limit of 1 bytes at 0..2")?;
     let nested = "a{% if 1 %}{% if 1 %}b{% endif %}{% endif %}";
@@ -136,6 +193,7 @@ fn writers_have_a_beginning(rt: HostRuntime) -> std::result::Result<(), Fail> {
         (of_steps(3), "ab12"),
         (of_steps(2), "ab"),
         (of_steps(0), ""),
+        (of_values(0), "ab12cd"),
     ] {
         let mut out = Vec::new(alloc);
         drop(engine.render_text_to_within(&limits, "ab{{ x }}cd", &context, &mut out));

@@ -84,7 +84,7 @@ fn files(rt: HostRuntime) -> Result<(), Fail> {
         ("a", "  --> a:1:12;"),
         ("b", "upon-tool: b is not UTF-8;"),
         ("c", "  --> c:1:29;"),
-        ("unreadable", "upon-tool: cannot read unreadable;"),
+        ("unreadable", "upon-tool: cannot read unreadable: entity not found;"),
     ] {
         let said = said_of_file(alloc, &engine, &library, name)?;
         assert_eq!(&rt; said.as_str(), wanted, "of {name}");

@@ -1,6 +1,7 @@
 // Libraries of texts that are written out.
 use std::alloc::{AllocError, Global};
 use std::borrow::CowStr;
+use std::io;
 use upon::Engine;
 use upon_tool::library::{Library, Refusal};
 use upon_tool_io::files::read_text;
@@ -24,6 +25,6 @@ pub fn library(
         };
         library.add(name, refusal)?;
     }
-    library.add("unreadable", Some(Refusal::Unreadable))?;
+    library.add("unreadable", Some(Refusal::Unreadable(io::ErrorKind::NotFound.into())))?;
     Ok(library)
 }

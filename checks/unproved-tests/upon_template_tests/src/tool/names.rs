@@ -79,14 +79,14 @@ fn says_what_is_wrong(rt: HostRuntime) -> Result<(), Fail> {
         ("bytes", b"\xff"),
     ];
     let wanted =
-        "1||upon-tool: bytes is not UTF-8\nupon-tool: cannot read unreadable\ninvalid syntax\n\n  --> wrong:1:3\n   |\n 1 | {{\n   |   ^--\n   |\n   = reason: expected token, found EOF\n";
+        "1||upon-tool: bytes is not UTF-8\nupon-tool: cannot read unreadable: entity not found\ninvalid syntax\n\n  --> wrong:1:3\n   |\n 1 | {{\n   |   ^--\n   |\n   = reason: expected token, found EOF\n";
     all_listed(
         rt.alloc(),
         files.as_slice(),
         &[
             ("page", false, wanted),
             ("page", true, wanted),
-            ("absent", false, "2||upon-tool: cannot read absent\n"),
+            ("absent", false, "2||upon-tool: cannot read absent: entity not found\n"),
         ],
     )
 }

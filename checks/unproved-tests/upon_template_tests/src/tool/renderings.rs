@@ -138,9 +138,9 @@ fn reports_what_is_reached(rt: HostRuntime) -> Result<(), Fail> {
             (
                 "to unreadable",
                 "{}",
-                "1||upon-tool: cannot read unreadable\n",
+                "1||upon-tool: cannot read unreadable: entity not found\n",
             ),
-            ("absent", "{}", "2||upon-tool: cannot read absent\n"),
+            ("absent", "{}", "2||upon-tool: cannot read absent: entity not found\n"),
         ],
     )
 }
@@ -180,7 +180,7 @@ fn stops_at_limits(rt: HostRuntime) -> Result<(), Fail> {
             name: "page",
             json: Some(("data.json", "{\"x\": 12}")),
             set: &[],
-            limits: Limits { steps, output },
+            limits: Limits { steps, output, values: None },
         };
         let line = shown(alloc, &engine, &library, &page)?;
         if !line.as_str().starts_with(wanted) {

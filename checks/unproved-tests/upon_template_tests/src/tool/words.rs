@@ -33,8 +33,9 @@ fn render_line(alloc: Global, call: &RenderCall<'_>) -> Result<String, AllocErro
         out,
         max_steps,
         max_output,
+        max_memory,
     } = call;
-    let limits = format!(in alloc; "{max_steps:?} {max_output:?}")?;
+    let limits = format!(in alloc; "{max_steps:?} {max_output:?} {max_memory:?}")?;
     format!(in alloc; "{file} {data:?} {set:?} {templates:?} {follow} {html} {out:?} {limits}")
 }
 
@@ -60,7 +61,7 @@ fn names_line(alloc: Global, call: &NamesCall<'_>) -> Result<String, AllocError>
 #[test]
 fn renderings(rt: HostRuntime) -> Result<(), Fail> {
     let alloc = rt.alloc();
-    asks(alloc, &["t", "render", "a"], "a None [] None false false None None None")?;
+    asks(alloc, &["t", "render", "a"], "a None [] None false false None None None None")?;
     let words = [
         "t",
         "render",
@@ -77,32 +78,33 @@ fn renderings(rt: HostRuntime) -> Result<(), Fail> {
     asks(
         alloc,
         words.as_slice(),
-        "a Some(\"-\") [\"k=v\", \"k=-w\"] None false true Some(\"o\") None None",
+        "a Some(\"-\") [\"k=v\", \"k=-w\"] None false true Some(\"o\") None None None",
     )?;
     let words = ["t", "render", "--templates", "d", "--follow", "--", "-a"];
-    asks(alloc, words.as_slice(), "-a None [] Some(\"d\") true false None None None")
+    asks(alloc, words.as_slice(), "-a None [] Some(\"d\") true false None None None None")
 }
 
 #[test]
 fn limits(rt: HostRuntime) -> Result<(), Fail> {
     let alloc = rt.alloc();
     for (word, limits) in [
-        ("--max-steps=0", "Some(0) None"),
-        ("--max-output=0", "None Some(0)"),
-        ("--max-steps=18446744073709551615", "Some(18446744073709551615) None"),
-        ("--max-output=18446744073709551615", "None Some(18446744073709551615)"),
+        ("--max-steps=0", "Some(0) None None"),
+        ("--max-output=0", "None Some(0) None"),
+        ("--max-memory=0", "None None Some(0)"),
+        ("--max-steps=18446744073709551615", "Some(18446744073709551615) None None"),
+        ("--max-output=18446744073709551615", "None Some(18446744073709551615) None"),
     ] {
         let wanted = format!(in alloc; "a None [] None false false None {limits}")?;
         asks(alloc, &["t", "render", "a", word], wanted.as_str())?;
     }
     let words = ["t", "render", "--max-output", "20", "a", "--max-steps", "007"];
-    asks(alloc, words.as_slice(), "a None [] None false false None Some(7) Some(20)")
+    asks(alloc, words.as_slice(), "a None [] None false false None Some(7) Some(20) None")
 }
 
 #[test]
 fn limits_that_are_refused(rt: HostRuntime) -> Result<(), Fail> {
     let alloc = rt.alloc();
-    for option in ["--max-steps", "--max-output"] {
+    for option in ["--max-steps", "--max-output", "--max-memory"] {
         for (number, wanted) in [
             ("x", "ValueValidation"),
             ("1x", "ValueValidation"),

@@ -8,7 +8,7 @@ use Rattle.upon_vm.specs.Machine.{state_of}
 use Rattle.upon_vm.proofs.Fewer.{fewer}
 use Rattle.upon_vm.proofs.Keeps.{kept_on}
 use Rattle.upon_vm.proofs.WithinWay.{leaves_all}
-use Rattle.upon_vm.proofs.WithinTurns.{grown_on, grown_so, grown_within, within_asks, within_ended, within_failed, within_first, within_frames, within_nearer, within_not_stuck, within_on, within_room, within_steps, within_stop}
+use Rattle.upon_vm.proofs.WithinTurns.{grown_on, grown_so, grown_within, within_asks, within_ended, within_failed, within_first, within_frames, within_nearer, within_not_stuck, within_on, within_room, within_steps, within_stop, within_values}
 use Rattle.upon_vm.proofs.within.run_within.Goals as goal
 
 pub some-left-requires : goal.some-left-requires
@@ -110,6 +110,22 @@ returns-in-Some-end_of-clause-ran g c known starts =
     let did = c.in-Went.ensures.did known.values known.ask (within_asks h) in
     within_ended h c.in-Went.flow c.in-Some-end_of.end c.in-Some.fewer c.in-Went.rest (stop_or_memory c.take_turn.new.stop) (g.W.Output.given c.take_turn.new.out) c.take_turn.new.machine
     (sym c.end_of.ensures ∙ c.in-Some-end_of.is) c.in-Some.ensures did
+
+pub returns-in_default-spend-clause-bounded : goal.returns-in_default-spend-clause-bounded
+returns-in_default-spend-clause-bounded g c =
+    let old = g.W.Output.given c.args.out.now in
+    let new = g.W.Output.given c.take_turn.new.out in
+    grown_so c.args.limits.output c.in-Went.rest old new
+    (grown_on c.args.limits.output c.turns.room c.in-Went.rest old (g.W.Output.given c.turns.out) new c.turns.invariant.grown c.in-Went.ensures.grows)
+
+pub returns-in_default-spend-clause-ran : goal.returns-in_default-spend-clause-ran
+returns-in_default-spend-clause-ran g c known starts =
+    let h = c.turns.invariant.going known starts in
+    let did = c.in-Went.ensures.did known.values known.ask (within_asks h) in
+    let next = state_of g.V.ValueSource.value_state g.T.ProgramSource.template_state known.values c.take_turn.new.machine in
+    within_values h c.in-Went.flow c.in-Some.fewer c.in-Went.rest (stop_or_memory c.take_turn.new.stop) (g.W.Output.given c.take_turn.new.out) c.take_turn.new.machine
+    c.saturating_add-made.result c.at_limit-in_default-spend.result next.asked (sym c.end_of.ensures ∙ c.in_default-end_of.is) c.in-Some.ensures did c.in-Went.ensures.kept
+    c.in_default-spend.ensures c.at_limit-in_default-spend.ensures
 
 pub turns-preserved : goal.turns-preserved
 turns-preserved g c = record {
