@@ -12,7 +12,11 @@ mod instructions;
 #[cfg(test)]
 mod lexer;
 #[cfg(test)]
+mod quote;
+#[cfg(test)]
 mod render;
+#[cfg(test)]
+mod standard;
 #[cfg(test)]
 mod syntax;
 #[cfg(test)]

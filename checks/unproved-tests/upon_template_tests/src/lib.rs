@@ -24,6 +24,8 @@ mod pictures;
 #[cfg(test)]
 mod program;
 #[cfg(test)]
+mod ready;
+#[cfg(test)]
 mod rendering;
 #[cfg(test)]
 mod store;

@@ -1,0 +1,6 @@
+pub mod CsvRecords
+pub mod Documents
+pub mod Endings
+pub mod LineValues
+pub mod Records
+pub mod Rows

@@ -1,0 +1,11 @@
+pub mod QuoteLemmas
+pub mod HexLemmas
+pub mod PlainDefaults
+pub mod JsonLemmas
+pub mod YamlLemmas
+pub mod ShellLemmas
+pub mod Runs
+pub mod ShellWords
+pub mod Written
+pub mod Values
+pub mod Examples

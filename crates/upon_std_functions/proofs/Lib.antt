@@ -1,0 +1,5 @@
+mod Powers
+mod Parts
+mod Items
+mod LawLemmas
+mod Joining

@@ -1,0 +1,13 @@
+pub mod Held
+pub mod Order
+pub mod Choices
+pub mod Comparing
+pub mod Decimal
+pub mod Integers
+pub mod Parts
+pub mod Texts
+pub mod Items
+pub mod Lists
+pub mod Names
+pub mod Table
+pub mod Joined

@@ -1,0 +1,25 @@
+-- What each function of this crate answers, and its name.
+use Rattle.std.specs.Prelude.{ℕ, List}
+use Rattle.upon_types.specs.Answers.{Answer}
+use Rattle.upon_types.specs.Val.{Val}
+use Rattle.upon_std_functions.specs.Comparing.{comparing_answer}
+use Rattle.upon_std_functions.specs.Integers.{integers_answer}
+use Rattle.upon_std_functions.specs.Lists.{lists_answer}
+use Rattle.upon_std_functions.specs.Names.{comparing_name, integers_name, texts_name, lists_name}
+use Rattle.upon_std_functions.specs.Texts.{texts_answer}
+use Rattle.upon_std_functions.specs.declared.table.StandardFunction.{StandardFunction}
+use Rattle.upon_std_functions.specs.declared.table.StandardFunction.TheVariants.{Comparing, Integers, Texts, Lists}
+
+-- what a function answers
+abbrev pub standard_answer : StandardFunction → List Val → Answer
+standard_answer (Comparing f) = comparing_answer f
+standard_answer (Integers f) = integers_answer f
+standard_answer (Texts f) = texts_answer f
+standard_answer (Lists f) = lists_answer f
+
+-- the name under which templates call it
+abbrev pub standard_name : StandardFunction → List ℕ
+standard_name (Comparing f) = comparing_name f
+standard_name (Integers f) = integers_name f
+standard_name (Texts f) = texts_name f
+standard_name (Lists f) = lists_name f
