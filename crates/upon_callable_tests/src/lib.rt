@@ -5,6 +5,8 @@
 #[cfg(test)]
 mod callables;
 #[cfg(test)]
+mod from_serde;
+#[cfg(test)]
 mod growths;
 #[cfg(test)]
 mod html;
@@ -12,8 +14,6 @@ mod html;
 mod lent_loops;
 #[cfg(test)]
 mod memory;
-#[cfg(test)]
-mod serde;
 #[cfg(test)]
 mod skipped;
 #[cfg(test)]

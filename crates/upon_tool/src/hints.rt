@@ -39,11 +39,13 @@ const BINDS: &str = "a name is bound by `{% with VALUE as NAME %} .. {% endwith 
 
 const FOR: &str = "a loop is `{% for x in list %}`, or `{% for key, value in map %}`";
 
-const INCLUDES: &str = "another template is `{% include \"NAME\" %}`, or `{% include \"NAME\" with {\"key\": value} %}`";
+const INCLUDES: &str =
+    "another template is `{% include \"NAME\" %}`, or `{% include \"NAME\" with {\"key\": value} %}`";
 
 const CLOSES: &str = "a block is closed by `{% endif %}`, `{% endfor %}` or `{% endwith %}`";
 
-const LAYOUT: &str = "there is no inheritance: a page includes its layout's parts, or a layout the page";
+const LAYOUT: &str =
+    "there is no inheritance: a page includes its layout's parts, or a layout the page";
 
 const COMMENT: &str = "a comment is `{# .. #}`";
 
@@ -75,7 +77,10 @@ const WORDS: [(&str, &str); 27] = [
     ("call", INCLUDES),
     ("render", INCLUDES),
     ("template", INCLUDES),
-    ("filter", "a formatter is applied by `{{ value | formatter }}`"),
+    (
+        "filter",
+        "a formatter is applied by `{{ value | formatter }}`",
+    ),
     ("unless", "`unless` is `{% if not a %}` here"),
     ("case", IF),
     ("switch", IF),
@@ -91,7 +96,10 @@ const AFTER_VALUES: [(&str, &str); 5] = [
     ("and", AND),
     ("or", OR),
     ("is", MISSES),
-    ("in", "there are no operators: a function looks whether a list has a value"),
+    (
+        "in",
+        "there are no operators: a function looks whether a list has a value",
+    ),
     ("if", IF),
 ];
 
@@ -107,7 +115,10 @@ const CHARACTERS: [(&str, &str); 16] = [
     ("*", COMPUTES),
     ("/", COMPUTES),
     ("%", COMPUTES),
-    ("~", "texts are put together by tags next to each other: `{{ a }}{{ b }}`"),
+    (
+        "~",
+        "texts are put together by tags next to each other: `{{ a }}{{ b }}`",
+    ),
     ("??", MISSES),
     ("?", IF),
     ("$", "a name begins with a letter or `_`"),
@@ -166,7 +177,9 @@ fn of_block(marked: Marked<'_>) -> Option<&'static str> {
 // The hint for a name where a string is wanted.
 fn of_name(marked: Marked<'_>) -> Option<&'static str> {
     if marked.before.trim_end().ends_with("{{{") {
-        return Some("values are not escaped; with --html, `{{ a | verbatim }}` leaves one as it is");
+        return Some(
+            "values are not escaped; with --html, `{{ a | verbatim }}` leaves one as it is",
+        );
     }
     if tag_of(marked.before).contains("include") {
         return Some(INCLUDES);
@@ -177,7 +190,11 @@ fn of_name(marked: Marked<'_>) -> Option<&'static str> {
 // The hint for a token that may not stand there.
 fn of_token(reason: &str, marked: Marked<'_>) -> Option<&'static str> {
     if let Some(word) = reason.strip_prefix("unexpected keyword ") {
-        return if word == "`not`" { Some(ONLY_IF) } else { Some(BLOCKS) };
+        return if word == "`not`" {
+            Some(ONLY_IF)
+        } else {
+            Some(BLOCKS)
+        };
     }
     let (_, found) = reason.split_once(", found ")?;
     match found {

@@ -1,6 +1,6 @@
 // The answer is the value, or that memory is out. `checks/growths` runs these tests with each growth refused in turn.
-use crate::serde::samples::Shape;
-use crate::serde::wanted::{integers, one, with};
+use crate::from_serde::samples::Shape;
+use crate::from_serde::wanted::{integers, one, with};
 use std::alloc::{AllocError, Global};
 use std::process::Abort;
 use std::test::Fail;

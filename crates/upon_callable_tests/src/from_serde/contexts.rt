@@ -1,5 +1,5 @@
 // The examples of docs/CONTEXTS.md, as they are there.
-use crate::serde::wanted::{integers, is_value, one, text, with};
+use crate::from_serde::wanted::{integers, is_value, one, text, with};
 use serde::Serialize;
 use std::alloc::{AllocError, Global};
 use std::collections::BTreeMap;
