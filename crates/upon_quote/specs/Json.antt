@@ -1,4 +1,4 @@
--- Texts as the content of JSON strings: what stands between the quotes (RFC 8259, section 7).
+-- Texts as the content of JSON strings: what is between the quotes (RFC 8259, section 7).
 use Rattle.std.specs.Prelude.{ℕ, List, [], ◌∷◌, ◌++◌, drop, Option, Some, None, ◌||◌, ◌==◌, nat_eq, nat_lt, if◌then◌else◌, codes, option_map}
 use Rattle.std.specs.Char.Utf16.{is_high_surrogate, is_low_surrogate, surrogate_pair_char}
 use Rattle.std.specs.List.{starts_with}
@@ -22,7 +22,7 @@ json_escape_of c = if c == byte "\"" then Some (codes "\\\"") else
 abbrev pub quoted_json : List ℕ → List ℕ
 quoted_json text = quoted_by json_escape_of text
 
--- the character that a letter behind `\` stands for
+-- the character that a letter after `\` means
 abbrev pub json_named : ℕ → Option ℕ
 json_named c = if c == byte "\"" then Some (byte "\"") else
     (if c == byte "\\" then Some (byte "\\") else
@@ -48,7 +48,7 @@ json_unit None cs = None
 json_unit (Some u) cs = if is_high_surrogate u then pair_with u (low_behind cs) else
     (if is_low_surrogate u then None else Some (u, 5))
 
--- what `\` and the characters behind it stand for
+-- what `\` and the characters after it mean
 abbrev pub json_escaped : List ℕ → Option (ℕ × ℕ)
 json_escaped [] = None
 json_escaped (c ∷ cs) = if c == byte "u" then json_unit (number_of 4 cs) (drop 4 cs) else

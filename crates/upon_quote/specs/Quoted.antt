@@ -1,7 +1,7 @@
 -- Texts in which some characters are written as escapes.
 use Rattle.std.specs.Prelude.{ℕ, List, [], ◌∷◌, ◌++◌, Option, Some, None}
 
--- how a language writes each character that may not stand for itself
+-- how a language writes each character that may not be written as itself
 abbrev pub Escapes : Type 0
 Escapes = ℕ → Option (List ℕ)
 

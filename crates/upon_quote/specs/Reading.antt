@@ -1,12 +1,12 @@
 -- What the content of a token reads as, character by character.
 use Rattle.std.specs.Prelude.{ℕ, suc, zero, List, [], ◌∷◌, Option, Some, None, option_map}
 
--- how a language reads the first character of a content, with what is behind it: which character it stands for, by
+-- how a language reads the first character of a content, with what comes after it: which character it means, by
 -- itself or as the beginning of an escape, and how many more characters the escape has; none, if no content begins so
 abbrev pub Reads : Type 0
 Reads = ℕ → List ℕ → Option (ℕ × ℕ)
 
--- the character that was read, and what is read behind its escape
+-- the character that was read, and what is read after its escape
 abbrev pub read_then : Option (ℕ × ℕ) → (ℕ → Option (List ℕ)) → Option (List ℕ)
 read_then None rest = None
 read_then (Some first) rest = option_map (λ text. first.0 ∷ text) (rest first.1)

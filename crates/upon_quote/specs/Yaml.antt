@@ -1,4 +1,4 @@
--- Texts as the content of double-quoted scalars of YAML: what stands between the quotes, on one line
+-- Texts as the content of double-quoted scalars of YAML: what is between the quotes, on one line
 -- (YAML 1.2.2, section 7.3.1, with the escapes of section 5.7).
 use Rattle.std.specs.Prelude.{ℕ, List, [], ◌∷◌, ◌++◌, Option, Some, None, Bool, ◌||◌, ◌&&◌, not, ◌==◌, nat_lt, nat_le, if◌then◌else◌, codes, option_map}
 use Rattle.std.specs.Int.{is_in_range}
@@ -30,7 +30,7 @@ yaml_escape_of c = if c == byte "\"" then Some (codes "\\\"") else
 abbrev pub quoted_yaml : List ℕ → List ℕ
 quoted_yaml text = quoted_by yaml_escape_of text
 
--- the character that a letter behind `\` stands for
+-- the character that a letter after `\` means
 abbrev pub yaml_named : ℕ → Option ℕ
 yaml_named c = if c == byte "0" then Some 0x0 else
     (if c == byte "a" then Some 0x7 else
@@ -56,7 +56,7 @@ yaml_number more None = None
 yaml_number more (Some c) =
     if nat_lt c 0xD800 || (nat_le 0xE000 c && nat_le c 0x10FFFF) then Some (c, more) else None
 
--- what `\` and the characters behind it stand for
+-- what `\` and the characters after it mean
 abbrev pub yaml_escaped : List ℕ → Option (ℕ × ℕ)
 yaml_escaped [] = None
 yaml_escaped (c ∷ cs) = if c == byte "x" then yaml_number 3 (number_of 2 cs) else
