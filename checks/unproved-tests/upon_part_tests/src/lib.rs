@@ -18,6 +18,12 @@ mod render;
 #[cfg(test)]
 mod standard;
 #[cfg(test)]
+mod standard_orders;
+#[cfg(test)]
+mod standard_parts;
+#[cfg(test)]
+mod standard_writing;
+#[cfg(test)]
 mod syntax;
 #[cfg(test)]
 mod vm_calls;

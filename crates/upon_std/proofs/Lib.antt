@@ -1,0 +1,4 @@
+pub mod CaseTables
+pub mod Characters
+pub mod LowerLemmas
+pub mod UpperLemmas

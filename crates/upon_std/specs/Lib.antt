@@ -1,0 +1,2 @@
+-- What the standard functions answer, and their names.
+pub mod Table

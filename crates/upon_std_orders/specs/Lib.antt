@@ -1,0 +1,9 @@
+pub mod Keys
+pub mod Sorting
+pub mod Ranks
+pub mod Distinct
+pub mod Grouping
+pub mod Buckets
+pub mod Spelling
+pub mod Outcomes
+pub mod Orders

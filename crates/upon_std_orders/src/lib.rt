@@ -1,0 +1,11 @@
+// Functions that templates expect of lists: to sort them, to drop repeated items and to group them.
+#![tactic(auto)]
+
+mod calls;
+mod distinct;
+mod grouping;
+mod keys;
+pub mod laws;
+pub mod orders;
+mod sorting;
+mod spelling;

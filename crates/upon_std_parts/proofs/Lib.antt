@@ -1,0 +1,6 @@
+mod Items
+mod Integers
+mod Pieces
+mod Appending
+mod Sums
+mod LawLemmas

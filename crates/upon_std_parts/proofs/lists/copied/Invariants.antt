@@ -1,0 +1,6 @@
+use Rattle.std.proofs.Common.{◌≡◌, map, take}
+use Rattle.upon_types.specs.View.{view}
+use Rattle.upon_std_parts.proofs.lists.copied.Given as goal
+
+abbrev pub invariant-loop-item : goal.invariant-loop-item
+invariant-loop-item l = map view l.copies.items ≡ map view (take l.item-index l.items)

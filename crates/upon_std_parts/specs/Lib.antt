@@ -1,0 +1,5 @@
+pub mod Items
+pub mod Numbers
+pub mod Pieces
+pub mod Outcomes
+pub mod Parts

@@ -1,0 +1,10 @@
+pub mod Blanks
+pub mod Characters
+pub mod Fronts
+pub mod JsonAgain
+pub mod JsonNumbers
+pub mod JsonStrings
+pub mod JsonTrees
+pub mod JsonWriting
+pub mod UrlLemmas
+pub mod Widths

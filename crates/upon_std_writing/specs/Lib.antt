@@ -1,0 +1,9 @@
+pub mod Columns
+pub mod Padding
+pub mod Truncating
+pub mod Url
+pub mod Tokens
+pub mod JsonText
+pub mod Held
+pub mod Outcomes
+pub mod Writing
