@@ -1,10 +1,11 @@
 -- What an engine holds as it is filled, and what is shown of it.
-use Rattle.std.proofs.Common.{◌≡◌, ◌∙◌, ◌∷◌, [], ℕ, List, Bool, true, false, Bor, Option, Some, None, Result, Ok, Err, IfErr, IfOk, IsErrAnd, IsSomeAnd, OnErr, String, Global, codes, option_map, string_bytes, refl, sym, ap, subst, inl, inr}
+use Rattle.std.proofs.Common.{◌≡◌, ◌<◌, ◌≤◌, ◌+◌, ◌∙◌, ◌∷◌, [], ◌++◌, ℕ, List, length, take, get_or, Bool, true, false, Bor, Option, Some, None, Result, Ok, Err, IfErr, IfOk, IsErrAnd, IsSomeAnd, OnErr, String, Global, codes, option_map, string_bytes, refl, sym, ap, subst, inl, inr}
 use Rattle.std.specs.Io.KnownBytes.{Appends}
 use Rattle.std.specs.Str.{bytes_eq}
+use Rattle.std.proofs.lemmas.List.{take_all, take_more}
 use Rattle.std.proofs.lemmas.Map.{update_same}
 use Rattle.std.proofs.lemmas.Slice.Eq.{bytes_eq-Decides}
-use Rattle.upon_types.specs.Answers.{Formatter, formatter}
+use Rattle.upon_types.specs.Answers.{Formatter, Function, formatter, function}
 use Rattle.upon_types.specs.Error.{fault_of}
 use Rattle.upon_types.specs.Fault.{syntax}
 use Rattle.upon_types.specs.Tree.{Statements}
@@ -20,15 +21,18 @@ use Rattle.upon_engine.specs.Texts.{Stored, Texts}
 use Rattle.upon_engine.specs.Theorem.{IsTable}
 use Rattle.upon_engine.specs.declared.needs.Needs.{Needs}
 use Rattle.upon_tool_io.specs.declared.files.ReadFault.{ReadFault}
-use Rattle.upon_html.specs.Escaped.{escaped}
+use Rattle.upon_tool_io.specs.declared.arguments.Escape.{Escape}
+use Rattle.upon_tool.specs.Escaping.{format_for}
 use Rattle.upon_json.specs.Context.{set_pairs}
+use Rattle.upon_std.specs.Table.{standard_answer, standard_name}
+use Rattle.upon_std.specs.declared.table.StandardFunction.{StandardFunction}
 use Rattle.upon_tool.specs.Library.{IsOfAdded}
 use Rattle.upon_tool.specs.Names.{needs_text, NeededBy}
 use Rattle.upon_tool.specs.Rendering.{json_in, Renders, SendsPage, ShowsPage, StaysWithin}
 use Rattle.upon_tool.specs.Sources.{IsTextAt}
 use Rattle.upon_tool.specs.Status.{end_status}
 use Rattle.upon_tool.specs.Words.{json_named}
-use Rattle.upon_tool.specs.Filled.{html_engine, with_page, EachHasTree, TakesFiles, TakesRead, TakesText}
+use Rattle.upon_tool.specs.Filled.{engine_for, escaping_engine, with_functions, with_page, EachHasTree, TakesFiles, TakesRead, TakesText}
 use Rattle.upon_tool.specs.Work.{ListsNames, RefusesWork, Works}
 use Rattle.upon_tool.specs.declared.failure.Failure.{Failure}
 use Rattle.upon_tool.specs.declared.failure.Failure.TheVariants.{Fault}
@@ -53,9 +57,16 @@ takes_syntax : (files : List FolderFile) (old new : Texts) → TakesFiles files 
 takes_syntax [] old new is = ap (λ e. e.syntax) is
 takes_syntax (file ∷ files) old new takes = takes_syntax files takes.0 new takes.2 ∙ read_syntax (string_bytes file.name) file.read old takes.0 takes.1
 
-html_syntax : (html : Bool) → (html_engine html).syntax ≡ default_delimiters
-html_syntax true = refl
-html_syntax false = refl
+escaping_syntax : (escape : Option Escape) → (escaping_engine escape).syntax ≡ default_delimiters
+escaping_syntax None = refl
+escaping_syntax (Some language) = refl
+
+functions_syntax : (functions : List StandardFunction) (e : Texts) → (with_functions functions e).syntax ≡ e.syntax
+functions_syntax [] e = refl
+functions_syntax (f ∷ fs) e = functions_syntax fs (with_callable (standard_name f) (function (standard_answer f)) e)
+
+begun_syntax : (escape : Option Escape) (functions : List StandardFunction) → (engine_for escape functions).syntax ≡ default_delimiters
+begun_syntax escape functions = functions_syntax functions (escaping_engine escape) ∙ escaping_syntax escape
 
 -- ---- what is shown
 pub json_is : (name : Option (Bor (List ℕ))) (later : Option (List ℕ)) (text : Option (String Global)) → IsTextAt name later (option_map string_bytes text) → json_named name text ≡ option_map string_bytes text
@@ -64,12 +75,12 @@ json_is (Some name) later None is = absurd is
 json_is (Some name) later (Some text) is = refl
 
 -- the text of a page that an engine was given last
-pub page_shown : (html : Bool) (files : List FolderFile) (folder e : Texts) (page : Page) (text : List ℕ) (status : ℕ) (old new : Option (List ℕ)) (json : Option (List ℕ)) (pairs : List (List ℕ × Val)) → TakesFiles files (html_engine html) folder
+pub page_shown : (escape : Option Escape) (functions : List StandardFunction) (files : List FolderFile) (folder e : Texts) (page : Page) (text : List ℕ) (status : ℕ) (old new : Option (List ℕ)) (json : Option (List ℕ)) (pairs : List (List ℕ × Val)) → TakesFiles files (engine_for escape functions) folder
     → e ≡ with_text page.name.now text folder → EachHasTree e → ShowsPage e page status old new → json_in page.json ≡ json → set_pairs page.set.now ≡ pairs
     → (tree : Statements) × ∥ HasTree default_delimiters text tree ∥₁
     × ((end : Result (Unit {0}) Failure) × (status ≡ end_status end) × Renders json pairs (λ v r. SendsPage page.limits (with_text page.name.now text folder) (Some page.name.now) text tree v r old new) end
     × StaysWithin page.limits.output old new)
-page_shown html files folder e page text status old new json pairs takes is each shows same_json same_pairs =
+page_shown escape functions files folder e page text status old new json pairs takes is each shows same_json same_pairs =
     let name = page.name.now in
     let filled : Texts = with_text name text folder in
     let held : Stored = record { text = text; syntax = folder.syntax } in
@@ -77,7 +88,7 @@ page_shown html files folder e page text status old new json pairs takes is each
     let has = subst EachHasTree is each name held there in
     let said = subst (λ e. ShowsPage e page status old new) is shows held has.0 there has.1 in (
       has.0,
-      subst (λ d. ∥ HasTree d text has.0 ∥₁) (takes_syntax files (html_engine html) folder takes ∙ html_syntax html) has.1,
+      subst (λ d. ∥ HasTree d text has.0 ∥₁) (takes_syntax files (engine_for escape functions) folder takes ∙ begun_syntax escape functions) has.1,
       (
         said.0,
         said.1,
@@ -101,14 +112,34 @@ work_listed work name json e input status old new is lists = subst (λ w. Works 
 
 -- ---- how an engine is filled
 -- its formatters, if values are escaped
-pub with_html : (b a e : Texts) (f g : Formatter) (html : Bool) → html ≡ true → b ≡ empty_engine → a ≡ with_callable (codes "verbatim") (formatter f) b → f ≡ default_format → e ≡ with_default_formatter g a → g ≡ escaped → e ≡ html_engine html
-with_html b a e f g html so before added verbatim set escapes =
+pub with_escape : (b a e : Texts) (f g : Formatter) (escape : Option Escape) (language : Escape) → escape ≡ Some language → b ≡ empty_engine → a ≡ with_callable (codes "verbatim") (formatter f) b → f ≡ default_format → e ≡ with_default_formatter g a → g ≡ format_for language → e ≡ escaping_engine escape
+with_escape b a e f g escape language so before added verbatim set escapes =
     set
     ∙ (λ i. with_default_formatter (escapes i) ((added ∙ λ j. with_callable (codes "verbatim") (formatter (verbatim j)) (before j)) i))
-    ∙ ap html_engine (sym so)
+    ∙ ap escaping_engine (sym so)
 
-pub without_html : (e : Texts) (html : Bool) → html ≡ false → e ≡ empty_engine → e ≡ html_engine html
-without_html e html so is = is ∙ ap html_engine (sym so)
+pub without_escape : (e : Texts) (escape : Option Escape) → escape ≡ None → e ≡ empty_engine → e ≡ escaping_engine escape
+without_escape e escape so is = is ∙ ap escaping_engine (sym so)
+
+-- its functions, one more
+functions_more : (functions : List StandardFunction) (f : StandardFunction) (e : Texts) → with_functions (functions ++ f ∷ []) e ≡ with_callable (standard_name f) (function (standard_answer f)) (with_functions functions e)
+functions_more [] f e = refl
+functions_more (first ∷ rest) f e = functions_more rest f (with_callable (standard_name first) (function (standard_answer first)) e)
+
+pub function_added : (functions : List StandardFunction) (i : ℕ) (d f : StandardFunction) (name : List ℕ) (answers : Function) (first old new : Texts) → i < length functions → old ≡ with_functions (take i functions) first
+    → get_or functions i d ≡ f → name ≡ standard_name f → answers ≡ standard_answer f → new ≡ with_callable name (function answers) old → new ≡ with_functions (take (i + 1) functions) first
+function_added functions i d f name answers first old new inside so_far is named answered added =
+    added
+    ∙ (λ j. with_callable (named j) (function (answered j)) (so_far j))
+    ∙ sym (functions_more (take i functions) f first)
+    ∙ ap (λ f. with_functions (take i functions ++ f ∷ []) first) (sym is)
+    ∙ ap (λ fs. with_functions fs first) (sym (take_more functions i d inside))
+
+pub all_added : (functions : List StandardFunction) (i : ℕ) (escape : Option Escape) (first e : Texts) → length functions ≤ i → e ≡ with_functions (take i functions) first → first ≡ escaping_engine escape → e ≡ engine_for escape functions
+all_added functions i escape first e done is begun =
+    is
+    ∙ ap (λ fs. with_functions fs first) (take_all i functions done)
+    ∙ ap (with_functions functions) begun
 
 -- a file of the folder
 pub read_taken : {F : Type 0} (key name : List ℕ) (read : Result (String Global) ReadFault) (text : String Global) (old after next : Texts) (added : Result (Unit {0}) Error) (q : Result (Option Refusal) F) (r : Option Refusal) → key ≡ name → read ≡ Ok text → next ≡ after → q ≡ Ok r → IsOfAdded added q
@@ -140,10 +171,10 @@ no_page page folder e none is = is ∙ ap (λ page. with_page page folder) (sym 
 
 -- which is refused for its fault
 pub page_refused : (templates : Templates) (work : Work) (name : Bor (List ℕ)) (source : String Global) (folder : Texts) (e : Error) (r : Result ℕ Failure) → templates.page ≡ Some (name, source) → IsErrAnd r (λ f. f ≡ Fault e)
-    → IsSyntaxErrorOf name.now folder.syntax (string_bytes source) e → TakesFiles templates.files.items (html_engine templates.html) folder → IfErr r (RefusesWork templates work)
+    → IsSyntaxErrorOf name.now folder.syntax (string_bytes source) e → TakesFiles templates.files.items (engine_for templates.escape templates.functions.now) folder → IfErr r (RefusesWork templates work)
 page_refused templates work name source folder e (Ok status) there is faulty takes = absurd is
 page_refused templates work name source folder e (Err f) there is faulty takes =
-    let same = takes_syntax templates.files.items (html_engine templates.html) folder takes ∙ html_syntax templates.html in
+    let same = takes_syntax templates.files.items (engine_for templates.escape templates.functions.now) folder takes ∙ begun_syntax templates.escape templates.functions.now in
     let fault = subst (λ d. IsSyntaxErrorOf name.now d (string_bytes source) e) same faulty in
     let said = subst (λ page. IsSomeAnd page (λ page. IsSyntaxErrorOf page.0.now default_delimiters (string_bytes page.1) e)) (sym there) fault in
     subst (RefusesWork templates work) (sym is) (inr said)

@@ -14,7 +14,7 @@ use Rattle.upon_tool_io.specs.declared.arguments.Call.TheVariants.{Render as Ren
 use Rattle.upon_tool_io.specs.declared.arguments.CheckCall.{CheckCall}
 use Rattle.upon_tool_io.specs.declared.arguments.NamesCall.{NamesCall}
 use Rattle.upon_tool_io.specs.declared.arguments.RenderCall.{RenderCall}
-use Rattle.upon_tool.specs.Filled.{html_engine, TakesFiles}
+use Rattle.upon_tool.specs.Filled.{engine_for, standard_functions, TakesFiles}
 use Rattle.upon_tool.specs.Refusals.{Refuses}
 use Rattle.upon_tool.specs.Rendering.{Renders, SendsPage, StaysWithin}
 use Rattle.upon_tool.specs.Sources.{IsTextAt, IsTextOf}
@@ -43,7 +43,7 @@ pub record RendersCall (call : RenderCall) (input : Option (List ℕ)) (status :
   pub left : is_standard call.file.now ≡ false → later ≡ input
   pub data_read : IsTextAt call.data later json
   pub no_folder : IsNone call.templates → files ≡ []
-  pub taken : TakesFiles files (html_engine call.html) folder
+  pub taken : TakesFiles files (engine_for call.escape (standard_functions call.standard)) folder
   pub shown : to_standard call.out ≡ true → (tree : Statements) × ∥ HasTree default_delimiters text tree ∥₁
       × ((end : Result (Unit {0}) Failure) × (status ≡ end_status end) × Renders json (split_words call.set.items)
       (λ v r. SendsPage (limits_asked call) (with_text call.file.now text folder) (Some call.file.now) text tree v r
@@ -57,7 +57,7 @@ pub record ListsCall (call : NamesCall) (input : Option (List ℕ)) (status : �
   pub folder : Texts
   pub read : IsTextOf call.file.now input text
   pub no_folder : IsNone call.templates → files ≡ []
-  pub taken : TakesFiles files (html_engine false) folder
+  pub taken : TakesFiles files (engine_for None []) folder
   pub listed : ListsNames (with_text call.file.now text folder) call.file.now call.json status old new
 
 -- A call of `check` ends with a status, so. If that is 0, each FILE's text has a tree, and no include in it names
@@ -66,7 +66,7 @@ pub record ChecksCall (call : CheckCall) (input : Option (List ℕ)) (status : �
   pub files : List FolderFile
   pub folder : Texts
   pub no_folder : IsNone call.templates → files ≡ []
-  pub taken : TakesFiles files (html_engine false) folder
+  pub taken : TakesFiles files (engine_for None []) folder
   pub checked : ChecksFiles folder call.files.items input status
   pub folder_checked : status ≡ 0 → EachFileIsRight folder files
 

@@ -6,6 +6,7 @@ pub mod Names
 pub mod Words
 pub mod Sources
 pub mod Refusals
+pub mod Escaping
 pub mod Filled
 pub mod Work
 pub mod Calls

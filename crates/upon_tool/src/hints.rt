@@ -11,6 +11,9 @@ struct Marked<'p> {
 
 /// Returns the hint for a fault of this reason and picture, if what is marked there looks like another language's.
 pub(crate) fn hint_of(reason: &str, picture: &str) -> Option<&'static str> {
+    if !is_hinted(reason) {
+        return None;
+    }
     let marked = mark_in(picture)?;
     match reason {
         "unexpected character" => of_character(marked),
@@ -21,6 +24,13 @@ pub(crate) fn hint_of(reason: &str, picture: &str) -> Option<&'static str> {
         "expected string, found identifier" => of_name(marked),
         _ => of_token(reason, marked),
     }
+}
+
+// Whether there are hints for this reason: no picture is looked at for another one.
+fn is_hinted(reason: &str) -> bool {
+    matches!(reason, "unexpected character" | "invalid float literal")
+        || reason.starts_with("unexpected keyword ")
+        || reason.contains(", found ")
 }
 
 const COMPARES: &str = "there are no operators: functions compare, as in `{% if eq(a, b) %}`";

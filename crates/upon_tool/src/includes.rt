@@ -21,8 +21,11 @@ pub fn including(alloc: Global, quoted: &str) -> Result<Template<'static>> {
     Engine::new(alloc).compile(CowStr::Owned(source))
 }
 
+// How many includes of a text are shown by their pictures, for each of which the text is walked from its begin.
+const PICTURES: usize = 100;
+
 /// Shows the first include of each of these names in a text, as the error with which a rendering would end there, and
-/// says how many more there are.
+/// says how many more there are. The first hundred are shown with their pictures, the others in a line each.
 pub fn show_includes<E: io::Write>(
     alloc: Global,
     name: &str,
@@ -34,6 +37,7 @@ pub fn show_includes<E: io::Write>(
     let searcher = Searcher::new();
     let mut lexer = Lexer::new(alloc, &searcher, source);
     let mut is_next = false;
+    let mut shown = 0;
     // A token has a byte, so there are at most as many tokens as bytes.
     for _ in 0..source.len() {
         let Some((token, span)) = lexer.next()? else {
@@ -42,7 +46,7 @@ pub fn show_includes<E: io::Write>(
         let text = source.get(span.m..span.n).unwrap_or_default();
         if is_next {
             if let Some(count) = counts.remove(included(alloc, text)?.as_str()) {
-                show_include(alloc, name, source, span, err);
+                shown = show_next(alloc, name, source, span, shown, err);
                 show_count(name, count, err);
             }
         }
@@ -79,6 +83,29 @@ fn zeros(alloc: Global, names: &[&str]) -> Result<BTreeMap<String, usize>> {
         drop(counts.insert(String::from_str(alloc, name)?, 0)?);
     }
     Ok(counts)
+}
+
+// Shows an include at a span, after so many that have been shown, and returns how many have been then.
+fn show_next<E: io::Write>(
+    alloc: Global,
+    name: &str,
+    source: &str,
+    span: Span,
+    shown: usize,
+    err: &mut E,
+) -> usize
+    requires { LiesIn source.now span }
+{
+    if shown < PICTURES {
+        show_include(alloc, name, source, span, err);
+        return shown + 1;
+    }
+    let quoted = source.get(span.m..span.n).unwrap_or_default();
+    let _ = writeln!(
+        err,
+        "upon-tool: {name} includes {quoted}, which no template is named"
+    );
+    shown
 }
 
 // Shows an include at a span.

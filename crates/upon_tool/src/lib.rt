@@ -3,6 +3,7 @@
 #![tactic(auto)]
 
 pub mod check;
+mod escaping;
 pub mod failure;
 mod hints;
 pub mod includes;

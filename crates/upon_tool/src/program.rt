@@ -2,6 +2,7 @@
 ghost use Rattle.std.specs.Prelude.{◌≡◌, ◌≤◌, false, IfErr, IfOk, IfSome, IsNone, OnErr};
 ghost use Rattle.upon_types.specs.Val.{text_val};
 ghost use Rattle.upon_json.specs.Context.{set_pairs};
+ghost use Rattle.upon_tool.specs.Filled.{standard_functions};
 ghost use Rattle.upon_tool.specs.Rendering.{json_in};
 ghost use Rattle.upon_tool.specs.Calls.{CallEnds, ChecksCall, ListsCall, RefusesCall, RendersCall, Runs};
 ghost use Rattle.upon_tool_io.specs.declared.arguments.Call.TheVariants.{Render as RenderAsked, Check as CheckAsked, Names as NamesAsked};
@@ -16,6 +17,7 @@ use std::alloc::Global;
 use std::io::{Read, Write};
 use std::rt::Files;
 use upon::Limits;
+use upon_std::table::{ALL, StandardFunction};
 use upon_tool_io::arguments::{self, Call, CheckCall, NamesCall, RenderCall};
 
 /// Does what the words ask for, of which the first is the program's name, and returns the status. Templates and
@@ -121,7 +123,8 @@ fn run_render<'a, R: Files + AllocGlobal + Clone + Drop, I: Read, O: Write, E: W
     let templates = Templates {
         files,
         page: Some((call.file, source)),
-        html: call.html,
+        escape: call.escape,
+        functions: standard(call.standard),
     };
     let page = Page {
         name: call.file,
@@ -141,6 +144,17 @@ fn run_render<'a, R: Files + AllocGlobal + Clone + Drop, I: Read, O: Write, E: W
         out,
         err,
     )
+}
+
+// The functions that templates may call.
+fn standard(wanted: bool) -> &'static [StandardFunction]
+    ensures { result.now ≡ standard_functions wanted }
+{
+    if wanted {
+        ALL.as_slice()
+    } else {
+        [].as_slice()
+    }
 }
 
 // A text that may be there, after its file's name.
@@ -193,7 +207,8 @@ fn run_check<'a, R: Files + AllocGlobal + Clone + Drop, I: Read, O: Write, E: Wr
     let templates = Templates {
         files,
         page: None,
-        html: false,
+        escape: None,
+        functions: [].as_slice(),
     };
     carry_out(
         rt,
@@ -224,7 +239,8 @@ fn run_names<'a, R: Files + AllocGlobal + Clone + Drop, I: Read, O: Write, E: Wr
     let templates = Templates {
         files,
         page: Some((call.file, source)),
-        html: false,
+        escape: None,
+        functions: [].as_slice(),
     };
     carry_out(
         rt,

@@ -10,6 +10,7 @@ ghost use Rattle.upon_tool.specs.Sources.{AreTexts};
 ghost use Rattle.upon_tool.specs.Work.{checked_files, to_standard, CarriesOut, ChecksFiles, IsCheck, IsUnreadOf, ListsNames, RefusesWork, Works};
 
 use crate::check::{check_file, check_text};
+use crate::escaping::Escaping;
 use crate::failure::Failure;
 use crate::library::{Library, Refusal};
 use crate::names;
@@ -21,7 +22,9 @@ use std::io::{BufWriter, Read, Write};
 use std::rt::Files;
 use upon::{AnyEngine, Engine, EngineTexts, theorem};
 use upon_engine::laws_of_templates;
-use upon_html::formatters::{Escape, Verbatim};
+use upon_html::formatters::Verbatim;
+use upon_std::table::StandardFunction;
+use upon_tool_io::arguments::Escape;
 use upon_tool_io::output::{Replacement, WriteFault};
 
 /// What an engine is to hold.
@@ -31,8 +34,10 @@ pub(crate) struct Templates<'a> {
     pub(crate) files: Vec<FolderFile>,
     /// A template, by its name.
     pub(crate) page: Option<(&'a str, String)>,
-    /// Whether values are escaped for HTML.
-    pub(crate) html: bool,
+    /// The language that values are escaped for, if they are.
+    pub(crate) escape: Option<Escape>,
+    /// The functions that templates may call.
+    pub(crate) functions: &'a [StandardFunction],
 }
 
 /// What is done with it.
@@ -68,11 +73,20 @@ pub(crate) fn carry_out<'a, R: Files + AllocGlobal + Clone + Drop, I: Read, O: W
     ensures refused { IfErr result (RefusesWork templates.entry work.entry) }
 {
     let alloc = rt.alloc();
-    let Templates { files, page, html } = templates;
+    let Templates {
+        files,
+        page,
+        escape,
+        functions,
+    } = templates;
     let mut engine = Engine::new(alloc);
-    if html {
+    if let Some(language) = escape {
         engine.add_formatter(CowStr::Borrowed("verbatim"), Box::new(alloc, Verbatim)?)?;
-        engine.set_default_formatter(Box::new(alloc, Escape)?);
+        engine.set_default_formatter(Box::new(alloc, Escaping { language })?);
+    }
+    for function in functions {
+        let boxed = Box::new(alloc, *function)?;
+        engine.add_function(CowStr::Borrowed(function.name()), boxed)?;
     }
     let mut library = Library::new(alloc);
     for file in files {

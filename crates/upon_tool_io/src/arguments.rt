@@ -27,8 +27,10 @@ pub struct RenderCall<'a> {
     pub templates: Option<&'a str>,
     /// Whether links out of the folder are followed.
     pub follow: bool,
-    /// Whether values are escaped for HTML.
-    pub html: bool,
+    /// The language that values are escaped for, if they are.
+    pub escape: Option<Escape>,
+    /// Whether templates may call the standard functions.
+    pub standard: bool,
     /// Where the text goes; none and `-` are standard output.
     pub out: Option<&'a str>,
     /// The most steps that the rendering takes; none is no limit.
@@ -37,6 +39,19 @@ pub struct RenderCall<'a> {
     pub max_output: Option<usize>,
     /// The most bytes of values that it makes; none is no limit.
     pub max_memory: Option<usize>,
+}
+
+/// A language that values are escaped for.
+#[derive(Clone, Copy, Debug, PartialEq, Eq)]
+pub enum Escape {
+    /// HTML.
+    Html,
+    /// The content of a JSON string.
+    Json,
+    /// A word of a shell.
+    Shell,
+    /// The content of a double-quoted scalar of YAML.
+    Yaml,
 }
 
 /// A check that is asked for.
@@ -77,6 +92,13 @@ const TEMPLATES: &str = "templates";
 const FOLLOW: &str = "follow";
 
 const HTML: &str = "html";
+
+const ESCAPE: &str = "escape";
+
+// The names of languages.
+const LANGUAGES: [&str; 4] = ["html", "json", "shell", "yaml"];
+
+const STD: &str = "std";
 
 const OUT: &str = "out";
 
@@ -137,12 +159,25 @@ fn render_call<'a>(alloc: Global, matches: &ArgMatches<'a>) -> Result<RenderCall
         set: words(alloc, matches.get_strs(SET))?,
         templates: matches.get_str(TEMPLATES),
         follow: matches.get_flag(FOLLOW),
-        html: matches.get_flag(HTML),
+        escape: escape_of(matches.get_str(ESCAPE), matches.get_flag(HTML)),
+        standard: matches.get_flag(STD),
         out: matches.get_str(OUT),
         max_steps: matches.get_one::<usize>(MAX_STEPS),
         max_output: matches.get_one::<usize>(MAX_OUTPUT),
         max_memory: matches.get_one::<usize>(MAX_MEMORY),
     })
+}
+
+// The language of a name, or HTML if that is asked for by its own flag.
+fn escape_of(name: Option<&str>, html: bool) -> Option<Escape> {
+    match name {
+        Some("html") => Some(Escape::Html),
+        Some("json") => Some(Escape::Json),
+        Some("shell") => Some(Escape::Shell),
+        Some("yaml") => Some(Escape::Yaml),
+        _ if html => Some(Escape::Html),
+        _ => None,
+    }
 }
 
 // What a check's matches ask for.
@@ -212,6 +247,8 @@ fn render_command<'a>(alloc: Global) -> Result<Command<'a>, AllocError> {
         .arg(templates(alloc))?
         .arg(follow(alloc))?
         .arg(html(alloc))?
+        .arg(language(alloc))?
+        .arg(standard(alloc))?
         .arg(option(
             alloc,
             OUT,
@@ -277,11 +314,21 @@ fn follow<'a>(alloc: Global) -> Arg<'a> {
 }
 
 fn html<'a>(alloc: Global) -> Arg<'a> {
-    flag(
+    flag(alloc, HTML, "Escape values for HTML, as --escape html does")
+}
+
+fn language<'a>(alloc: Global) -> Arg<'a> {
+    option(
         alloc,
-        HTML,
-        "Escape values for HTML; the formatter verbatim leaves one as it is",
+        ESCAPE,
+        "LANGUAGE",
+        "Escape values for a language; the formatter verbatim leaves one as it is",
     )
+    .value_parser(LANGUAGES.as_slice())
+}
+
+fn standard<'a>(alloc: Global) -> Arg<'a> {
+    flag(alloc, STD, "Let templates call the standard functions")
 }
 
 fn max_steps<'a>(alloc: Global) -> Arg<'a> {

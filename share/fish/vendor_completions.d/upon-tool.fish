@@ -7,6 +7,8 @@ complete -c upon-tool -n __fish_use_subcommand -s V -l version -d 'Print version
 complete -c upon-tool -n '__fish_seen_subcommand_from render' -r -l data -d 'The JSON that is the context'
 complete -c upon-tool -n '__fish_seen_subcommand_from render' -x -l set -d 'Set a text at a key of the context'
 complete -c upon-tool -n '__fish_seen_subcommand_from render' -l html -d 'Escape values for HTML'
+complete -c upon-tool -n '__fish_seen_subcommand_from render' -x -a 'html json shell yaml' -l escape -d 'Escape values for a language'
+complete -c upon-tool -n '__fish_seen_subcommand_from render' -l std -d 'Let templates call the standard functions'
 complete -c upon-tool -n '__fish_seen_subcommand_from render' -r -l out -d 'Write to this file'
 complete -c upon-tool -n '__fish_seen_subcommand_from render' -x -l max-steps -d 'Stop a rendering that takes more than N steps'
 complete -c upon-tool -n '__fish_seen_subcommand_from render' -x -l max-output -d 'Stop a rendering that writes more than this many bytes'

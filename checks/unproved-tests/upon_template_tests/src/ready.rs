@@ -8,7 +8,7 @@ use upon_data::table::table;
 use upon_quote::json::Json;
 use upon_quote::shell::Shell;
 use upon_quote::yaml::Yaml;
-use upon_std_functions::table::ALL;
+use upon_std::table::ALL;
 
 fn prices(alloc: Global) -> Result<String> {
     let mut engine = Engine::new(alloc);
@@ -42,6 +42,26 @@ fn list(alloc: Global) -> Option<Result<String>> {
 #[test]
 fn standard_functions(rt: HostRuntime) -> std::result::Result<(), Fail> {
     assert_eq!(&rt; prices(rt.alloc())?.as_str(), "TEA 3.50 *\nMILK 0.95\n2 rows\n");
+    Ok(())
+}
+
+// How many standard functions have this name.
+fn times(name: &str) -> usize {
+    let mut times = 0usize;
+    for function in ALL {
+        if function.name() == name {
+            times = times.saturating_add(1);
+        }
+    }
+    times
+}
+
+#[test]
+fn standard_names(rt: HostRuntime) -> std::result::Result<(), Fail> {
+    assert_eq!(&rt; ALL.len(), 59);
+    for function in ALL {
+        assert_eq!(&rt; times(function.name()), 1, "{}", function.name());
+    }
     Ok(())
 }
 

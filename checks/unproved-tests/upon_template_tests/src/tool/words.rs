@@ -29,14 +29,16 @@ fn render_line(alloc: Global, call: &RenderCall<'_>) -> Result<String, AllocErro
         set,
         templates,
         follow,
-        html,
+        escape,
+        standard,
         out,
         max_steps,
         max_output,
         max_memory,
     } = call;
     let limits = format!(in alloc; "{max_steps:?} {max_output:?} {max_memory:?}")?;
-    format!(in alloc; "{file} {data:?} {set:?} {templates:?} {follow} {html} {out:?} {limits}")
+    let writing = format!(in alloc; "{escape:?} {standard}")?;
+    format!(in alloc; "{file} {data:?} {set:?} {templates:?} {follow} {writing} {out:?} {limits}")
 }
 
 fn check_line(alloc: Global, call: &CheckCall<'_>) -> Result<String, AllocError> {
@@ -61,7 +63,7 @@ fn names_line(alloc: Global, call: &NamesCall<'_>) -> Result<String, AllocError>
 #[test]
 fn renderings(rt: HostRuntime) -> Result<(), Fail> {
     let alloc = rt.alloc();
-    asks(alloc, &["t", "render", "a"], "a None [] None false false None None None None")?;
+    asks(alloc, &["t", "render", "a"], "a None [] None false None false None None None None")?;
     let words = [
         "t",
         "render",
@@ -78,10 +80,32 @@ fn renderings(rt: HostRuntime) -> Result<(), Fail> {
     asks(
         alloc,
         words.as_slice(),
-        "a Some(\"-\") [\"k=v\", \"k=-w\"] None false true Some(\"o\") None None None",
+        "a Some(\"-\") [\"k=v\", \"k=-w\"] None false Some(Html) false Some(\"o\") None None None",
     )?;
     let words = ["t", "render", "--templates", "d", "--follow", "--", "-a"];
-    asks(alloc, words.as_slice(), "-a None [] Some(\"d\") true false None None None None")
+    asks(alloc, words.as_slice(), "-a None [] Some(\"d\") true None false None None None None")
+}
+
+#[test]
+fn languages(rt: HostRuntime) -> Result<(), Fail> {
+    let alloc = rt.alloc();
+    for (words, writing) in [
+        (["--escape", "html"], "Some(Html) false"),
+        (["--escape", "json"], "Some(Json) false"),
+        (["--escape", "shell"], "Some(Shell) false"),
+        (["--escape=yaml", "--html"], "Some(Yaml) false"),
+        (["--html", "--std"], "Some(Html) true"),
+        (["--escape=json", "--std"], "Some(Json) true"),
+    ] {
+        let wanted = format!(in alloc; "a None [] None false {writing} None None None None")?;
+        let [first, second] = words;
+        asks(alloc, &["t", "render", "a", first, second], wanted.as_str())?;
+    }
+    asks(alloc, &["t", "render", "a", "--escape", "xml"], "InvalidValue")?;
+    asks(alloc, &["t", "render", "a", "--escape"], "InvalidValue")?;
+    asks(alloc, &["t", "render", "a", "--std", "--std"], "ArgumentConflict")?;
+    asks(alloc, &["t", "check", "a", "--std"], "UnknownArgument")?;
+    asks(alloc, &["t", "names", "a", "--escape", "json"], "UnknownArgument")
 }
 
 #[test]
@@ -94,11 +118,11 @@ fn limits(rt: HostRuntime) -> Result<(), Fail> {
         ("--max-steps=18446744073709551615", "Some(18446744073709551615) None None"),
         ("--max-output=18446744073709551615", "None Some(18446744073709551615) None"),
     ] {
-        let wanted = format!(in alloc; "a None [] None false false None {limits}")?;
+        let wanted = format!(in alloc; "a None [] None false None false None {limits}")?;
         asks(alloc, &["t", "render", "a", word], wanted.as_str())?;
     }
     let words = ["t", "render", "--max-output", "20", "a", "--max-steps", "007"];
-    asks(alloc, words.as_slice(), "a None [] None false false None Some(7) Some(20) None")
+    asks(alloc, words.as_slice(), "a None [] None false None false None Some(7) Some(20) None")
 }
 
 #[test]
