@@ -1,0 +1,3 @@
+# Completion of upon-render's arguments in fish.
+complete -c upon-render -s h -l help -d 'Print help'
+complete -c upon-render -s V -l version -d 'Print version'
