@@ -5,10 +5,9 @@ ghost use Rattle.upon_fmt.specs.Formatter.{is_marked, text_of};
 ghost use Rattle.upon_examples.specs.Callables.{added, declined, doubled, echoed, listed};
 
 use std::alloc::{AllocError, Global};
-use std::borrow::CowStr;
+use upon::Value;
 use upon::fmt::{self, Format, Formatter};
-use upon::functions::{Call1, Call1S, Call1V, Call2, Fn1, Fn1S, Fn1V, Fn2};
-use upon::{Engine, Value};
+use upon::functions::{Call1, Call1S, Call1V, Call2};
 
 /// Twice an integer.
 #[derive(Drop)]
@@ -24,7 +23,7 @@ impl Call1<i64, i64> for Double {
 
 /// The sum of two integers.
 #[derive(Drop)]
-struct Add;
+pub struct Add;
 
 impl Call2<i64, i64, i64> for Add {
     ghost meaning = { λ _. added };
@@ -36,7 +35,7 @@ impl Call2<i64, i64, i64> for Add {
 
 /// An integer of eight bits, as it is.
 #[derive(Drop)]
-struct Low;
+pub struct Low;
 
 impl Call1<u8, u8> for Low {
     ghost meaning = { λ _. echoed };
@@ -48,7 +47,7 @@ impl Call1<u8, u8> for Low {
 
 /// It refuses each text.
 #[derive(Drop)]
-struct No;
+pub struct No;
 
 impl Call1S<Result<Result<bool, String>, AllocError>> for No {
     ghost meaning = { λ _. declined };
@@ -60,7 +59,7 @@ impl Call1S<Result<Result<bool, String>, AllocError>> for No {
 
 /// A list for each value.
 #[derive(Drop)]
-struct Pair;
+pub struct Pair;
 
 impl Call1V<Vec<Value>> for Pair {
     ghost meaning = { λ _. listed };
@@ -101,7 +100,7 @@ impl Format for Half {
 
 /// It refuses each value, without a message.
 #[derive(Drop)]
-struct Mute;
+pub struct Mute;
 
 impl Format for Mute {
     ghost use Rattle.upon_examples.specs.Callables.{without_words};
@@ -128,50 +127,4 @@ impl Format for NoNone {
         }
         fmt::default(f, value)
     }
-}
-
-// Adds the functions of integers of 64 bits.
-fn add_integers(engine: &mut Engine<'_>, alloc: Global) -> Result<(), AllocError> {
-    let double = Box::new(alloc, Fn1::new(Double))?;
-    engine.add_function(CowStr::Borrowed("double"), double)?;
-    let add = Box::new(alloc, Fn2::new(Add))?;
-    engine.add_function(CowStr::Borrowed("add"), add)?;
-    Ok(())
-}
-
-// Adds the function of eight bits, and the one of texts.
-fn add_refusing(engine: &mut Engine<'_>, alloc: Global) -> Result<(), AllocError> {
-    let low = Box::new(alloc, Fn1::new(Low))?;
-    engine.add_function(CowStr::Borrowed("low"), low)?;
-    let no = Box::new(alloc, Fn1S::new(No))?;
-    engine.add_function(CowStr::Borrowed("no"), no)?;
-    Ok(())
-}
-
-// Adds the function of any value, and the default formatter under a name.
-fn add_plain(engine: &mut Engine<'_>, alloc: Global) -> Result<(), AllocError> {
-    let pair = Box::new(alloc, Fn1V::new(Pair))?;
-    engine.add_function(CowStr::Borrowed("pair"), pair)?;
-    let plain = Box::new(alloc, fmt::DefaultFormat)?;
-    engine.add_formatter(CowStr::Borrowed("fmt"), plain)?;
-    Ok(())
-}
-
-// Adds the formatters that refuse.
-fn add_formatters(engine: &mut Engine<'_>, alloc: Global) -> Result<(), AllocError> {
-    let half = Box::new(alloc, Half)?;
-    engine.add_formatter(CowStr::Borrowed("half"), half)?;
-    let mute = Box::new(alloc, Mute)?;
-    engine.add_formatter(CowStr::Borrowed("mute"), mute)?;
-    Ok(())
-}
-
-/// Returns an engine with all of them.
-pub fn engine<'e>(alloc: Global) -> Result<Engine<'e>, AllocError> {
-    let mut engine = Engine::new(alloc);
-    add_integers(&mut engine, alloc)?;
-    add_refusing(&mut engine, alloc)?;
-    add_plain(&mut engine, alloc)?;
-    add_formatters(&mut engine, alloc)?;
-    Ok(engine)
 }

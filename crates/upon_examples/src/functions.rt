@@ -7,13 +7,13 @@ ghost use Rattle.upon_examples.specs.Functions.{added, doubled, echoed, is_longe
 
 use std::alloc::{AllocError, Global};
 use upon::functions::{
-    Call1, Call1S, Call1V, Call2, Call2SO, CallError, Fn1, Fn1S, Fn2SO, Function, Meaning, call_1,
+    Call1, Call1S, Call1V, Call2, Call2SO, CallError, Function, Meaning, call_1,
 };
 use upon_types::value::{Value, ValueCow};
 
 /// Twice an integer.
 #[derive(Drop)]
-struct Double;
+pub struct Double;
 
 impl Call1<i64, i64> for Double {
     ghost meaning = { λ _. doubled };
@@ -23,15 +23,9 @@ impl Call1<i64, i64> for Double {
     }
 }
 
-/// Boxes the function that doubles an integer.
-pub fn boxed_double(alloc: Global) -> Result<Box<dyn Function>, AllocError> {
-    let double: Box<dyn Function> = Box::new(alloc, Fn1::<Double, i64, i64>::new(Double))?;
-    Ok(double)
-}
-
 /// Whether a text has more bytes than a number.
 #[derive(Drop)]
-struct IsLonger;
+pub struct IsLonger;
 
 impl Call2SO<usize, bool> for IsLonger {
     ghost meaning = { λ _. is_longer };
@@ -41,18 +35,9 @@ impl Call2SO<usize, bool> for IsLonger {
     }
 }
 
-/// Boxes the function that compares a text's length with a number.
-pub fn boxed_is_longer(alloc: Global) -> Result<Box<dyn Function>, AllocError> {
-    let is_longer: Box<dyn Function> = Box::new(
-        alloc,
-        Fn2SO::<IsLonger, usize, bool>::new(IsLonger),
-    )?;
-    Ok(is_longer)
-}
-
 /// A number above 0; others are refused.
 #[derive(Drop)]
-struct Positive;
+pub struct Positive;
 
 impl Call1<i64, Result<Result<i64, String>, AllocError>> for Positive {
     ghost meaning = { λ _. positive };
@@ -65,18 +50,9 @@ impl Call1<i64, Result<Result<i64, String>, AllocError>> for Positive {
     }
 }
 
-/// Boxes the function that refuses a number that is not above 0.
-pub fn boxed_positive(alloc: Global) -> Result<Box<dyn Function>, AllocError> {
-    let positive: Box<dyn Function> = Box::new(
-        alloc,
-        Fn1::<Positive, i64, Result<Result<i64, String>, AllocError>>::new(Positive),
-    )?;
-    Ok(positive)
-}
-
 /// The same, by a closure.
 #[derive(Drop)]
-struct PositiveByClosure;
+pub struct PositiveByClosure;
 
 impl Meaning for PositiveByClosure {
     ghost means = { positive };
@@ -97,16 +73,11 @@ impl Function for PositiveByClosure {
     }
 }
 
-/// Boxes the same, by a closure.
-pub fn boxed_positive_by_closure(alloc: Global) -> Result<Box<dyn Function>, AllocError> {
-    let positive: Box<dyn Function> = Box::new(alloc, PositiveByClosure)?;
-    Ok(positive)
-}
-
 /// A text after another, which is kept.
 #[derive(Drop)]
-struct Prefix {
-    text: String,
+pub struct Prefix {
+    /// The text before.
+    pub text: String,
 }
 
 impl Call1S<Result<String, AllocError>> for Prefix {
@@ -117,15 +88,6 @@ impl Call1S<Result<String, AllocError>> for Prefix {
         whole.push_str(first)?;
         Ok(whole)
     }
-}
-
-/// Boxes the function that writes a text before another.
-pub fn boxed_titled(alloc: Global, text: String) -> Result<Box<dyn Function>, AllocError> {
-    let titled: Box<dyn Function> = Box::new(
-        alloc,
-        Fn1S::<Prefix, Result<String, AllocError>>::new(Prefix { text }),
-    )?;
-    Ok(titled)
 }
 
 /// The sum of two integers.

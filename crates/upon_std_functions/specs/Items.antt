@@ -61,6 +61,10 @@ abbrev pub map_outcome : (Entries → Val) → List Val → Outcome
 map_outcome change ((map_val es) ∷ ws) = value (change es)
 map_outcome change ws = refusal []
 
+-- what is at the key of a value, or none
+abbrev pub at_key : List ℕ → Val → Val
+at_key key v = unwrap_or (key_of key v) none_val
+
 -- the outcome of `get`: what is at the key of the map, or the third argument where nothing is
 abbrev pub get_outcome : List Val → Outcome
 get_outcome (v ∷ (text_val key) ∷ w ∷ ws) = value (unwrap_or (key_of key v) w)

@@ -2,6 +2,7 @@
 #![tactic(auto)]
 
 pub mod comparing;
+pub mod copies;
 mod decimal;
 pub mod integers;
 mod joined;

@@ -1,12 +1,13 @@
 // Functions of lists and maps.
-ghost use Rattle.std.specs.Prelude.{◌≡◌, ◌++◌, IfOk, codes, length, string_bytes, unwrap_or};
+ghost use Rattle.std.specs.Prelude.{◌≡◌, ◌++◌, IfOk, codes, length, string_bytes};
 ghost use Rattle.std.specs.Str.{chars};
 ghost use Rattle.upon_functions.specs.Says.{Says, arguments_view};
 ghost use Rattle.upon_functions.specs.Blames.{BlamesGiven};
-ghost use Rattle.upon_types.specs.Val.{key_of, kind_word, list_val};
+ghost use Rattle.upon_types.specs.Val.{kind_word, list_val};
 ghost use Rattle.upon_types.specs.View.{view, vals_view, entries_view};
 ghost use Rattle.upon_std_functions.specs.Items.{count_of, first_val, last_val, reversed, key_vals, value_vals, get_answer};
 
+use crate::copies::copy_at;
 use crate::joined::joined;
 use std::alloc::{AllocError, Global};
 use std::collections::BTreeMap;
@@ -15,7 +16,7 @@ use upon_function_adapters::{
 };
 use upon_functions::arguments::lent;
 use upon_functions::function::{CallError, Function};
-use upon_types::value::{Value, ValueCow, look};
+use upon_types::value::{Value, ValueCow};
 
 /// A function of lists and maps.
 #[derive(Clone, Copy)]
@@ -272,13 +273,4 @@ fn get(args: &[ValueCow]) -> Result<Value, CallError>
     lent::map(0, entries)?;
     let key = lent::text(1, key)?;
     Ok(copy_at(entries, key, otherwise)?)
-}
-
-fn copy_at(entries: &Value, key: &str, otherwise: &Value) -> Result<Value, AllocError>
-    ensures { IfOk result (λ v. view v ≡ unwrap_or (key_of key.now (view entries.now)) (view otherwise.now)) }
-{
-    match look::entry(entries, key) {
-        Some(found) => found.try_clone(),
-        None => otherwise.try_clone(),
-    }
 }

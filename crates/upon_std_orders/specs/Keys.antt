@@ -1,20 +1,17 @@
 -- What values are sorted and grouped by.
 use Rattle.std.specs.Prelude.{ℕ, List, Option, option_map, unwrap_or}
 use denote.Ref.{Bor}
-use Rattle.upon_types.specs.Val.{Val, none_val, key_of}
+use Rattle.upon_types.specs.Val.{Val, none_val}
 use Rattle.upon_types.specs.View.{view}
 use Rattle.upon_types.specs.declared.value.Value.{Value}
+use Rattle.upon_std_functions.specs.Items.{at_key}
 use Rattle.upon_std_orders.specs.declared.keys.Key.{Key}
 use Rattle.upon_std_orders.specs.declared.keys.Key.TheVariants.{Item, At}
-
--- what is at a key of a value, or none
-abbrev pub value_at : List ℕ → Val → Val
-value_at name v = unwrap_or (key_of name v) none_val
 
 -- what a value is sorted or grouped by
 abbrev pub key_val : Key → Val → Val
 key_val Item v = v
-key_val (At name) v = value_at name.now v
+key_val (At name) v = at_key name.now v
 
 -- what a value that is lent denotes, or none if there is none
 abbrev pub lent_val : Option (Bor Value) → Val

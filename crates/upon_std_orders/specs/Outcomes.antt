@@ -7,7 +7,7 @@ use Rattle.upon_types.specs.View.{vals_of}
 use Rattle.upon_std_functions.specs.Items.{val_list}
 use Rattle.upon_std_orders.specs.Distinct.{distinct}
 use Rattle.upon_std_orders.specs.Grouping.{grouped}
-use Rattle.upon_std_orders.specs.Keys.{value_at}
+use Rattle.upon_std_functions.specs.Items.{at_key}
 use Rattle.upon_std_orders.specs.Sorting.{sorted_by}
 
 -- a list of values, or a refusal
@@ -22,7 +22,7 @@ sort_outcome ws = refusal []
 
 -- the outcome of `sort_by`: the items in ascending order of what is at a key of them
 abbrev pub sort_by_outcome : List Val → Outcome
-sort_by_outcome ((list_val vs) ∷ (text_val name) ∷ ws) = listed (sorted_by (value_at name) (val_list vs))
+sort_by_outcome ((list_val vs) ∷ (text_val name) ∷ ws) = listed (sorted_by (at_key name) (val_list vs))
 sort_by_outcome ws = refusal []
 
 -- the outcome of `unique`: the first of items that are the same
@@ -32,5 +32,5 @@ unique_outcome ws = refusal []
 
 -- the outcome of `group_by`: the items in groups, by what is at a key of them
 abbrev pub group_by_outcome : List Val → Outcome
-group_by_outcome ((list_val vs) ∷ (text_val name) ∷ ws) = value (list_val (vals_of (grouped (value_at name) (val_list vs))))
+group_by_outcome ((list_val vs) ∷ (text_val name) ∷ ws) = value (list_val (vals_of (grouped (at_key name) (val_list vs))))
 group_by_outcome ws = refusal []

@@ -5,18 +5,19 @@ ghost use Rattle.std.specs.declared.alloc.Global.{Global};
 ghost use Rattle.upon_types.specs.View.{view};
 ghost use Rattle.upon_std_orders.specs.Buckets.{HoldsMembers, IsBucketOf, lent_vals, numbers_cmp, stored};
 ghost use Rattle.upon_std_orders.specs.Grouping.{group_val, grouped};
-ghost use Rattle.upon_std_orders.specs.Keys.{value_at};
+ghost use Rattle.upon_std_functions.specs.Items.{at_key};
 ghost use Rattle.upon_std_orders.specs.Spelling.{spelling};
 
 use crate::distinct::distinct;
 use crate::spelling::spelling;
 use std::alloc::{AllocError, Global};
 use std::collections::BTreeMap;
+use upon_std_functions::copies::copy_at;
 use upon_types::value::{Value, look};
 
 // A group for each value that items have at a key, in the order in which these first come.
 pub(crate) fn grouped(alloc: Global, items: &[Value], name: &str) -> Result<Vec<Value>, AllocError>
-    ensures { IfOk result (λ groups. map view groups.items ≡ grouped (value_at name.now) (map view items.now)) }
+    ensures { IfOk result (λ groups. map view groups.items ≡ grouped (at_key name.now) (map view items.now)) }
 {
     let keys = distinct(alloc, &keys(alloc, items, name)?)?;
     let buckets = buckets(alloc, items, name)?;
@@ -30,23 +31,13 @@ pub(crate) fn grouped(alloc: Global, items: &[Value], name: &str) -> Result<Vec<
 
 // What each item has at a key.
 fn keys(alloc: Global, items: &[Value], name: &str) -> Result<Vec<Value>, AllocError>
-    ensures { IfOk result (λ keys. map view keys.items ≡ map (value_at name.now) (map view items.now)) }
+    ensures { IfOk result (λ keys. map view keys.items ≡ map (at_key name.now) (map view items.now)) }
 {
     let mut keys = Vec::with_capacity(alloc, items.len())?;
     for item in items {
-        keys.push(copy_at(item, name)?)?;
+        keys.push(copy_at(item, name, &Value::None)?)?;
     }
     Ok(keys)
-}
-
-// A copy of what an item has at a key, or none.
-fn copy_at(item: &Value, name: &str) -> Result<Value, AllocError>
-    ensures { IfOk result (λ v. view v ≡ value_at name.now (view item.now)) }
-{
-    match look::entry(item, name) {
-        Some(found) => found.try_clone(),
-        None => Ok(Value::None),
-    }
 }
 
 // The items by the spelling of what they have at a key.
@@ -55,7 +46,7 @@ fn buckets<'a>(
     items: &'a [Value],
     name: &str,
 ) -> Result<BTreeMap<Vec<u64>, Vec<&'a Value>>, AllocError>
-    ensures { IfOk result (λ buckets. HoldsMembers buckets (value_at name.now) (map view items.now)) }
+    ensures { IfOk result (λ buckets. HoldsMembers buckets (at_key name.now) (map view items.now)) }
 {
     let mut buckets = BTreeMap::new(alloc);
     for item in items {
@@ -67,7 +58,7 @@ fn buckets<'a>(
 
 // The spelling of what an item has at a key, or of none.
 fn spelling_at(alloc: Global, item: &Value, name: &str) -> Result<Vec<u64>, AllocError>
-    ensures { IfOk result (λ numbers. numbers.items ≡ spelling (value_at name.now (view item.now))) }
+    ensures { IfOk result (λ numbers. numbers.items ≡ spelling (at_key name.now (view item.now))) }
 {
     match look::entry(item, name) {
         Some(found) => spelling(alloc, found),

@@ -11,6 +11,7 @@ ghost use Rattle.upon_std_orders.specs.Sorting.{ascending, keys_refusal, sorted_
 use crate::keys::Key;
 use std::alloc::{AllocError, Global};
 use std::cmp::Ordering;
+use upon_std_functions::copies::copy_items;
 use upon_types::value::Value;
 
 // A copy of the items in ascending order of their keys, or the refusal to sort them.
@@ -24,7 +25,7 @@ pub(crate) fn sorted(
     if let Some(text) = refusal(alloc, items, key)? {
         return Ok(Err(text));
     }
-    let mut copies = copied(alloc, items)?;
+    let mut copies = copy_items(alloc, items)?;
     sort(&mut copies, key)?;
     Ok(Ok(copies))
 }
@@ -80,16 +81,6 @@ fn kind(key: Option<&Value>) -> &'static str
         Some(value) => value.human(),
         None => "none",
     }
-}
-
-fn copied(alloc: Global, items: &[Value]) -> Result<Vec<Value>, AllocError>
-    ensures { IfOk result (λ copies. map view copies.items ≡ map view items.now) }
-{
-    let mut copies = Vec::with_capacity(alloc, items.len())?;
-    for item in items {
-        copies.push(item.try_clone()?)?;
-    }
-    Ok(copies)
 }
 
 // Sorts items by the rank of their keys.

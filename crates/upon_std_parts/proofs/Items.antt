@@ -9,8 +9,8 @@ use Rattle.upon_types.specs.Same.{val_eq}
 use Rattle.upon_types.specs.Val.{Val, text_val, Vals, no_vals, val_then}
 use Rattle.upon_types.specs.View.{view, vals_of, vals_view}
 use Rattle.upon_types.specs.declared.value.Value.{Value}
-use Rattle.upon_std_functions.specs.Items.{val_list}
-use Rattle.upon_std_parts.specs.Items.{concatenated, sliced, at_key, plucked, having}
+use Rattle.upon_std_functions.specs.Items.{at_key, val_list}
+use Rattle.upon_std_parts.specs.Items.{concatenated, sliced, plucked, having}
 
 -- the values that were put into a list
 pub val_list-vals_of : (vs : List Val) → val_list (vals_of vs) ≡ vs

@@ -1,9 +1,9 @@
 -- What the functions of lists make of values.
-use Rattle.std.specs.Prelude.{ℕ, List, ◌++◌, map, filter, take, drop, unwrap_or}
+use Rattle.std.specs.Prelude.{ℕ, List, ◌++◌, map, filter, take, drop}
 use Rattle.upon_types.specs.Same.{val_eq}
-use Rattle.upon_types.specs.Val.{Val, none_val, key_of, Vals}
+use Rattle.upon_types.specs.Val.{Val, Vals}
 use Rattle.upon_types.specs.View.{vals_of}
-use Rattle.upon_std_functions.specs.Items.{val_list}
+use Rattle.upon_std_functions.specs.Items.{at_key, val_list}
 
 -- the values of one list, then of another
 abbrev pub concatenated : Vals → Vals → Vals
@@ -12,10 +12,6 @@ concatenated vs ws = vals_of (val_list vs ++ val_list ws)
 -- the values from an index up to but not another, both cut to the length
 abbrev pub sliced : ℕ → ℕ → Vals → Vals
 sliced from to vs = vals_of (drop from (take to (val_list vs)))
-
--- what is at the key of a value, or none
-abbrev pub at_key : List ℕ → Val → Val
-at_key key v = unwrap_or (key_of key v) none_val
 
 -- of each value what is at the key
 abbrev pub plucked : List ℕ → Vals → Vals

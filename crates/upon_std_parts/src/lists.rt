@@ -2,9 +2,11 @@
 ghost use Rattle.std.specs.Prelude.{◌≡◌, IfOk};
 ghost use Rattle.upon_types.specs.Same.{val_eq};
 ghost use Rattle.upon_types.specs.View.{view, vals_view};
-ghost use Rattle.upon_std_parts.specs.Items.{concatenated, sliced, at_key, plucked, having};
+ghost use Rattle.upon_std_functions.specs.Items.{at_key};
+ghost use Rattle.upon_std_parts.specs.Items.{concatenated, sliced, plucked, having};
 
 use std::alloc::{AllocError, Global};
+use upon_std_functions::copies::{copy_at, copy_items};
 use upon_types::value::{Value, look};
 
 // The items of one list, then of another.
@@ -29,17 +31,7 @@ pub(crate) fn sliced(
 {
     let end = to.min(items.len());
     let start = from.min(end);
-    copied(alloc, &items[start..end])
-}
-
-fn copied(alloc: Global, items: &[Value]) -> Result<Vec<Value>, AllocError>
-    ensures { IfOk result (λ made. vals_view made.items ≡ vals_view items.now) }
-{
-    let mut copies = Vec::new(alloc);
-    for item in items {
-        copies.push(item.try_clone()?)?;
-    }
-    Ok(copies)
+    copy_items(alloc, &items[start..end])
 }
 
 // Of each item what is at the key.
@@ -48,18 +40,9 @@ pub(crate) fn plucked(alloc: Global, items: &[Value], key: &str) -> Result<Vec<V
 {
     let mut made = Vec::new(alloc);
     for item in items {
-        made.push(copy_at(item, key)?)?;
+        made.push(copy_at(item, key, &Value::None)?)?;
     }
     Ok(made)
-}
-
-fn copy_at(item: &Value, key: &str) -> Result<Value, AllocError>
-    ensures { IfOk result (λ v. view v ≡ at_key key.now (view item.now)) }
-{
-    match look::entry(item, key) {
-        Some(found) => found.try_clone(),
-        None => Ok(Value::None),
-    }
 }
 
 // The items that have the wanted value at the key.

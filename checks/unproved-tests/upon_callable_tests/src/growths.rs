@@ -1,6 +1,6 @@
 // Renderings to a writer, pictures and refused additions, where a growth of memory may be refused: the same as ever, or
 // that memory is out. `checks/growths` refuses each in turn. What callables say of memory ends a rendering so.
-use upon_examples::callables::{Double, engine};
+use crate::callables::engine;
 use std::alloc::{AllocError, Global};
 use std::borrow::CowStr;
 use std::io::{self, Write};
@@ -12,6 +12,7 @@ use upon::functions::{CallError, Fn1, Function};
 use upon::render::{CallPath, SourceError, ValueFn};
 use upon::{Engine, EngineCallable, Error, Result, Value, ValueMember, value};
 use upon_types::value::ValueCow;
+use upon_examples::callables::Double;
 
 // It takes what it is to receive, and notes whether anything else came. It needs no memory.
 #[derive(Drop)]

@@ -3,6 +3,8 @@
 #![tactic(auto)]
 
 #[cfg(test)]
+mod callables;
+#[cfg(test)]
 mod from_serde;
 #[cfg(test)]
 mod growths;

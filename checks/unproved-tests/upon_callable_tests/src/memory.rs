@@ -1,6 +1,6 @@
 // What calls answer where a growth of memory may be refused: the same as ever, or that memory is out, and a refused
 // call leaves the engine as it was. `checks/growths` refuses each in turn.
-use upon_examples::callables::{Double, Half, engine};
+use crate::callables::engine;
 use serde::Serialize;
 use std::alloc::{AllocError, Global};
 use std::borrow::CowStr;
@@ -10,6 +10,7 @@ use upon::error::ErrorKind;
 use upon::functions::Fn1;
 use upon::types::Span;
 use upon::{Engine, Error, Result, Syntax, value};
+use upon_examples::callables::{Double, Half};
 
 fn is_out(error: &Error) -> bool {
     matches!(error.kind(), ErrorKind::OutOfMemory)

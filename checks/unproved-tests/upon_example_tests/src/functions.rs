@@ -2,10 +2,9 @@
 use crate::reports::{CallReport, report};
 use std::alloc::{AllocError, Global};
 use std::test::Fail;
-use upon::functions::{Fn1, Fn1V, Fn2, Function};
+use upon::functions::{Fn1, Fn1S, Fn1V, Fn2, Fn2SO, Function};
 use upon_examples::functions::{
-    Add, Echo, Low, boxed_double, boxed_is_longer, boxed_positive, boxed_positive_by_closure,
-    boxed_titled,
+    Add, Double, Echo, IsLonger, Low, Positive, PositiveByClosure, Prefix,
 };
 use upon_types::value::{Value, ValueCow};
 
@@ -20,7 +19,7 @@ fn owned(value: Value) -> ValueCow<'static> {
 #[test]
 fn one_argument(rt: HostRuntime) -> Result<(), Fail> {
     let alloc = rt.alloc();
-    let double = boxed_double(alloc)?;
+    let double: Box<dyn Function> = Box::new(alloc, Fn1::<Double, i64, i64>::new(Double))?;
     let text = Value::from_text(alloc, "x")?;
     assert!(rt;
         call(alloc, &double, &[owned(Value::from(21))]) == CallReport::Value(Value::from(42))
@@ -35,7 +34,10 @@ fn one_argument(rt: HostRuntime) -> Result<(), Fail> {
 #[test]
 fn two_arguments_of_which_one_is_lent(rt: HostRuntime) -> Result<(), Fail> {
     let alloc = rt.alloc();
-    let is_longer = boxed_is_longer(alloc)?;
+    let is_longer: Box<dyn Function> = Box::new(
+        alloc,
+        Fn2SO::<IsLonger, usize, bool>::new(IsLonger),
+    )?;
     for (number, wanted) in [(3, true), (4, false)] {
         let text = owned(Value::from_text(alloc, "four")?);
         let args = [text, owned(Value::Integer(number))];
@@ -52,7 +54,10 @@ fn two_arguments_of_which_one_is_lent(rt: HostRuntime) -> Result<(), Fail> {
 #[test]
 fn refuses(rt: HostRuntime) -> Result<(), Fail> {
     let alloc = rt.alloc();
-    let positive = boxed_positive(alloc)?;
+    let positive: Box<dyn Function> = Box::new(
+        alloc,
+        Fn1::<Positive, i64, Result<Result<i64, String>, AllocError>>::new(Positive),
+    )?;
     let refused = CallReport::Fault(String::from_str(alloc, "not a positive number")?);
     assert!(rt;
         call(alloc, &positive, &[owned(Value::from(1))]) == CallReport::Value(Value::from(1))
@@ -64,7 +69,7 @@ fn refuses(rt: HostRuntime) -> Result<(), Fail> {
 #[test]
 fn refuses_by_a_closure(rt: HostRuntime) -> Result<(), Fail> {
     let alloc = rt.alloc();
-    let positive = boxed_positive_by_closure(alloc)?;
+    let positive: Box<dyn Function> = Box::new(alloc, PositiveByClosure)?;
     let refused = CallReport::Fault(String::from_str(alloc, "not a positive number")?);
     assert!(rt;
         call(alloc, &positive, &[owned(Value::from(1))]) == CallReport::Value(Value::from(1))
@@ -77,7 +82,10 @@ fn refuses_by_a_closure(rt: HostRuntime) -> Result<(), Fail> {
 fn keeps_data(rt: HostRuntime) -> Result<(), Fail> {
     let alloc = rt.alloc();
     let text = String::from_str(alloc, "Dr. ")?;
-    let titled = boxed_titled(alloc, text)?;
+    let titled: Box<dyn Function> = Box::new(
+        alloc,
+        Fn1S::<Prefix, Result<String, AllocError>>::new(Prefix { text }),
+    )?;
     let name = Value::from_text(alloc, "Who")?;
     let wanted = Value::from_text(alloc, "Dr. Who")?;
     assert!(rt; call(alloc, &titled, &[ValueCow::Borrowed(&name)]) == CallReport::Value(wanted));

@@ -1,10 +1,10 @@
 // Renderings within limits: what is just enough, what is one too few, and where a rendering is stopped.
+use crate::callables::added;
 use std::alloc::{AllocError, Global};
 use std::borrow::CowStr;
 use std::process::Abort;
 use std::test::Fail;
 use upon::{Engine, Limits, Result, Value, value};
-use upon_examples::callables;
 use upon_testing::answers::line_of;
 
 fn context(alloc: Global) -> Result<Value> {
@@ -34,7 +34,7 @@ fn of_values(count: usize) -> Limits {
 
 // The source within the limits answers what is wanted.
 fn answers(alloc: Global, limits: &Limits, source: &str, wanted: &str) -> std::result::Result<(), Fail> {
-    let engine = callables::engine(alloc)?;
+    let engine = added::engine(alloc)?;
     let line = line_of(alloc, engine.render_text_within(limits, source, &context(alloc)?))?;
     if line.as_str() != wanted {
         return Err(Fail::new(format_args!("{line:?} in place of {wanted:?}, of {source}")));

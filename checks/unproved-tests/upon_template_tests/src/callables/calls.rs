@@ -1,9 +1,10 @@
 // Functions and formatters in templates.
+use crate::callables::added::engine;
 use std::borrow::CowStr;
 use std::test::Fail;
 use upon::functions::Fn1;
 use upon::{Engine, EngineCallable, Value, value};
-use upon_examples::callables::{Double, NoNone, engine};
+use upon_examples::callables::{Double, NoNone};
 use upon_testing::answers::{all_answer, answer};
 
 #[test]

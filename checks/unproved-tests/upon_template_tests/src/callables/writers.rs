@@ -1,11 +1,11 @@
 // Renderings to writers that take little, and that fail.
+use crate::callables::added::engine;
 use std::alloc::{AllocError, Global};
 use std::borrow::CowStr;
 use std::io::{self, Write};
 use std::process::Abort;
 use std::test::Fail;
 use upon::Value;
-use upon_examples::callables::engine;
 use upon_testing::answers::describe;
 
 // It takes one byte a call. The call of this number fails, or takes no byte.

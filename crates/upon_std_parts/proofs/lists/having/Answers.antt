@@ -4,7 +4,7 @@ use Rattle.std.proofs.lemmas.List.{take_all}
 use Rattle.upon_types.specs.Same.{val_eq}
 use Rattle.upon_types.specs.View.{view, vals_of}
 use Rattle.upon_types.specs.declared.value.Value.{Value}
-use Rattle.upon_std_parts.specs.Items.{at_key}
+use Rattle.upon_std_functions.specs.Items.{at_key}
 use Rattle.upon_std_parts.proofs.Items.{having_view, kept_more, left_out_more}
 use Rattle.upon_std_parts.proofs.lists.having.Goals as goal
 use Rattle.upon_std_parts.proofs.lists.having.Goals.{then-has_at+in_ok-try_clone+in_ok-push, else-has_at}

@@ -2,7 +2,7 @@ use Rattle.std.proofs.Common.{◌≡◌, map, take}
 use Rattle.std.specs.Prelude.{filter}
 use Rattle.upon_types.specs.Same.{val_eq}
 use Rattle.upon_types.specs.View.{view}
-use Rattle.upon_std_parts.specs.Items.{at_key}
+use Rattle.upon_std_functions.specs.Items.{at_key}
 use Rattle.upon_std_parts.proofs.lists.having.Given as goal
 
 abbrev pub invariant-loop-item : goal.invariant-loop-item

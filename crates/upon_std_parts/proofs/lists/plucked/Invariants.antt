@@ -1,6 +1,6 @@
 use Rattle.std.proofs.Common.{◌≡◌, map, take}
 use Rattle.upon_types.specs.View.{view}
-use Rattle.upon_std_parts.specs.Items.{at_key}
+use Rattle.upon_std_functions.specs.Items.{at_key}
 use Rattle.upon_std_parts.proofs.lists.plucked.Given as goal
 
 abbrev pub invariant-loop-item : goal.invariant-loop-item
