@@ -4,3 +4,4 @@ pub mod Endings
 pub mod LineValues
 pub mod Records
 pub mod Rows
+pub mod Paths

@@ -4,7 +4,7 @@ use Rattle.upon_types.specs.Val.{Entries}
 use Rattle.upon_types.specs.View.{entries_view}
 use Rattle.upon_data.specs.declared.parts.Data.{Data}
 use Rattle.upon_data.specs.declared.parts.PartFault.{PartFault}
-use Rattle.upon_data.specs.declared.parts.PartFault.TheVariants.{NotObject, OutOfMemory}
+use Rattle.upon_data.specs.declared.parts.PartFault.TheVariants.{NotObject, NotMap, OutOfMemory}
 
 -- the entries of data
 abbrev pub data_entries : Data → Entries
@@ -13,4 +13,5 @@ data_entries d = entries_view d.entries.entries
 -- memory is out
 abbrev pub is_memory : PartFault → Bool
 is_memory NotObject = false
+is_memory NotMap = false
 is_memory OutOfMemory = true

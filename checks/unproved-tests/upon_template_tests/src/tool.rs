@@ -1,5 +1,6 @@
 // The tool: its words, what it shows of templates on JSON, what it lists, and what it says of errors.
 pub mod checks;
+pub mod data;
 pub mod hints;
 pub mod libraries;
 pub mod names;

@@ -1,4 +1,4 @@
-// Data that are put together of several values: which one wins, and what is refused.
+// Data that are put together of several values: which one wins, what paths set, and what is refused.
 use std::alloc::Global;
 use std::test::Fail;
 use upon_data::fault::DataFault;
@@ -67,6 +67,31 @@ fn values_at_keys(rt: HostRuntime) -> Result<(), Fail> {
         let begun = data.merge(alloc, value(alloc, "{\"a\": {\"b\": 1}, \"c\": 2}")?);
         let done = data.put_at(alloc, key, Value::Integer(5));
         are(alloc, data, if done.is_ok() { begun } else { Err(PartFault::OutOfMemory) }, (Ok(()), wanted))?;
+    }
+    Ok(())
+}
+
+#[test]
+fn values_at_paths(rt: HostRuntime) -> Result<(), Fail> {
+    let alloc = rt.alloc();
+    let refused = Err(PartFault::NotMap);
+    for (path, wanted) in [
+        ("a", (Ok(()), "{\"a\": 5, \"c\": 2}")),
+        ("a.b", (Ok(()), "{\"a\": {\"b\": 5}, \"c\": 2}")),
+        ("a.d", (Ok(()), "{\"a\": {\"b\": 1, \"d\": 5}, \"c\": 2}")),
+        ("b.d", (Ok(()), "{\"a\": {\"b\": 1}, \"b\": {\"d\": 5}, \"c\": 2}")),
+        ("a.d.e", (Ok(()), "{\"a\": {\"b\": 1, \"d\": {\"e\": 5}}, \"c\": 2}")),
+        ("c.d", (refused, "{\"a\": {\"b\": 1}, \"c\": 2}")),
+        ("a.b.c", (refused, "{\"a\": {\"b\": 1}, \"c\": 2}")),
+        ("c.", (refused, "{\"a\": {\"b\": 1}, \"c\": 2}")),
+        (".a", (Ok(()), "{\"\": {\"a\": 5}, \"a\": {\"b\": 1}, \"c\": 2}")),
+    ] {
+        let mut data = Data::new(alloc);
+        if data.merge(alloc, value(alloc, "{\"a\": {\"b\": 1}, \"c\": 2}")?).is_err() {
+            return Err(Fail::new(format_args!("the begin is refused")));
+        }
+        let done = data.set(alloc, path, Value::Integer(5));
+        are(alloc, data, done, wanted)?;
     }
     Ok(())
 }

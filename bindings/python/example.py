@@ -1,0 +1,3 @@
+from upon_proved import render
+
+print(render({"hello": "Hello {{ name }}!"}, "hello", {"name": "John"}))

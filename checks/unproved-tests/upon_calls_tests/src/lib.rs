@@ -1,0 +1,7 @@
+// Tests of the calls by bytes.
+#![tactic(auto)]
+
+#[cfg(test)]
+mod calls;
+#[cfg(test)]
+mod memory;

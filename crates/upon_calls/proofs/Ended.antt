@@ -1,0 +1,105 @@
+-- How each call ends, once its arguments are read.
+use Rattle.std.proofs.Common.{arith, ◌≡◌, ◌⊎◌, ◌∙◌, ◌<◌, ℕ, List, [], Bor, Option, Some, None, Result, Ok, Err, IfErr, IfOk, String, Global, string_bytes, sym, ap, subst, inl, inr}
+use Rattle.upon_types.specs.Fault.{Fault}
+use Rattle.upon_types.specs.Val.{Val}
+use Rattle.upon_calls.specs.Arguments.{IsValueOf}
+use Rattle.upon_calls.specs.Asked.{Asked, IsAsked}
+use Rattle.upon_calls.specs.Calls.{ListFails, ListFaults, ListNotText, ListRefuses, Lists, RenderFails, RenderFaults, RenderNotText, RenderRefuses, Renders, RendersText, TextFails, TextFaults, TextNotText, TextRefuses}
+use Rattle.upon_calls.specs.Failure.{IsPicture}
+use Rattle.upon_calls.specs.Filled.{engine_for, filled}
+use Rattle.upon_calls.specs.Names.{ListsNamed}
+use Rattle.upon_calls.specs.Rendering.{FailsNamed, FailsText, IsFirstOfOne, MeansNamed, MeansText}
+use Rattle.upon_calls.specs.Templates.{sources_in}
+use Rattle.upon_calls.specs.Work.{WorkFails}
+use Rattle.upon_calls.specs.declared.failure.Failure.{Failure}
+use Rattle.upon_calls.proofs.Calls.{given, work_failed}
+
+-- ---- the template of a name is rendered
+module _ (templates context name options t x n o : List ℕ) (st : t ≡ templates) (sx : x ≡ context) (sn : n ≡ name) (so : o ≡ options)
+    (asked : Asked) (tv xv : Val) (sources : List (List ℕ × List ℕ)) (asks : IsAsked o asked) (read : IsValueOf t tv) (are : sources_in tv ≡ Some sources) (valued : IsValueOf x xv) where
+  pub rendered : (r : Result (String Global) Failure) → IfOk r (λ text. MeansNamed asked.limits (filled asked sources) n xv (string_bytes text)) → IfOk r (λ text. Renders templates context name options (string_bytes text))
+  rendered (Ok text) means = record {
+    asked = asked;
+    sources = sources;
+    value = xv;
+    given = given templates options t o asked tv sources st so asks read are;
+    read = subst (λ x. IsValueOf x xv) sx valued;
+    means = subst (λ n. MeansNamed asked.limits (filled asked sources) n xv (string_bytes text)) sn means;
+  }
+  rendered (Err failure) means = tt
+
+  pub render_fails : (r : Result (String Global) Failure) → IfErr r (WorkFails (λ fault. IsFirstOfOne asked.delimiters sources fault ⊎ FailsNamed asked.limits (filled asked sources) n xv fault) ((filled asked sources).texts n ≡ None)) → IfErr r (RenderFails templates context name options)
+  render_fails (Ok text) fails = tt
+  render_fails (Err failure) fails =
+      work_failed (RenderFaults templates context name options) (RenderRefuses templates context name options) (RenderNotText templates context name options)
+      (λ fault. IsFirstOfOne asked.delimiters sources fault ⊎ FailsNamed asked.limits (filled asked sources) name xv fault) ((filled asked sources).texts name ≡ None) failure
+      (subst (λ n. WorkFails (λ fault. IsFirstOfOne asked.delimiters sources fault ⊎ FailsNamed asked.limits (filled asked sources) n xv fault) ((filled asked sources).texts n ≡ None) failure) sn fails)
+      (λ text pictures. record {
+        asked = asked;
+        sources = sources;
+        value = xv;
+        given = given templates options t o asked tv sources st so asks read are;
+        read = subst (λ x. IsValueOf x xv) sx valued;
+        pictures = pictures;
+      }) (λ absent. (asked, sources, given templates options t o asked tv sources st so asks read are, absent))
+
+-- ---- a text is rendered
+module _ (source context options s x o : List ℕ) (ss : s ≡ source) (sx : x ≡ context) (so : o ≡ options)
+    (asked : Asked) (xv : Val) (asks : IsAsked o asked) (valued : IsValueOf x xv) where
+  pub text_rendered : (r : Result (String Global) Failure) → IfOk r (λ text. MeansText asked.limits (engine_for asked) s xv (string_bytes text)) → IfOk r (λ text. RendersText source context options (string_bytes text))
+  text_rendered (Ok text) means = record {
+    asked = asked;
+    value = xv;
+    asks = subst (λ o. IsAsked o asked) so asks;
+    read = subst (λ x. IsValueOf x xv) sx valued;
+    means = subst (λ s. MeansText asked.limits (engine_for asked) s xv (string_bytes text)) ss means;
+  }
+  text_rendered (Err failure) means = tt
+
+  -- no template has a fault, as there is none
+  only_text : (fault : Fault) → IsFirstOfOne asked.delimiters [] fault ⊎ FailsText asked.limits (engine_for asked) source xv fault → FailsText asked.limits (engine_for asked) source xv fault
+  only_text fault (inl first) = let inside : first.1.0 < 0 = first.1.1 in absurd (omega arith)
+  only_text fault (inr fails) = fails
+
+  pub text_fails : (r : Result (String Global) Failure) → IfErr r (WorkFails (λ fault. IsFirstOfOne asked.delimiters [] fault ⊎ FailsText asked.limits (engine_for asked) s xv fault) ⊥) → IfErr r (TextFails source context options)
+  text_fails (Ok text) fails = tt
+  text_fails (Err failure) fails =
+      work_failed (TextFaults source context options) (TextRefuses source context options) (TextNotText source context options)
+      (λ fault. IsFirstOfOne asked.delimiters [] fault ⊎ FailsText asked.limits (engine_for asked) source xv fault) ⊥ failure
+      (subst (λ s. WorkFails (λ fault. IsFirstOfOne asked.delimiters [] fault ⊎ FailsText asked.limits (engine_for asked) s xv fault) ⊥ failure) ss fails)
+      (λ text pictures. record {
+        asked = asked;
+        value = xv;
+        asks = subst (λ o. IsAsked o asked) so asks;
+        read = subst (λ x. IsValueOf x xv) sx valued;
+        pictures = (pictures.0, pictures.1, pictures.2, only_text pictures.0 pictures.3);
+      }) (λ absent. absurd absent)
+
+-- ---- it is listed what a template needs
+module _ (templates name options t n o : List ℕ) (st : t ≡ templates) (sn : n ≡ name) (so : o ≡ options)
+    (asked : Asked) (tv : Val) (sources : List (List ℕ × List ℕ)) (asks : IsAsked o asked) (read : IsValueOf t tv) (are : sources_in tv ≡ Some sources) where
+  pub names_listed : (r : Result (String Global) Failure) → IfOk r (λ text. ListsNamed (filled asked sources) n (string_bytes text)) → IfOk r (λ text. Lists templates name options (string_bytes text))
+  names_listed (Ok text) lists = record {
+    asked = asked;
+    sources = sources;
+    given = given templates options t o asked tv sources st so asks read are;
+    lists = subst (λ n. ListsNamed (filled asked sources) n (string_bytes text)) sn lists;
+  }
+  names_listed (Err failure) lists = tt
+
+  only_first : (fault : Fault) → IsFirstOfOne asked.delimiters sources fault ⊎ ⊥ → IsFirstOfOne asked.delimiters sources fault
+  only_first fault (inl first) = first
+  only_first fault (inr never) = absurd never
+
+  pub names_fail : (r : Result (String Global) Failure) → IfErr r (WorkFails (λ fault. IsFirstOfOne asked.delimiters sources fault ⊎ ⊥) ((filled asked sources).texts n ≡ None)) → IfErr r (ListFails templates name options)
+  names_fail (Ok text) fails = tt
+  names_fail (Err failure) fails =
+      work_failed (ListFaults templates name options) (ListRefuses templates name options) (ListNotText templates name options)
+      (λ fault. IsFirstOfOne asked.delimiters sources fault ⊎ ⊥) ((filled asked sources).texts name ≡ None) failure
+      (subst (λ n. WorkFails (λ fault. IsFirstOfOne asked.delimiters sources fault ⊎ ⊥) ((filled asked sources).texts n ≡ None) failure) sn fails)
+      (λ text pictures. record {
+        asked = asked;
+        sources = sources;
+        given = given templates options t o asked tv sources st so asks read are;
+        pictures = (pictures.0, pictures.1, pictures.2, only_first pictures.0 pictures.3);
+      }) (λ absent. (asked, sources, given templates options t o asked tv sources st so asks read are, absent))

@@ -1,0 +1,12 @@
+pub mod Refusals
+pub mod Values
+pub mod Asking
+pub mod Triples
+pub mod Sources
+pub mod Filled
+pub mod Rendering
+pub mod Needs
+pub mod Kept
+pub mod Checked
+pub mod Calls
+pub mod Ended

@@ -1,0 +1,10 @@
+use Rattle.std.proofs.Common.{◌≡◌, ◌↔◌, take, true}
+use Rattle.upon_types.specs.View.{view}
+use Rattle.upon_lexer.specs.Syntax.{syntax_delimiters}
+use Rattle.upon_calls.specs.Check.{AreRight}
+use Rattle.upon_calls.specs.Templates.{lent_pairs}
+use Rattle.upon_calls.proofs.check.check_all.Given as goal
+
+-- all is right so far exactly if each text so far is
+abbrev pub invariant-loop-name : goal.invariant-loop-name
+invariant-loop-name l = (l.is_right ≡ true) ↔ AreRight (syntax_delimiters l.fn.syntax) (view l.templates) (lent_pairs (take l.name-index l.sources))

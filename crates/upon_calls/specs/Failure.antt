@@ -1,0 +1,74 @@
+-- Why a call gives no text of its own, and the text that says so.
+use Rattle.std.specs.Prelude.{◌≡◌, ℕ, List, ◌++◌, codes, Bool, true, false, Option, Some, None, string_bytes}
+use Rattle.std.specs.Str.{IsUtf8}
+use Rattle.upon_types.specs.Fault.{Kind, syntax, serialize, render, function, format, io, memory, Fault}
+use Rattle.upon_types.specs.Pretty.{pretty}
+use Rattle.upon_calls.specs.declared.failure.Argument.{Argument}
+use Rattle.upon_calls.specs.declared.failure.Argument.TheVariants.{Templates, Source, Context, Name, Options}
+use Rattle.upon_calls.specs.declared.failure.Failure.{Failure}
+use Rattle.upon_calls.specs.declared.failure.Failure.TheVariants.{Faults, Refused, NotText, OutOfMemory}
+
+-- the word for an argument
+abbrev pub argument_word : Argument → List ℕ
+argument_word Templates = codes "templates"
+argument_word Source = codes "source"
+argument_word Context = codes "context"
+argument_word Name = codes "name"
+argument_word Options = codes "options"
+
+-- the line that says why an argument is refused
+abbrev pub refusal_text : Argument → List ℕ → List ℕ
+refusal_text argument reason = (argument_word argument ++ codes ": ") ++ reason
+
+-- the line that says which argument is not UTF-8
+abbrev pub no_text_text : Argument → List ℕ
+no_text_text argument = argument_word argument ++ codes " is not UTF-8"
+
+-- the text that says why; none if memory was out
+abbrev pub failure_text : Failure → Option (List ℕ)
+failure_text (Faults pictures) = Some (string_bytes pictures)
+failure_text (Refused argument reason) = Some (refusal_text argument (string_bytes reason))
+failure_text (NotText argument) = Some (no_text_text argument)
+failure_text OutOfMemory = None
+
+-- the number that stands for what went wrong
+abbrev pub status_of : Failure → ℕ
+status_of (Faults pictures) = 1
+status_of (Refused argument reason) = 2
+status_of (NotText argument) = 3
+status_of OutOfMemory = 5
+
+-- whether it is said that memory is out
+abbrev pub is_memory_kind : Kind → Bool
+is_memory_kind syntax = false
+is_memory_kind serialize = false
+is_memory_kind render = false
+is_memory_kind function = false
+is_memory_kind format = false
+is_memory_kind io = false
+is_memory_kind memory = true
+
+-- a text is the picture of a fault that is so
+abbrev pub IsPicture : (Fault → Type 0) → List ℕ → Type 0
+IsPicture Is text = (fault : Fault) × (is_memory_kind fault.kind ≡ false) × (text ≡ pretty fault) × Is fault
+
+-- the report of a fault: its picture, unless that is, or memory was out
+abbrev pub IsReport : Fault → Failure → Type 0
+IsReport fault (Faults pictures) = (is_memory_kind fault.kind ≡ false) × (string_bytes pictures ≡ pretty fault)
+IsReport fault (Refused argument reason) = ⊥
+IsReport fault (NotText argument) = ⊥
+IsReport fault OutOfMemory = Unit {0}
+
+-- an argument is not UTF-8, and that is said
+abbrev pub IsNoText : Argument → List ℕ → Failure → Type 0
+IsNoText argument bytes (Faults pictures) = ⊥
+IsNoText argument bytes (Refused other reason) = ⊥
+IsNoText argument bytes (NotText other) = (other ≡ argument) × (IsUtf8 bytes → ⊥)
+IsNoText argument bytes OutOfMemory = ⊥
+
+-- an argument is refused, and this is so; or memory was out
+abbrev pub RefusedIf : Argument → Type 0 → Failure → Type 0
+RefusedIf argument Why (Faults pictures) = ⊥
+RefusedIf argument Why (Refused other reason) = (other ≡ argument) × Why
+RefusedIf argument Why (NotText other) = ⊥
+RefusedIf argument Why OutOfMemory = Unit {0}

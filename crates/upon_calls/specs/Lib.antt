@@ -1,0 +1,12 @@
+pub mod Failure
+pub mod Arguments
+pub mod Escaping
+pub mod Pairs
+pub mod Asked
+pub mod Templates
+pub mod Filled
+pub mod Rendering
+pub mod Names
+pub mod Check
+pub mod Work
+pub mod Calls

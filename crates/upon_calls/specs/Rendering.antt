@@ -1,0 +1,81 @@
+-- The text that a template means on a value, and the fault with which its rendering ends, by what an engine holds.
+use Rattle.std.specs.Prelude.{◌≡◌, ◌⊎◌, ℕ, List, ◌||◌, Bool, true, false, Option, Some, None, is_some, Result, String, Contains}
+use Rattle.std.specs.declared.alloc.Global.{Global}
+use Rattle.upon_types.specs.Fault.{Fault, syntax, bare_fault, fault_with_name, fault_with_picture}
+use Rattle.upon_types.specs.Tree.{Statements}
+use Rattle.upon_types.specs.Val.{Val}
+use Rattle.upon_types.specs.declared.error.Error.{Error}
+use Rattle.upon_types.specs.declared.types.Span.{Span}
+use Rattle.upon_language_spec.specs.FirstFault.{IsFirstFault}
+use Rattle.upon_language_spec.specs.Grammar.{HasTree}
+use Rattle.upon_language_spec.specs.Search.{DelimiterText}
+use Rattle.upon_meaning_spec.specs.Alone.{fault_of_end}
+use Rattle.upon_meaning_spec.specs.Engine.{Table}
+use Rattle.upon_meaning_spec.specs.Outcome.{good}
+use Rattle.upon_vm.specs.Within.{Fits, NamesLimit}
+use Rattle.upon_vm.specs.declared.limits.Limits.{Limits}
+use Rattle.upon_engine.specs.Texts.{Stored, Texts}
+use Rattle.upon_engine.specs.Theorem.{Answers, IsTable, meaning}
+use Rattle.upon_engine.specs.Within.{AnswersWithin, runs}
+
+-- whether a limit is set
+abbrev pub is_limited : Limits → Bool
+is_limited limits = (is_some limits.steps || is_some limits.output) || is_some limits.values
+
+-- what is answered of the tree of a text: without limits, or within them
+abbrev pub AnswersIf : Bool → Limits → Texts → Option (List ℕ) → List ℕ → Statements → Val
+    → Result (String Global) Error → Type 0
+AnswersIf false limits e name source tree v result = Answers e name source tree v result
+AnswersIf true limits e name source tree v result = AnswersWithin e limits name source tree v result
+
+-- a text is what the tree of a text means on a value, and the limits that are set let it be
+abbrev pub IsMeaning : Limits → Texts → Option (List ℕ) → List ℕ → Statements → Val → List ℕ → Type 0
+IsMeaning limits e name source tree v text =
+    (table : Table) → IsTable e.texts table
+    → ((meaning e table name source tree v).end ≡ good) × (text ≡ (meaning e table name source tree v).text)
+    × Fits limits (runs e table name source tree v) (meaning e table name source tree v)
+
+-- a fault is the one with which the meaning of a tree ends, or it names a limit beyond which that goes
+abbrev pub EndsWith : Limits → Texts → Option (List ℕ) → List ℕ → Statements → Val → Fault → Type 0
+EndsWith limits e name source tree v fault =
+    (table : Table) → IsTable e.texts table
+    → ((fault_of_end e.depth (meaning e table name source tree v).end ≡ Some fault)
+    × Fits limits (runs e table name source tree v) (meaning e table name source tree v))
+    ⊎ NamesLimit limits (runs e table name source tree v) (meaning e table name source tree v) fault
+
+-- a text is what the template of a name means on a value
+abbrev pub MeansNamed : Limits → Texts → List ℕ → Val → List ℕ → Type 0
+MeansNamed limits e name v text =
+    (held : Stored) × (tree : Statements) × (e.texts name ≡ Some held) × ∥ HasTree held.syntax held.text tree ∥₁
+    × IsMeaning limits e (Some name) held.text tree v text
+
+-- the rendering of the template of a name on a value ends with a fault
+abbrev pub FailsNamed : Limits → Texts → List ℕ → Val → Fault → Type 0
+FailsNamed limits e name v fault =
+    (held : Stored) × (tree : Statements) × (e.texts name ≡ Some held) × ∥ HasTree held.syntax held.text tree ∥₁
+    × EndsWith limits e (Some name) held.text tree v fault
+
+-- a text is what the template that another text is means on a value
+abbrev pub MeansText : Limits → Texts → List ℕ → Val → List ℕ → Type 0
+MeansText limits e source v text =
+    (tree : Statements) × HasTree e.syntax source tree × IsMeaning limits e None source tree v text
+
+-- a fault is the first one of a text
+abbrev pub IsFirst : List DelimiterText → List ℕ → Fault → Type 0
+IsFirst delimiters s fault = (span : Span) × (reason : List ℕ) × IsFirstFault delimiters s span reason
+    × (fault ≡ fault_with_picture s (bare_fault syntax (Some reason) (Some span)))
+
+-- a text has a first fault, or its rendering on a value ends with one
+abbrev pub FailsText : Limits → Texts → List ℕ → Val → Fault → Type 0
+FailsText limits e source v fault = IsFirst e.syntax source fault
+    ⊎ ((tree : Statements) × HasTree e.syntax source tree × EndsWith limits e None source tree v fault)
+
+-- a fault is the first one of a text, with the name of its template
+abbrev pub IsFirstNamed : List ℕ → List DelimiterText → List ℕ → Fault → Type 0
+IsFirstNamed name delimiters s fault = (span : Span) × (reason : List ℕ) × IsFirstFault delimiters s span reason
+    × (fault ≡ fault_with_name name (fault_with_picture s (bare_fault syntax (Some reason) (Some span))))
+
+-- a fault is the first one of the text of one of some templates
+abbrev pub IsFirstOfOne : List DelimiterText → List (List ℕ × List ℕ) → Fault → Type 0
+IsFirstOfOne delimiters sources fault =
+    (s : List ℕ × List ℕ) × Contains sources s × IsFirstNamed s.0 delimiters s.1 fault

@@ -1,0 +1,153 @@
+// Templates that are checked: their faults, and the includes that name nothing.
+ghost use Rattle.std.specs.Prelude.{◌≡◌, ◌↔◌, ℕ, List, Contains, string_bytes, IfErr, IfOk, true};
+ghost use Rattle.upon_types.specs.View.{view};
+ghost use Rattle.upon_meaning_spec.specs.Includes.{Includes};
+ghost use Rattle.upon_lexer.specs.Syntax.{syntax_delimiters};
+ghost use Rattle.upon_engine.specs.Engine.{engine_syntax};
+ghost use Rattle.upon_engine.specs.Names.{texts};
+ghost use Rattle.upon_engine.specs.Template.{template_tree};
+ghost use Rattle.upon_calls.specs.Calls.{CheckFails, ChecksRight};
+ghost use Rattle.upon_calls.specs.Check.{is_missing, AreRight, IsRight};
+ghost use Rattle.upon_calls.specs.Templates.{lent_pairs};
+ghost use Rattle.upon_calls.specs.declared.failure.Failure.TheVariants.{OutOfMemory};
+
+use crate::arguments::{text_of, value_of};
+use crate::failure::{Argument, Failure};
+use crate::includes::{push_picture, show_includes};
+use crate::options::options_in;
+use crate::templates::sources_of;
+use std::alloc::{AllocError, Global};
+use std::borrow::CowStr;
+use upon::value::look;
+use upon::{Engine, Syntax, Template, Value};
+use upon_lexer::compile::search::Searcher;
+
+/// Checks templates, and returns the empty text if each of them is one and names none in an include that is not there.
+/// Else the failure has the pictures of what is wrong, with a blank line between two.
+pub fn check(alloc: Global, templates: &[u8], options: &[u8]) -> Result<String, Failure>
+    ensures right { IfOk result (λ text. ChecksRight templates.now options.now (string_bytes text)) }
+    ensures fails { IfErr result (CheckFails templates.now options.now) }
+{
+    let templates = text_of(Argument::Templates, templates)?;
+    let options = text_of(Argument::Options, options)?;
+    let options = options_in(alloc, options)?;
+    let templates = value_of(alloc, Argument::Templates, templates)?;
+    let sources = sources_of(alloc, &templates)?;
+    let mut pictures = String::new(alloc);
+    if check_all(
+        alloc,
+        options.syntax,
+        &templates,
+        sources.as_slice(),
+        &mut pictures,
+    )? {
+        Ok(String::new(alloc))
+    } else {
+        Err(Failure::Faults(pictures))
+    }
+}
+
+// Whether nothing is wrong with templates; the pictures of what is are appended.
+fn check_all(
+    alloc: Global,
+    syntax: Syntax,
+    templates: &Value,
+    sources: &[(&str, &str)],
+    pictures: &mut String,
+) -> Result<bool, Failure>
+    ensures right { IfOk result (λ is_right. (is_right ≡ true)
+        ↔ AreRight (syntax_delimiters syntax) (view templates.now) (lent_pairs sources.now)) }
+    ensures memory { IfErr result (λ f. f ≡ OutOfMemory) }
+{
+    let searcher = Searcher::with_syntax(syntax.try_clone()?);
+    let mut engine = Engine::new(alloc);
+    engine.set_syntax(syntax);
+    let mut is_right = true;
+    for (name, source) in sources {
+        let checked = Checked {
+            templates,
+            searcher: &searcher,
+            name,
+            source,
+        };
+        is_right &= check_text(alloc, &engine, checked, pictures)?;
+    }
+    Ok(is_right)
+}
+
+// A template that is checked.
+#[derive(Clone, Copy)]
+struct Checked<'c> {
+    // The templates, of which it is one.
+    templates: &'c Value,
+    // What finds their delimiters.
+    searcher: &'c Searcher,
+    // Its name.
+    name: &'c str,
+    // Its text.
+    source: &'c str,
+}
+
+// Whether nothing is wrong with a template.
+fn check_text(
+    alloc: Global,
+    engine: &Engine<'_>,
+    checked: Checked<'_>,
+    pictures: &mut String,
+) -> Result<bool, Failure>
+    ensures right { IfOk result (λ is_right. (is_right ≡ true)
+        ↔ IsRight (engine_syntax engine.now) (view checked.entry.templates.now) checked.entry.source.now) }
+    ensures memory { IfErr result (λ f. f ≡ OutOfMemory) }
+{
+    let Checked {
+        templates,
+        searcher,
+        name,
+        source,
+    } = checked;
+    let template = match engine.compile(CowStr::Borrowed(source)) {
+        Ok(template) => template,
+        Err(error) => {
+            let error = error.with_name(alloc, name);
+            let Failure::Faults(picture) = Failure::of_error(alloc, &error) else {
+                return Err(Failure::OutOfMemory);
+            };
+            push_picture(picture.as_str(), pictures)?;
+            return Ok(false);
+        }
+    };
+    let missing = missing(alloc, templates, &template)?;
+    if missing.is_empty() {
+        return Ok(true);
+    }
+    match show_includes(alloc, searcher, name, source, missing.as_slice(), pictures) {
+        Ok(()) => Ok(false),
+        Err(_) => Err(Failure::OutOfMemory),
+    }
+}
+
+// The names that a template includes and that no template has, in ascending order.
+fn missing<'t>(
+    alloc: Global,
+    templates: &Value,
+    template: &'t Template<'_>,
+) -> Result<Vec<&'t str>, AllocError>
+    ensures { IfOk result (λ names. (name : List ℕ) → Contains (texts names.items) name
+        ↔ (Includes name (template_tree template.now) × (is_missing (view templates.now) name ≡ true))) }
+{
+    let mut missing = Vec::new(alloc);
+    let names = template.includes()?;
+    for name in names.as_slice() {
+        if is_missing(templates, name) {
+            missing.push(*name)?;
+        }
+    }
+    Ok(missing)
+}
+
+// Whether no template has a name.
+fn is_missing(templates: &Value, name: &str) -> bool
+    ensures { result ≡ is_missing (view templates.now) name.now }
+{
+    look::entry(templates, name).is_none()
+}

@@ -1,0 +1,4 @@
+pub mod Parts
+pub mod FileSteps
+pub mod SettingSteps
+pub mod ContextSteps

@@ -1,0 +1,5 @@
+pub mod Sources
+pub mod Words
+pub mod Files
+pub mod Settings
+pub mod Context

@@ -1,0 +1,10 @@
+// What a call of `upon-tool` renders templates on: files of several formats, one after the other, and values that are
+// set at paths, from the words of the call.
+#![tactic(auto)]
+
+pub mod context;
+pub mod fault;
+mod files;
+mod settings;
+pub mod sources;
+pub mod words;
