@@ -1,6 +1,7 @@
 // The pictures of includes that name nothing.
 ghost use Rattle.upon_types.specs.Span.{LiesIn};
 
+use crate::failure::Failure;
 use std::alloc::{AllocError, Global};
 use std::borrow::CowStr;
 use std::collections::BTreeSet;
@@ -75,7 +76,10 @@ fn show_include(
 {
     let reason = Some("unknown template");
     let error = Error::from_parts(alloc, ErrorKind::Render, reason, Some((source, span)));
-    let picture = error.with_name(alloc, name).pretty(alloc)?;
+    let error = error.with_name(alloc, name);
+    let Failure::Faults(picture) = Failure::of_error(alloc, &error) else {
+        return Err(AllocError.into());
+    };
     Ok(push_picture(picture.as_str(), pictures)?)
 }
 
