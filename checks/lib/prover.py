@@ -19,16 +19,7 @@ OF_ANOTHER = re.compile(r"it \w+ .*not proved|it waits for the proof of .*")
 OF_NAMES = re.compile(r"has no field|is not in scope|has no `|was not admitted")
 # An error by which the text could not be read, so that nothing was tried.
 UNREAD = re.compile(r"is not in scope|has no field|is no name|operand is missing|expected the end|cannot continue")
-KINDS = "proved|not proved|no proof|could not tell|no holes|depends on a hole"
-# The kinds of functions that are proved, or are as far as they do not rest on a proof that is left out.
-WELL = ("proved", "no holes", "depends on a hole")
-# The files of a function's proof that a check reads beside its code, and a proof that is left out.
-ANSWERS = {"Invariants.antt", "Answers.antt"}
-LEFT_OUT = """use Rattle.{path}.Statement.{{statement}}
-
-pub {name}_spec : {{M : Type 1}} → statement M
-{name}_spec = ?
-"""
+KINDS = "proved|not proved|no proof|could not tell"
 
 
 def kit():
@@ -103,7 +94,7 @@ class Said:
         """Reads a function's line."""
         reasons = [it for it in re.split("[;:] ", why) if it and not OF_ANOTHER.fullmatch(it)]
         waits = kind == "no proof" or "it waits for the proof of" in why
-        if kind in WELL:
+        if kind == "proved":
             self.proved.add(name)
         elif reasons or errors or not waits:
             searched = [Goal(it, (), why) for it in re.findall(r"did not prove `([^`]*)`", why)]
@@ -130,21 +121,8 @@ class Said:
         return found
 
 
-def leave_out(room, crate, name):
-    """Leaves out the proof of a function in a copy of its crate, so that who calls it goes by its contract, unless the function has more files of its own."""
-    path = name.split("::")[1:]
-    folder = os.path.join(room, "proofs", *path)
-    os.makedirs(folder, exist_ok=True)
-    found = set(os.listdir(folder))
-    if found <= ANSWERS:
-        for it in found:
-            os.remove(f"{folder}/{it}")
-        with open(f"{folder}/Proof.antt", "w", encoding="utf-8") as file:
-            file.write(LEFT_OUT.format(path=".".join([crate, "proofs", *path]), name=path[-1]))
-
-
-def check(module, crate, texts, kept, only=(), left_out=()):
-    """Checks a copy of the crate with these texts in place of its own, over the work in the folder `kept`, and without the proofs of some functions. Returns what was said, and the processor time in seconds."""
+def check(module, crate, texts, kept, only=()):
+    """Checks a copy of the crate with these texts in place of its own, over the work in the folder `kept`. Returns what was said, and the processor time in seconds."""
     with tempfile.TemporaryDirectory(prefix="edits-") as room:
         for part in ("src", "specs", "proofs"):
             if os.path.isdir(f"{crate.folder}/{part}"):
@@ -152,9 +130,7 @@ def check(module, crate, texts, kept, only=(), left_out=()):
         for path, text in texts.items():
             with open(f"{room}/{path}", "w", encoding="utf-8") as file:
                 file.write(text)
-        for name in left_out:
-            leave_out(room, crate.name, name)
-        flags = ["--jobs", "1", *(["--allow-holes"] if left_out else []), *(word for name in only for word in ("--only", name))]
+        flags = ["--jobs", "1", *(word for name in only for word in ("--only", name))]
         words = [module.rtlib.RATTLE, "check", *crate.words(flags, keeps=False), "--incremental", kept]
         with tempfile.TemporaryFile("w+", errors="replace") as said:
             ran = subprocess.Popen([*module.rtlib.guarded(), *words], cwd=room, stdin=subprocess.DEVNULL, stdout=said, stderr=said)

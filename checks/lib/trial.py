@@ -43,11 +43,10 @@ class Trial:
         for edit in self.alone:
             self.try_alone(edit)
 
-    def check(self, batch, only=(), left_out=()):
+    def check(self, batch, only=()):
         """Checks a copy with these edits, once more if the check was killed, most likely for memory."""
-        texts = edits_module.texts_with(batch, self.crate.folder)
         for _ in range(2):
-            said, seconds = prover.check(self.module, self.crate, texts, self.kept, only, left_out)
+            said, seconds = prover.check(self.module, self.crate, edits_module.texts_with(batch, self.crate.folder), self.kept, only)
             self.seconds += seconds
             if said.status != -signal.SIGKILL:
                 break
@@ -58,7 +57,7 @@ class Trial:
         said, unread = None, []
         while batch:
             self.batches += 1
-            said = self.check(batch, *self.scope(batch))
+            said = self.check(batch, self.scope(batch))
             places = said.unread({path for edit in batch for path in edit.texts})
             unread = [edit for edit in batch if any(self.is_at(edit, *place[:2]) for place in places)]
             if not places:
@@ -75,18 +74,13 @@ class Trial:
         return [edit for edit in batch if not self.is_told(edit, said, is_last)]
 
     def scope(self, batch):
-        """Returns what a check of these edits has to read, and the functions whose proofs are left out, as no edit changes them: whole modules, and none, where names are not known yet."""
+        """Returns what a check of these edits has to read: functions, or whole modules where their names are not known yet."""
         functions = {it for edit in batch for it in edit.functions}
-        names = [self.name_of(it) for it in functions]
+        names = [functions_module.name_of(it, self.crate.name, self.known) for it in functions]
         if all(names):
-            others = {self.name_of(it) for found in self.functions.values() for it in found if it not in functions and not it.cycle}
-            return sorted(set(names)), sorted(others - {None, *names})
+            return sorted(set(names))
         modules = {"::".join(functions_module.module_of(self.crate.name, it.file)[1:]) for it in functions}
-        return ([], []) if "" in modules else (sorted(modules), [])
-
-    def name_of(self, function):
-        """Returns the name under which checks tell of a function, or None if that is not sure."""
-        return functions_module.name_of(function, self.crate.name, self.known)
+        return [] if "" in modules else sorted(modules)
 
     def is_at(self, edit, file, line):
         """Whether a place is in one of the functions that the edit changes."""
@@ -98,7 +92,7 @@ class Trial:
         near += [goal for cycle, goal in said.of_cycles for it in edit.functions if it.cycle == cycle and goal.name.split("-")[0].endswith(it.name)]
         if edit.cycles and not is_last:
             return near
-        names = [self.name_of(it) for it in edit.functions]
+        names = [functions_module.name_of(it, self.crate.name, self.known) for it in edit.functions]
         return near + [goal for name in names if name in said.open for goal in said.open[name]]
 
     def is_told(self, edit, said, is_last):
@@ -111,7 +105,7 @@ class Trial:
 
     def find_astray(self, batch, said):
         """Finds functions that no edit of the batch changes and that fail by themselves."""
-        edited = {self.name_of(it) for edit in batch for it in edit.functions}
+        edited = {functions_module.name_of(it, self.crate.name, self.known) for edit in batch for it in edit.functions}
         if not any(edit.cycles for edit in batch):
             self.astray += [(name, said.open[name][0].says[:160]) for name in sorted(set(said.open) - edited)]
 
