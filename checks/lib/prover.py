@@ -34,6 +34,12 @@ def kit():
     return module
 
 
+def write_stamp(crate):
+    """Writes at a crate's library the sum of what it was made from, as the kit's `rt` writes it, so that `rt lib` takes it as it is."""
+    with open(os.path.join(os.path.dirname(crate.rlib), "stamp"), "w", encoding="utf8") as file:
+        file.write(crate.stamp())
+
+
 @dataclasses.dataclass
 class Goal:
     """A goal that is not proved: its name, its place in src/ (a file and a line from 0) if that is known, and what is said of it."""
