@@ -6,8 +6,8 @@ use Rattle.upon_meaning_spec.specs.Engine.{Table}
 use Rattle.upon_engine.specs.Texts.{Texts}
 use Rattle.upon_engine.specs.Theorem.{IsTable}
 use Rattle.upon_tool.specs.Missing.{EachIsRight, IsRight}
-use Rattle.upon_tool.specs.Sources.{AreTexts, IsTextOf}
-use Rattle.upon_tool.specs.Words.{is_standard}
+use Rattle.upon_tool_data.specs.Sources.{is_standard, IsTextOf}
+use Rattle.upon_tool.specs.Sources.{AreTexts}
 use Rattle.upon_tool.specs.Work.{ChecksFiles}
 
 -- one text more

@@ -1,5 +1,5 @@
 -- What an engine holds as it is filled, and what is shown of it.
-use Rattle.std.proofs.Common.{◌≡◌, ◌<◌, ◌≤◌, ◌+◌, ◌∙◌, ◌∷◌, [], ◌++◌, ℕ, List, length, take, get_or, Bool, true, false, Bor, Option, Some, None, Result, Ok, Err, IfErr, IfOk, IsErrAnd, IsSomeAnd, OnErr, String, Global, codes, option_map, string_bytes, refl, sym, ap, subst, inl, inr}
+use Rattle.std.proofs.Common.{◌≡◌, ◌<◌, ◌≤◌, ◌+◌, ◌∙◌, ◌∷◌, [], ◌++◌, ℕ, List, length, take, get_or, Bool, Bor, Option, Some, None, Result, Ok, Err, IfErr, IfOk, IsErrAnd, IsSomeAnd, OnErr, String, Global, codes, string_bytes, refl, sym, ap, subst, inl, inr}
 use Rattle.std.specs.Io.KnownBytes.{Appends}
 use Rattle.std.specs.Str.{bytes_eq}
 use Rattle.std.proofs.lemmas.List.{take_all, take_more}
@@ -15,6 +15,7 @@ use Rattle.upon_language_spec.specs.DefaultDelimiters.{default_delimiters}
 use Rattle.upon_language_spec.specs.Grammar.{HasTree}
 use Rattle.upon_meaning_spec.specs.DefaultFormat.{default_format}
 use Rattle.upon_meaning_spec.specs.Engine.{Table, Template}
+use Rattle.upon_vm.specs.declared.limits.Limits.{Limits}
 use Rattle.upon_engine.specs.Changes.{empty_engine, unless_refused, with_callable, with_default_formatter, with_text}
 use Rattle.upon_engine.specs.Faults.{IsSyntaxErrorOf}
 use Rattle.upon_engine.specs.Texts.{Stored, Texts}
@@ -23,21 +24,17 @@ use Rattle.upon_engine.specs.declared.needs.Needs.{Needs}
 use Rattle.upon_tool_io.specs.declared.files.ReadFault.{ReadFault}
 use Rattle.upon_tool_io.specs.declared.arguments.Escape.{Escape}
 use Rattle.upon_tool.specs.Escaping.{format_for}
-use Rattle.upon_json.specs.Context.{set_pairs}
 use Rattle.upon_std.specs.Table.{standard_answer, standard_name}
 use Rattle.upon_std.specs.declared.table.StandardFunction.{StandardFunction}
 use Rattle.upon_tool.specs.Library.{IsOfAdded}
 use Rattle.upon_tool.specs.Names.{needs_text, NeededBy}
-use Rattle.upon_tool.specs.Rendering.{json_in, Renders, SendsPage, ShowsPage, StaysWithin}
-use Rattle.upon_tool.specs.Sources.{IsTextAt}
+use Rattle.upon_tool.specs.Rendering.{Renders, SendsPage, StaysWithin}
 use Rattle.upon_tool.specs.Status.{end_status}
-use Rattle.upon_tool.specs.Words.{json_named}
 use Rattle.upon_tool.specs.Filled.{engine_for, escaping_engine, with_functions, with_page, EachHasTree, TakesFiles, TakesRead, TakesText}
-use Rattle.upon_tool.specs.Work.{ListsNames, RefusesWork, Works}
+use Rattle.upon_tool.specs.Work.{IsCheck, ListsNames, RefusesWork, Works}
 use Rattle.upon_tool.specs.declared.failure.Failure.{Failure}
 use Rattle.upon_tool.specs.declared.failure.Failure.TheVariants.{Fault}
 use Rattle.upon_tool.specs.declared.library.Refusal.{Refusal}
-use Rattle.upon_tool.specs.declared.rendering.Page.{Page}
 use Rattle.upon_tool.specs.declared.sources.FolderFile.{FolderFile}
 use Rattle.upon_tool.specs.declared.work.Templates.{Templates}
 use Rattle.upon_tool.specs.declared.work.Work.{Work}
@@ -69,33 +66,28 @@ begun_syntax : (escape : Option Escape) (functions : List StandardFunction) → 
 begun_syntax escape functions = functions_syntax functions (escaping_engine escape) ∙ escaping_syntax escape
 
 -- ---- what is shown
-pub json_is : (name : Option (Bor (List ℕ))) (later : Option (List ℕ)) (text : Option (String Global)) → IsTextAt name later (option_map string_bytes text) → json_named name text ≡ option_map string_bytes text
-json_is None later text is = sym is
-json_is (Some name) later None is = absurd is
-json_is (Some name) later (Some text) is = refl
+-- a page of this name is shown on this value
+abbrev ShowsOn : Texts → List ℕ → Val → Limits → ℕ → Option (List ℕ) → Option (List ℕ) → Type 0
+ShowsOn e name v limits status old new = (held : Stored) (tree : Statements) → e.texts name ≡ Some held
+    → ∥ HasTree held.syntax held.text tree ∥₁
+    → (end : Result (Unit {0}) Failure) × (status ≡ end_status end)
+    × Renders (λ r. SendsPage limits e (Some name) held.text tree v r old new) end × StaysWithin limits.output old new
 
 -- the text of a page that an engine was given last
-pub page_shown : (escape : Option Escape) (functions : List StandardFunction) (files : List FolderFile) (folder e : Texts) (page : Page) (text : List ℕ) (status : ℕ) (old new : Option (List ℕ)) (json : Option (List ℕ)) (pairs : List (List ℕ × Val)) → TakesFiles files (engine_for escape functions) folder
-    → e ≡ with_text page.name.now text folder → EachHasTree e → ShowsPage e page status old new → json_in page.json ≡ json → set_pairs page.set.now ≡ pairs
+pub page_shown : (escape : Option Escape) (functions : List StandardFunction) (files : List FolderFile) (folder e : Texts) (name : List ℕ) (v : Val) (given limits : Limits) (text : List ℕ) (status : ℕ) (old new : Option (List ℕ)) → TakesFiles files (engine_for escape functions) folder
+    → e ≡ with_text name text folder → EachHasTree e → given ≡ limits → ShowsOn e name v given status old new
     → (tree : Statements) × ∥ HasTree default_delimiters text tree ∥₁
-    × ((end : Result (Unit {0}) Failure) × (status ≡ end_status end) × Renders json pairs (λ v r. SendsPage page.limits (with_text page.name.now text folder) (Some page.name.now) text tree v r old new) end
-    × StaysWithin page.limits.output old new)
-page_shown escape functions files folder e page text status old new json pairs takes is each shows same_json same_pairs =
-    let name = page.name.now in
+    × ((end : Result (Unit {0}) Failure) × (status ≡ end_status end) × Renders (λ r. SendsPage limits (with_text name text folder) (Some name) text tree v r old new) end
+    × StaysWithin limits.output old new)
+page_shown escape functions files folder e name v given limits text status old new takes is each same shows =
     let filled : Texts = with_text name text folder in
     let held : Stored = record { text = text; syntax = folder.syntax } in
     let there : filled.texts name ≡ Some held = update_same bytes_eq folder.texts name (Some held) name ((bytes_eq-Decides name name).1 refl) in
     let has = subst EachHasTree is each name held there in
-    let said = subst (λ e. ShowsPage e page status old new) is shows held has.0 there has.1 in (
+    let said = subst (λ e. ShowsOn e name v given status old new) is shows held has.0 there has.1 in (
       has.0,
       subst (λ d. ∥ HasTree d text has.0 ∥₁) (takes_syntax files (engine_for escape functions) folder takes ∙ begun_syntax escape functions) has.1,
-      (
-        said.0,
-        said.1,
-        subst (λ json. Renders json pairs (λ v r. SendsPage page.limits filled (Some name) text has.0 v r old new) said.0) same_json
-            (subst (λ pairs. Renders (json_in page.json) pairs (λ v r. SendsPage page.limits filled (Some name) text has.0 v r old new) said.0) same_pairs said.2),
-        said.3,
-      ),
+      subst (λ limits. (end : Result (Unit {0}) Failure) × (status ≡ end_status end) × Renders (λ r. SendsPage limits filled (Some name) text has.0 v r old new) end × StaysWithin limits.output old new) same said,
     )
 
 -- ---- what is listed
@@ -109,6 +101,13 @@ listed e name json status old new mine is_mine one lists table t is there zero =
 pub work_listed : (work : Work) (name : Bor (List ℕ)) (json : Bool) (e : Texts) (input : Option (List ℕ)) (status : ℕ) (old new : Option (List ℕ)) → work ≡ Names name json → ListsNames e name.now json status old new
     → Works work e input status old new
 work_listed work name json e input status old new is lists = subst (λ w. Works w e input status old new) (sym is) lists
+
+-- work that was moved is the same work
+pub work_kept : (work same : Work) (e : Texts) (input : Option (List ℕ)) (status : ℕ) (old new : Option (List ℕ)) → same ≡ work → Works same e input status old new → Works work e input status old new
+work_kept work same e input status old new is works = subst (λ work. Works work e input status old new) is works
+
+pub check_kept : (work same : Work) → same ≡ work → IsCheck work → IsCheck same
+check_kept work same is check = subst IsCheck (sym is) check
 
 -- ---- how an engine is filled
 -- its formatters, if values are escaped

@@ -1,17 +1,14 @@
 -- Why a run ends before its work.
-use Rattle.std.proofs.Common.{◌≡◌, ◌<◌, arith, ℕ, List, [], Bor, Contains, Option, Some, None, Result, Ok, Err, IfErr, IsErrAnd, IsSomeAnd, refl, sym, subst, inl, inr}
+use Rattle.std.proofs.Common.{◌≡◌, ℕ, List, Bor, Option, Some, None, Result, Ok, Err, IfErr, IsErrAnd, IsSomeAnd, refl, sym, subst, inl, inr}
 use Rattle.upon_types.specs.declared.error.Error.{Error}
+use Rattle.upon_tool_data.specs.declared.fault.ContextFault.{ContextFault}
 use Rattle.upon_tool_io.specs.declared.files.ReadFault.{ReadFault}
 use Rattle.upon_tool_io.specs.declared.files.ReadFault.TheVariants.{Unreadable as FileUnreadable, NotText as FileNotText, Outside as FileOutside, OutOfMemory}
 use Rattle.upon_tool.specs.Refusals.{Refuses}
 use Rattle.upon_tool.specs.Sources.{IsUnread, Unread}
 use Rattle.upon_tool.specs.Status.{status_of, IsMemory}
-use Rattle.upon_tool.specs.Words.{IsNoPair}
 use Rattle.upon_tool.specs.declared.failure.Failure.{Failure}
-use Rattle.upon_tool.specs.declared.failure.Failure.TheVariants.{NoEquals, InputTwice, Unreadable, NotText, Data, Unwritable, Fault}
-
-no_word : (word : Bor (List ℕ)) → Contains [] word → ⊥
-no_word word c = let inside : c.0 < 0 = c.1 in omega arith
+use Rattle.upon_tool.specs.declared.failure.Failure.TheVariants.{Unreadable, NotText, Data, Unwritable, Fault}
 
 -- a failure that is handed on
 pub handed_on : {A : Type 0} (P : Failure → Type 0) (f : Failure) (r : Result A Failure) → IsErrAnd r (λ x. x ≡ f) → P f → IfErr r P
@@ -23,49 +20,47 @@ pub out_of_folder : {A : Type 0} (folder : Option (Bor (List ℕ))) (name : Bor 
 out_of_folder folder name (Ok a) is out = absurd out
 out_of_folder folder name (Err f) is out = subst (λ folder. IsSomeAnd folder (λ folder. IsUnread folder f)) (sym is) (OutOfMemory, out.0)
 
-module _ (set : List (Bor (List ℕ))) (Twice : Type 0) (Named : Bor (List ℕ) → Type 0) (Faulty : Error → Type 0) where
+module _ (OfData : ContextFault → Type 0) (Named : Bor (List ℕ) → Type 0) (Faulty : Error → Type 0) where
   -- memory was out
-  pub of_memory : (f : Failure) → IsMemory f → Refuses set Twice Named Faulty f
-  of_memory (NoEquals word) out = absurd out
-  of_memory InputTwice out = absurd out
+  pub of_memory : (f : Failure) → IsMemory f → Refuses OfData Named Faulty f
   of_memory (Unreadable name error) out = absurd out
   of_memory (NotText name) out = absurd out
-  of_memory (Data name fault) out = absurd out
+  of_memory (Data fault) out = absurd out
   of_memory (Unwritable name error) out = absurd out
   of_memory (Fault error) out = inl out
 
+  pub memory_handed_on : {A : Type 0} (r : Result A Failure) → IsErrAnd r (λ f. IsMemory f × (status_of f ≡ 1)) → IfErr r (Refuses OfData Named Faulty)
+  memory_handed_on (Ok a) out = absurd out
+  memory_handed_on (Err f) out = of_memory f out.0
+
   -- a file was not read
-  unread_so : (name : Bor (List ℕ)) (fault : ReadFault) (f : Failure) → Named name → Unread name fault f → Refuses set Twice Named Faulty f
-  unread_so name (FileUnreadable error) f named is = subst (Refuses set Twice Named Faulty) (sym is) named
-  unread_so name FileNotText f named is = subst (Refuses set Twice Named Faulty) (sym is) named
-  unread_so name FileOutside f named is = subst (Refuses set Twice Named Faulty) (sym is.1) named
+  unread_so : (name : Bor (List ℕ)) (fault : ReadFault) (f : Failure) → Named name → Unread name fault f → Refuses OfData Named Faulty f
+  unread_so name (FileUnreadable error) f named is = subst (Refuses OfData Named Faulty) (sym is) named
+  unread_so name FileNotText f named is = subst (Refuses OfData Named Faulty) (sym is) named
+  unread_so name FileOutside f named is = subst (Refuses OfData Named Faulty) (sym is.1) named
   unread_so name OutOfMemory f named is = of_memory f is
 
-  pub of_unread : (name : Bor (List ℕ)) (f : Failure) → Named name → IsUnread name f → Refuses set Twice Named Faulty f
+  pub of_unread : (name : Bor (List ℕ)) (f : Failure) → Named name → IsUnread name f → Refuses OfData Named Faulty f
   of_unread name f named unread = unread_so name unread.0 f named unread.1
 
-  pub of_unread_at : (at : Option (Bor (List ℕ))) (f : Failure) → ((name : Bor (List ℕ)) → at ≡ Some name → Named name) → IsSomeAnd at (λ name. IsUnread name f) → Refuses set Twice Named Faulty f
+  pub of_unread_at : (at : Option (Bor (List ℕ))) (f : Failure) → ((name : Bor (List ℕ)) → at ≡ Some name → Named name) → IsSomeAnd at (λ name. IsUnread name f) → Refuses OfData Named Faulty f
   of_unread_at None f named unread = absurd unread
   of_unread_at (Some name) f named unread = of_unread name f (named name refl) unread
 
-  -- a word has no `=`
-  pub of_words : (f : Failure) → IsNoPair set f → Refuses set Twice Named Faulty f
-  of_words (NoEquals word) is = is
-  of_words InputTwice is = absurd is
-  of_words (Unreadable name error) is = absurd is
-  of_words (NotText name) is = absurd is
-  of_words (Data name fault) is = absurd is
-  of_words (Unwritable name error) is = absurd is
-  of_words (Fault error) is = inl is
+  -- there is no context
+  of_data : (fault : ContextFault) (f : Failure) → f ≡ Data fault → OfData fault → Refuses OfData Named Faulty f
+  of_data fault f is refused = subst (Refuses OfData Named Faulty) (sym is) refused
 
-  -- a failure of a part, which knows of no words
+  pub data_handed_on : {A : Type 0} (fault : ContextFault) (r : Result A Failure) → IsErrAnd r (λ f. f ≡ Data fault) → OfData fault → IfErr r (Refuses OfData Named Faulty)
+  data_handed_on fault (Ok a) is refused = absurd is
+  data_handed_on fault (Err f) is refused = of_data fault f is refused
+
+  -- a failure of a part, which knows of no data
   pub of_part : (Mine : Bor (List ℕ) → Type 0) (Own : Error → Type 0) → ((name : Bor (List ℕ)) → Mine name → Named name) → ((e : Error) → Own e → Faulty e)
-      → (f : Failure) → Refuses [] ⊥ Mine Own f → Refuses set Twice Named Faulty f
-  of_part Mine Own names faults (NoEquals word) is = absurd (no_word word is.0)
-  of_part Mine Own names faults InputTwice is = absurd is
+      → (f : Failure) → Refuses (λ fault. ⊥) Mine Own f → Refuses OfData Named Faulty f
   of_part Mine Own names faults (Unreadable name error) is = names name is
   of_part Mine Own names faults (NotText name) is = names name is
-  of_part Mine Own names faults (Data name fault) is = absurd is
+  of_part Mine Own names faults (Data fault) is = absurd is
   of_part Mine Own names faults (Unwritable name error) is = absurd is
   of_part Mine Own names faults (Fault error) (inl out) = inl out
   of_part Mine Own names faults (Fault error) (inr own) = inr (faults error own)

@@ -17,11 +17,9 @@ use Rattle.upon_engine.specs.Texts.{texts_of, Texts}
 use Rattle.upon_engine.specs.Theorem.{meaning}
 use Rattle.upon_engine.specs.Within.{runs}
 use Rattle.upon_engine.specs.declared.engine.Engine.{Engine as Held}
-use Rattle.upon_json.specs.Context.{IsContext}
-use Rattle.upon_tool.specs.Rendering.{is_limited, Renders, SendsIf, SendsPage, Shows, StaysWithin}
+use Rattle.upon_tool.specs.Rendering.{is_limited, Renders, SendsIf, SendsPage, StaysWithin}
 use Rattle.upon_tool.specs.declared.failure.Failure.{Failure}
-use Rattle.upon_tool.specs.declared.failure.Failure.TheVariants.{NoEquals, InputTwice, Unreadable, NotText}
-use Rattle.upon_tool.specs.declared.failure.Failure.TheVariants.{Data, Unwritable, Fault}
+use Rattle.upon_tool.specs.declared.failure.Failure.TheVariants.{Unreadable, NotText, Data, Unwritable, Fault}
 
 appends_kept : (old sent new : Option (List ℕ)) (text : List ℕ) → Appends old sent text → Keeps sent new → Appends old new text
 appends_kept None sent new text appends keeps = tt
@@ -95,52 +93,31 @@ module _ {X Y : Type 0} {P : X → Type 0} {Q : Y → Type 0} (formats : DynBox 
   sent_by h limits name source tree v old new limited r is says =
       subst (λ limited. IsSomeAnd r (λ r. SendsIf limited limits (texts_of formats answers h) name source tree v r old new)) (sym is) says
 
-  -- a rendering that ended well has shown the page
-  pub shown : (h : Held X Y P Q) (limits : Limits) (name : Option (List ℕ)) (source : List ℕ) (tree : Statements) (json : Option (List ℕ)) (pairs : List (List ℕ × Val)) (old new : Option (List ℕ)) (v : Val) (r : Result (Unit {0}) Error) (u : Unit {0})
-      → r ≡ Ok u → IsContext json pairs v → SendsPage limits (texts_of formats answers h) name source tree v r old new
-      → Shows json pairs (λ v r. SendsPage limits (texts_of formats answers h) name source tree v r old new)
-  shown h limits name source tree json pairs old new v r u is context says =
-      (v, context, subst (λ r. SendsPage limits (texts_of formats answers h) name source tree v r old new) is says)
+  -- a rendering that ended well has sent the page
+  pub shown : (h : Held X Y P Q) (limits : Limits) (name : Option (List ℕ)) (source : List ℕ) (tree : Statements) (v : Val) (old new : Option (List ℕ)) (r : Result (Unit {0}) Error) (u : Unit {0}) → r ≡ Ok u → SendsPage limits (texts_of formats answers h) name source tree v r old new → SendsPage limits (texts_of formats answers h) name source tree v (Ok tt) old new
+  shown h limits name source tree v old new r u is says = subst (λ r. SendsPage limits (texts_of formats answers h) name source tree v r old new) is says
 
   -- one that failed has its fault
-  pub failed : (h : Held X Y P Q) (limits : Limits) (name : Option (List ℕ)) (source : List ℕ) (tree : Statements) (json : Option (List ℕ)) (pairs : List (List ℕ × Val)) (old new : Option (List ℕ)) (v : Val) (r : Result (Unit {0}) Error) (e : Error)
-      → r ≡ Err e → IsContext json pairs v → SendsPage limits (texts_of formats answers h) name source tree v r old new
-      → (v : Val) × IsContext json pairs v × SendsPage limits (texts_of formats answers h) name source tree v (Err e) old new
-  failed h limits name source tree json pairs old new v r e is context says =
-      (v, context, subst (λ r. SendsPage limits (texts_of formats answers h) name source tree v r old new) is says)
+  pub failed : (h : Held X Y P Q) (limits : Limits) (name : Option (List ℕ)) (source : List ℕ) (tree : Statements) (v : Val) (old new : Option (List ℕ)) (r : Result (Unit {0}) Error) (e : Error) → r ≡ Err e → SendsPage limits (texts_of formats answers h) name source tree v r old new → SendsPage limits (texts_of formats answers h) name source tree v (Err e) old new
+  failed h limits name source tree v old new r e is says = subst (λ r. SendsPage limits (texts_of formats answers h) name source tree v r old new) is says
 
-  -- what was shown stays so as the output is flushed
-  pub shows_kept : (h : Held X Y P Q) (limits : Limits) (name : Option (List ℕ)) (source : List ℕ) (tree : Statements) (json : Option (List ℕ)) (pairs : List (List ℕ × Val)) (old sent new : Option (List ℕ)) → Keeps sent new
-      → Shows json pairs (λ v r. SendsPage limits (texts_of formats answers h) name source tree v r old sent)
-      → Shows json pairs (λ v r. SendsPage limits (texts_of formats answers h) name source tree v r old new)
-  shows_kept h limits name source tree json pairs old sent new keeps shown =
-      (shown.0, shown.1, whole_kept limits (texts_of formats answers h) name source tree shown.0 old sent new keeps (is_limited limits) shown.2)
+  -- what was sent stays so as the output is flushed
+  pub shows_kept : (h : Held X Y P Q) (limits : Limits) (name : Option (List ℕ)) (source : List ℕ) (tree : Statements) (v : Val) (old sent new : Option (List ℕ)) → Keeps sent new → SendsPage limits (texts_of formats answers h) name source tree v (Ok tt) old sent → SendsPage limits (texts_of formats answers h) name source tree v (Ok tt) old new
+  shows_kept h limits name source tree v old sent new keeps shown = whole_kept limits (texts_of formats answers h) name source tree v old sent new keeps (is_limited limits) shown
 
   -- and so does what a failed rendering has sent
-  pub renders_kept : (h : Held X Y P Q) (limits : Limits) (name : Option (List ℕ)) (source : List ℕ) (tree : Statements) (json : Option (List ℕ)) (pairs : List (List ℕ × Val)) (old sent new : Option (List ℕ)) (f : Failure) → Keeps sent new
-      → Renders json pairs (λ v r. SendsPage limits (texts_of formats answers h) name source tree v r old sent) (Err f)
-      → Renders json pairs (λ v r. SendsPage limits (texts_of formats answers h) name source tree v r old new) (Err f)
-  renders_kept h limits name source tree json pairs old sent new (Fault e) keeps said =
-      (said.0, said.1, fault_kept limits (texts_of formats answers h) name source tree said.0 old sent new keeps (is_limited limits) e said.2)
-  renders_kept h limits name source tree json pairs old sent new (Data file fault) keeps said = said
-  renders_kept h limits name source tree json pairs old sent new (NoEquals word) keeps said = said
-  renders_kept h limits name source tree json pairs old sent new InputTwice keeps said = said
-  renders_kept h limits name source tree json pairs old sent new (Unreadable file error) keeps said = said
-  renders_kept h limits name source tree json pairs old sent new (NotText file) keeps said = said
-  renders_kept h limits name source tree json pairs old sent new (Unwritable file error) keeps said = said
+  pub renders_kept : (h : Held X Y P Q) (limits : Limits) (name : Option (List ℕ)) (source : List ℕ) (tree : Statements) (v : Val) (old sent new : Option (List ℕ)) (f : Failure) → Keeps sent new → Renders (λ r. SendsPage limits (texts_of formats answers h) name source tree v r old sent) (Err f) → Renders (λ r. SendsPage limits (texts_of formats answers h) name source tree v r old new) (Err f)
+  renders_kept h limits name source tree v old sent new (Fault e) keeps said = fault_kept limits (texts_of formats answers h) name source tree v old sent new keeps (is_limited limits) e said
+  renders_kept h limits name source tree v old sent new (Data fault) keeps said = said
+  renders_kept h limits name source tree v old sent new (Unreadable file error) keeps said = said
+  renders_kept h limits name source tree v old sent new (NotText file) keeps said = said
+  renders_kept h limits name source tree v old sent new (Unwritable file error) keeps said = said
 
   -- a rendering that ended well, of which the output was not flushed
-  pub not_flushed : (h : Held X Y P Q) (limits : Limits) (name : Option (List ℕ)) (source : List ℕ) (tree : Statements) (json : Option (List ℕ)) (pairs : List (List ℕ × Val)) (old sent new : Option (List ℕ)) (e : Error) → IsAnyIo e → Keeps sent new
-      → Shows json pairs (λ v r. SendsPage limits (texts_of formats answers h) name source tree v r old sent)
-      → Renders json pairs (λ v r. SendsPage limits (texts_of formats answers h) name source tree v r old new) (Err (Fault e))
-  not_flushed h limits name source tree json pairs old sent new e io keeps shown =
-      (shown.0, shown.1, flush_failed limits (texts_of formats answers h) name source tree shown.0 old sent new keeps (is_limited limits) e io shown.2)
+  pub not_flushed : (h : Held X Y P Q) (limits : Limits) (name : Option (List ℕ)) (source : List ℕ) (tree : Statements) (v : Val) (old sent new : Option (List ℕ)) (e : Error) → IsAnyIo e → Keeps sent new → SendsPage limits (texts_of formats answers h) name source tree v (Ok tt) old sent → Renders (λ r. SendsPage limits (texts_of formats answers h) name source tree v r old new) (Err (Fault e))
+  not_flushed h limits name source tree v old sent new e io keeps shown = flush_failed limits (texts_of formats answers h) name source tree v old sent new keeps (is_limited limits) e io shown
 
   -- a failure that is handed on
-  pub handed_on : (h : Held X Y P Q) (limits : Limits) (name : Option (List ℕ)) (source : List ℕ) (tree : Statements) (json : Option (List ℕ)) (pairs : List (List ℕ × Val)) (old new : Option (List ℕ)) (f : Failure) (r : Result (Unit {0}) Failure)
-      → IsErrAnd r (λ x. x ≡ f)
-      → Renders json pairs (λ v r. SendsPage limits (texts_of formats answers h) name source tree v r old new) (Err f)
-      → Renders json pairs (λ v r. SendsPage limits (texts_of formats answers h) name source tree v r old new) r
-  handed_on h limits name source tree json pairs old new f (Ok u) is said = absurd is
-  handed_on h limits name source tree json pairs old new f (Err x) is said =
-      subst (λ x. Renders json pairs (λ v r. SendsPage limits (texts_of formats answers h) name source tree v r old new) (Err x)) (sym is) said
+  pub handed_on : (h : Held X Y P Q) (limits : Limits) (name : Option (List ℕ)) (source : List ℕ) (tree : Statements) (v : Val) (old new : Option (List ℕ)) (f : Failure) (r : Result (Unit {0}) Failure) → IsErrAnd r (λ x. x ≡ f) → Renders (λ r. SendsPage limits (texts_of formats answers h) name source tree v r old new) (Err f) → Renders (λ r. SendsPage limits (texts_of formats answers h) name source tree v r old new) r
+  handed_on h limits name source tree v old new f (Ok u) is said = absurd is
+  handed_on h limits name source tree v old new f (Err x) is said = subst (λ x. Renders (λ r. SendsPage limits (texts_of formats answers h) name source tree v r old new) (Err x)) (sym is) said

@@ -1,7 +1,9 @@
 -- What a call of the program does, from its words and what it reads to its output and its status.
-use Rattle.std.specs.Prelude.{◌≡◌, ◌⊎◌, ℕ, List, [], Contains, true, false, Option, None, Some, IsNone, IsSomeAnd, Result, Ok, Err}
+use Rattle.std.specs.Prelude.{◌≡◌, ◌⊎◌, ℕ, List, [], Contains, Bool, true, false, Option, None, Some, IsNone, IsSomeAnd, Result, Ok, Err, String, string_bytes}
 use Rattle.std.specs.Borrow.{Bor}
+use Rattle.std.specs.declared.alloc.Global.{Global}
 use Rattle.upon_types.specs.Tree.{Statements}
+use Rattle.upon_types.specs.Val.{Val}
 use Rattle.upon_types.specs.declared.error.Error.{Error}
 use Rattle.upon_language_spec.specs.DefaultDelimiters.{default_delimiters}
 use Rattle.upon_language_spec.specs.Grammar.{HasTree}
@@ -10,16 +12,24 @@ use Rattle.upon_engine.specs.Changes.{with_text}
 use Rattle.upon_engine.specs.Faults.{IsSyntaxErrorOf}
 use Rattle.upon_engine.specs.Texts.{Texts}
 use Rattle.upon_tool_io.specs.declared.arguments.Call.{Call}
-use Rattle.upon_tool_io.specs.declared.arguments.Call.TheVariants.{Render as RenderAsked, Check as CheckAsked, Names as NamesAsked}
+use Rattle.upon_tool_io.specs.declared.arguments.Call.TheVariants.{Render as RenderAsked, Check as CheckAsked, Names as NamesAsked, Each as EachAsked, Build as BuildAsked}
+use Rattle.upon_tool_io.specs.declared.arguments.BuildCall.{BuildCall}
 use Rattle.upon_tool_io.specs.declared.arguments.CheckCall.{CheckCall}
+use Rattle.upon_tool_io.specs.declared.arguments.EachCall.{EachCall}
 use Rattle.upon_tool_io.specs.declared.arguments.NamesCall.{NamesCall}
 use Rattle.upon_tool_io.specs.declared.arguments.RenderCall.{RenderCall}
-use Rattle.upon_tool.specs.Filled.{engine_for, standard_functions, TakesFiles}
+use Rattle.upon_tool_data.specs.Context.{IsContext, RefusesContext}
+use Rattle.upon_tool_data.specs.Sources.{is_standard, IsTextOf}
+use Rattle.upon_tool_data.specs.Words.{IsWrong}
+use Rattle.upon_tool_data.specs.declared.fault.ContextFault.{ContextFault}
+use Rattle.upon_tool_data.specs.declared.words.DataWords.{DataWords}
+use Rattle.upon_tool_many.specs.declared.build.Build.{Build}
+use Rattle.upon_tool_many.specs.declared.each.Each.{Each}
+use Rattle.upon_tool.specs.Filled.{engine_for, standard_functions, with_page, TakesFiles}
+use Rattle.upon_tool.specs.ManyPages.{limits_set, BuildIsWell, EachIsWell}
 use Rattle.upon_tool.specs.Refusals.{Refuses}
 use Rattle.upon_tool.specs.Rendering.{Renders, SendsPage, StaysWithin}
-use Rattle.upon_tool.specs.Sources.{IsTextAt, IsTextOf}
 use Rattle.upon_tool.specs.Status.{end_status, status_of}
-use Rattle.upon_tool.specs.Words.{is_standard, split_words}
 use Rattle.upon_tool.specs.Work.{to_standard, ChecksFiles, EachFileIsRight, ListsNames}
 use Rattle.upon_tool.specs.declared.failure.Failure.{Failure}
 use Rattle.upon_tool.specs.declared.sources.FolderFile.{FolderFile}
@@ -28,25 +38,43 @@ use Rattle.upon_tool.specs.declared.sources.FolderFile.{FolderFile}
 abbrev pub limits_asked : RenderCall → Limits
 limits_asked call = record { steps = call.max_steps; output = call.max_output; values = call.max_memory }
 
+-- the words of a call's data
+pub record AreWordsOf (call : RenderCall) (words : DataWords) : Type 0 where
+  pub env : words.env ≡ call.env
+  pub files : words.files.now ≡ call.data.items
+  pub format : words.format ≡ call.format
+  pub values : words.values.now ≡ call.set_json.items
+  pub texts : words.texts.now ≡ call.set.items
+
+-- the value that a call's data are, by what standard input had left and has left, if that is known
+abbrev pub IsContextOf : RenderCall → Option (List ℕ) → Val → Option (List ℕ) → Type 0
+IsContextOf call input v later =
+    IsContext call.env call.data.items call.format call.set_json.items call.set.items input v later
+
+-- what the engine of a call holds before its templates
+abbrev pub engine_asked : RenderCall → Texts
+engine_asked call = engine_for call.escape (standard_functions call.standard)
+
 -- A call of `render` ends with a status, by what standard input had left, if that is known. FILE's text was read, and
--- the text of the context, after it; and then the folder's files. If the output is standard output, FILE's text has a
--- tree, whose meaning was sent to it on the context, with FILE over the folder's files, up to an end of this status; and
--- no more bytes than the call allows.
+-- the files of the context, after it, which is a value; and then the folder's files. If the output is standard output,
+-- FILE's text has a tree, whose meaning was sent to it on that value, with FILE over the folder's files, up to an end of
+-- this status; and no more bytes than the call allows.
 pub record RendersCall (call : RenderCall) (input : Option (List ℕ)) (status : ℕ) (old new : Option (List ℕ))
     : Type 0 where
   pub text : List ℕ
   pub later : Option (List ℕ)
-  pub json : Option (List ℕ)
+  pub value : Val
+  pub last : Option (List ℕ)
   pub files : List FolderFile
   pub folder : Texts
   pub read : IsTextOf call.file.now input text
   pub left : is_standard call.file.now ≡ false → later ≡ input
-  pub data_read : IsTextAt call.data later json
+  pub data_read : IsContextOf call later value last
   pub no_folder : IsNone call.templates → files ≡ []
-  pub taken : TakesFiles files (engine_for call.escape (standard_functions call.standard)) folder
+  pub taken : TakesFiles files (engine_asked call) folder
   pub shown : to_standard call.out ≡ true → (tree : Statements) × ∥ HasTree default_delimiters text tree ∥₁
-      × ((end : Result (Unit {0}) Failure) × (status ≡ end_status end) × Renders json (split_words call.set.items)
-      (λ v r. SendsPage (limits_asked call) (with_text call.file.now text folder) (Some call.file.now) text tree v r
+      × ((end : Result (Unit {0}) Failure) × (status ≡ end_status end) × Renders
+      (λ r. SendsPage (limits_asked call) (with_text call.file.now text folder) (Some call.file.now) text tree value r
       old new) end × StaysWithin call.max_output old new)
 
 -- A call of `names` ends with a status, so. If that is 0, it was listed what FILE's text needs, with the folder's files.
@@ -70,29 +98,109 @@ pub record ChecksCall (call : CheckCall) (input : Option (List ℕ)) (status : �
   pub checked : ChecksFiles folder call.files.items input status
   pub folder_checked : status ≡ 0 → EachFileIsRight folder files
 
+-- what is rendered for each item
+abbrev pub each_asked : EachCall → Each
+each_asked call = record {
+  key = call.key;
+  page = call.render.file;
+  name = call.name;
+  out = call.out;
+  limits = limits_set (limits_asked call.render);
+  keep_going = call.keep_going;
+}
+
+-- A call of `render` with `--each` ends with a status, so. FILE's text was read, and the files of the context, after it,
+-- and then the folder's files. If the status is 0, FILE was rendered for each item of the list, with the folder's files,
+-- and no page failed.
+pub record RendersEachCall (call : EachCall) (input : Option (List ℕ)) (status : ℕ) : Type 0 where
+  pub text : List ℕ
+  pub later : Option (List ℕ)
+  pub value : Val
+  pub last : Option (List ℕ)
+  pub files : List FolderFile
+  pub folder : Texts
+  pub read : IsTextOf call.render.file.now input text
+  pub left : is_standard call.render.file.now ≡ false → later ≡ input
+  pub data_read : IsContextOf call.render later value last
+  pub no_folder : IsNone call.render.templates → files ≡ []
+  pub taken : TakesFiles files (engine_asked call.render) folder
+  pub rendered : EachIsWell (with_text call.render.file.now text folder) value (each_asked call) status
+
+-- what is built
+abbrev pub build_asked : BuildCall → Build
+build_asked call = record {
+  source = call.render.file;
+  follows = call.render.follow;
+  out = call.out;
+  layout = call.layout;
+  limits = limits_set (limits_asked call.render);
+  keep_going = call.keep_going;
+}
+
+-- a file that may be named is standard input
+abbrev pub is_input : Option (Bor (List ℕ)) → Bool
+is_input None = false
+is_input (Some name) = is_standard name.now
+
+-- the template that a layout is, under its file's name, if that is named
+abbrev pub IsLayout : Option (Bor (List ℕ)) → Option (List ℕ) → Option (Bor (List ℕ) × String Global) → Type 0
+IsLayout None input page = page ≡ None
+IsLayout (Some name) input page =
+    IsSomeAnd page (λ page. (page.0 ≡ name) × IsTextOf name.now input (string_bytes page.1))
+
+-- A call of `build` ends with a status, so. The layout's text was read, and the files of the context, after it, and then
+-- the files of the folder of templates. If the status is 0, the folder was built, with the layout over those files, and
+-- no page failed.
+pub record BuildsCall (call : BuildCall) (input : Option (List ℕ)) (status : ℕ) : Type 0 where
+  pub layout : Option (Bor (List ℕ) × String Global)
+  pub later : Option (List ℕ)
+  pub value : Val
+  pub last : Option (List ℕ)
+  pub files : List FolderFile
+  pub folder : Texts
+  pub read : IsLayout call.layout input layout
+  pub left : is_input call.layout ≡ false → later ≡ input
+  pub data_read : IsContextOf call.render later value last
+  pub no_folder : IsNone call.render.templates → files ≡ []
+  pub taken : TakesFiles files (engine_asked call.render) folder
+  pub built : BuildIsWell (with_page layout folder) value (build_asked call) status
+
 -- FILE's text, as it was read, has this fault
 abbrev pub IsFaultOf : Bor (List ℕ) → Option (List ℕ) → Error → Type 0
 IsFaultOf file input error =
     (text : List ℕ) × IsTextOf file.now input text × IsSyntaxErrorOf file.now default_delimiters text error
 
--- standard input is FILE, and the context too
-abbrev pub AsksTwice : RenderCall → Type 0
-AsksTwice call = (is_standard call.file.now ≡ true) × IsSomeAnd call.data (λ name. is_standard name.now ≡ true)
+-- The words of a call's data are wrong, where standard input may have been taken; or they give no context, by what
+-- standard input has left after that.
+abbrev pub IsNoContext : Bool → RenderCall → Option (List ℕ) → ContextFault → Type 0
+IsNoContext taken call input fault = IsWrong taken call.data.items call.set_json.items call.set.items fault
+    ⊎ ((later : Option (List ℕ)) × (taken ≡ false → later ≡ input)
+    × RefusesContext call.env call.data.items call.format call.set_json.items call.set.items later fault)
+
+-- the layout's text, as it was read, has this fault
+abbrev pub IsFaultOfLayout : Option (Bor (List ℕ)) → Option (List ℕ) → Error → Type 0
+IsFaultOfLayout layout input error = IsSomeAnd layout (λ name. IsFaultOf name input error)
 
 -- Why a call ends before its work.
 abbrev pub RefusesCall : Call → Option (List ℕ) → Failure → Type 0
-RefusesCall (RenderAsked call) input = Refuses call.set.items (AsksTwice call)
-    (λ name. (name ≡ call.file) ⊎ ((call.data ≡ Some name) ⊎ (call.templates ≡ Some name))) (IsFaultOf call.file input)
+RefusesCall (RenderAsked call) input = Refuses (IsNoContext (is_standard call.file.now) call input)
+    (λ name. (name ≡ call.file) ⊎ (call.templates ≡ Some name)) (IsFaultOf call.file input)
 RefusesCall (CheckAsked call) input =
-    Refuses [] ⊥ (λ name. Contains call.files.items name ⊎ (call.templates ≡ Some name)) (λ error. ⊥)
+    Refuses (λ fault. ⊥) (λ name. Contains call.files.items name ⊎ (call.templates ≡ Some name)) (λ error. ⊥)
 RefusesCall (NamesAsked call) input =
-    Refuses [] ⊥ (λ name. (name ≡ call.file) ⊎ (call.templates ≡ Some name)) (IsFaultOf call.file input)
+    Refuses (λ fault. ⊥) (λ name. (name ≡ call.file) ⊎ (call.templates ≡ Some name)) (IsFaultOf call.file input)
+RefusesCall (EachAsked call) input = Refuses (IsNoContext (is_standard call.render.file.now) call.render input)
+    (λ name. (name ≡ call.render.file) ⊎ (call.render.templates ≡ Some name)) (IsFaultOf call.render.file input)
+RefusesCall (BuildAsked call) input = Refuses (IsNoContext (is_input call.layout) call.render input)
+    (λ name. (call.layout ≡ Some name) ⊎ (call.render.templates ≡ Some name)) (IsFaultOfLayout call.layout input)
 
 -- a call's work is done, and ends with a status
 abbrev pub DoesCall : Call → Option (List ℕ) → ℕ → Option (List ℕ) → Option (List ℕ) → Type 0
 DoesCall (RenderAsked call) input status old new = RendersCall call input status old new
 DoesCall (CheckAsked call) input status old new = (new ≡ old) × ChecksCall call input status
 DoesCall (NamesAsked call) input status old new = ListsCall call input status old new
+DoesCall (EachAsked call) input status old new = (new ≡ old) × RendersEachCall call input status
+DoesCall (BuildAsked call) input status old new = (new ≡ old) × BuildsCall call input status
 
 -- A call's work is done; or it is refused, and nothing was sent to the output.
 abbrev pub Runs : Call → Option (List ℕ) → Result ℕ Failure → Option (List ℕ) → Option (List ℕ) → Type 0

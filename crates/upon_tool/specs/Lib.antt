@@ -3,10 +3,11 @@ pub mod Rendering
 pub mod Library
 pub mod Missing
 pub mod Names
-pub mod Words
 pub mod Sources
 pub mod Refusals
 pub mod Escaping
 pub mod Filled
+pub mod ManyPages
 pub mod Work
 pub mod Calls
+pub mod Colors

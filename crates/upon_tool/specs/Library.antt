@@ -5,9 +5,14 @@ use Rattle.upon_types.specs.declared.error.Error.{Error}
 use Rattle.upon_tool_io.specs.declared.files.ReadFault.{ReadFault}
 use Rattle.upon_tool_io.specs.declared.files.ReadFault.TheVariants.{Unreadable as FileUnreadable, NotText as FileNotText, Outside as FileOutside, OutOfMemory}
 use Rattle.upon_tool.specs.Status.{is_memory}
+use Rattle.upon_tool.specs.declared.library.Callables.{Callables}
 use Rattle.upon_tool.specs.declared.library.Library.{Library}
 use Rattle.upon_tool.specs.declared.library.Refusal.{Refusal}
 use Rattle.upon_tool.specs.declared.library.Refusal.TheVariants.{Unreadable, NotText, Outside, Fault}
+
+-- what templates may call
+abbrev pub library_callables : Library → Callables
+library_callables library = library.callables
 
 -- the names of the files
 abbrev pub library_names : Library → List (List ℕ)

@@ -1,8 +1,8 @@
--- What a rendering on JSON answers.
-use Rattle.std.specs.Prelude.{◌≡◌, ◌||◌, ℕ, List, Bool, true, false, Option, Some, None, is_some, option_map, Result, Ok, Err}
-use Rattle.std.specs.Borrow.{Bor}
+-- What a rendering on a value answers.
+use Rattle.std.specs.Prelude.{◌≡◌, ◌||◌, ℕ, List, Bool, true, false, Option, Some, None, is_some, Result, Ok, Err}
 use Rattle.upon_types.specs.Tree.{Statements}
 use Rattle.upon_types.specs.Val.{Val}
+use Rattle.upon_types.specs.View.{view}
 use Rattle.upon_types.specs.declared.error.Error.{Error}
 use Rattle.upon_language_spec.specs.Grammar.{HasTree}
 use Rattle.upon_vm.specs.Limits.{GrowsWithin}
@@ -10,26 +10,10 @@ use Rattle.upon_vm.specs.declared.limits.Limits.{Limits}
 use Rattle.upon_engine.specs.Texts.{Stored, Texts}
 use Rattle.upon_engine.specs.Theorem.{Sends}
 use Rattle.upon_engine.specs.Within.{SendsWithin}
-use Rattle.upon_json.specs.Context.{set_pairs, IsContext, IsRefusal}
 use Rattle.upon_tool.specs.Status.{end_status}
 use Rattle.upon_tool.specs.declared.rendering.Page.{Page}
 use Rattle.upon_tool.specs.declared.failure.Failure.{Failure}
-use Rattle.upon_tool.specs.declared.failure.Failure.TheVariants.{NoEquals, InputTwice, Unreadable, NotText}
-use Rattle.upon_tool.specs.declared.failure.Failure.TheVariants.{Data, Unwritable, Fault}
-
--- the text of the context, beside its file's name
-abbrev pub json_in : Option (Bor (List ℕ) × Bor (List ℕ)) → Option (List ℕ)
-json_in file = option_map (λ f. f.1.now) file
-
--- the file is no context
-abbrev pub is_of_data : Failure → Bool
-is_of_data (Data name fault) = true
-is_of_data (NoEquals word) = false
-is_of_data InputTwice = false
-is_of_data (Unreadable name error) = false
-is_of_data (NotText name) = false
-is_of_data (Unwritable name error) = false
-is_of_data (Fault error) = false
+use Rattle.upon_tool.specs.declared.failure.Failure.TheVariants.{Unreadable, NotText, Data, Unwritable, Fault}
 
 -- whether a limit is set
 abbrev pub is_limited : Limits → Bool
@@ -52,28 +36,20 @@ abbrev pub StaysWithin : Option ℕ → Option (List ℕ) → Option (List ℕ) 
 StaysWithin None old new = Unit {0}
 StaysWithin (Some limit) old new = GrowsWithin (Some limit) old new
 
--- it is shown on the context
-abbrev pub Shows : Option (List ℕ) → List (List ℕ × Val) → (Val → Result (Unit {0}) Error → Type 0) → Type 0
-Shows json pairs Sent = (v : Val) × IsContext json pairs v × Sent v (Ok tt)
-
--- It is shown on the context; or that ends with a fault; or there is no context, or no memory for it.
-abbrev pub Renders : Option (List ℕ) → List (List ℕ × Val) → (Val → Result (Unit {0}) Error → Type 0)
-    → Result (Unit {0}) Failure → Type 0
-Renders json pairs Sent (Ok u) = Shows json pairs Sent
-Renders json pairs Sent (Err (Fault e)) = (v : Val) × IsContext json pairs v × Sent v (Err e)
-Renders json pairs Sent (Err (Data name fault)) = IsRefusal json fault
-Renders json pairs Sent (Err (NoEquals word)) = ⊥
-Renders json pairs Sent (Err InputTwice) = ⊥
-Renders json pairs Sent (Err (Unreadable name error)) = ⊥
-Renders json pairs Sent (Err (NotText name)) = ⊥
-Renders json pairs Sent (Err (Unwritable name error)) = ⊥
+-- It is sent whole; or that ends with a fault.
+abbrev pub Renders : (Result (Unit {0}) Error → Type 0) → Result (Unit {0}) Failure → Type 0
+Renders Sent (Ok u) = Sent (Ok tt)
+Renders Sent (Err (Fault e)) = Sent (Err e)
+Renders Sent (Err (Data fault)) = ⊥
+Renders Sent (Err (Unreadable name error)) = ⊥
+Renders Sent (Err (NotText name)) = ⊥
+Renders Sent (Err (Unwritable name error)) = ⊥
 
 -- A page is shown by an engine that holds these texts. If a text is held under its name, what its tree means was sent on
--- the context, up to an end that has this status, and no more bytes than a limit allows.
+-- the value, up to an end that has this status, and no more bytes than a limit allows.
 abbrev pub ShowsPage : Texts → Page → ℕ → Option (List ℕ) → Option (List ℕ) → Type 0
 ShowsPage e page status old new = (held : Stored) (tree : Statements) → e.texts page.name.now ≡ Some held
     → ∥ HasTree held.syntax held.text tree ∥₁
     → (end : Result (Unit {0}) Failure) × (status ≡ end_status end)
-    × Renders (json_in page.json) (set_pairs page.set.now)
-    (λ v r. SendsPage page.limits e (Some page.name.now) held.text tree v r old new) end
+    × Renders (λ r. SendsPage page.limits e (Some page.name.now) held.text tree (view page.value.now) r old new) end
     × StaysWithin page.limits.output old new

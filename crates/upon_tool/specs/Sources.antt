@@ -1,11 +1,11 @@
 -- The files that a run reads, and why one is not read.
-use Rattle.std.specs.Prelude.{◌≡◌, ℕ, List, [], ◌∷◌, Option, Some, None, true, false}
+use Rattle.std.specs.Prelude.{◌≡◌, ℕ, List, [], ◌∷◌, Option, false}
 use Rattle.std.specs.Borrow.{Bor}
 use Rattle.std.specs.declared.io.Error.{Error as IoError}
 use Rattle.upon_tool_io.specs.declared.files.ReadFault.{ReadFault}
 use Rattle.upon_tool_io.specs.declared.files.ReadFault.TheVariants.{Unreadable as FileUnreadable, NotText as FileNotText, Outside as FileOutside, OutOfMemory}
+use Rattle.upon_tool_data.specs.Sources.{is_standard, IsTextOf}
 use Rattle.upon_tool.specs.Status.{IsMemory}
-use Rattle.upon_tool.specs.Words.{is_standard}
 use Rattle.upon_tool.specs.declared.failure.Failure.{Failure}
 use Rattle.upon_tool.specs.declared.failure.Failure.TheVariants.{Unreadable, NotText}
 
@@ -19,17 +19,6 @@ Unread name OutOfMemory failure = IsMemory failure
 -- the file was not read, or memory was out
 abbrev pub IsUnread : Bor (List ℕ) → Failure → Type 0
 IsUnread name failure = (fault : ReadFault) × Unread name fault failure
-
--- the text of a file: of standard input, what that had left, if it is known
-abbrev pub IsTextOf : List ℕ → Option (List ℕ) → List ℕ → Type 0
-IsTextOf name None text = Unit {0}
-IsTextOf name (Some bytes) text = is_standard name ≡ true → text ≡ bytes
-
--- the text of a file that may be named
-abbrev pub IsTextAt : Option (Bor (List ℕ)) → Option (List ℕ) → Option (List ℕ) → Type 0
-IsTextAt None input text = text ≡ None
-IsTextAt (Some name) input None = ⊥
-IsTextAt (Some name) input (Some text) = IsTextOf name.now input text
 
 -- the texts of files that are read one after the other, by what standard input had left and has left, if that is known
 abbrev pub AreTexts : List (Bor (List ℕ)) → Option (List ℕ) → List (List ℕ) → Option (List ℕ) → Type 0

@@ -2,24 +2,26 @@
 use Rattle.std.specs.Prelude.{◌≡◌, ℕ, List, [], Contains, Bool, true, Option, Some, None, IsSome, IsSomeAnd, map, string_bytes}
 use Rattle.std.specs.Borrow.{Bor}
 use Rattle.std.specs.Io.KnownBytes.{Appends}
+use Rattle.upon_types.specs.View.{view}
 use Rattle.upon_language_spec.specs.DefaultDelimiters.{default_delimiters}
 use Rattle.upon_meaning_spec.specs.Engine.{Table, Template}
 use Rattle.upon_engine.specs.Faults.{IsSyntaxErrorOf}
 use Rattle.upon_engine.specs.Texts.{Texts}
 use Rattle.upon_engine.specs.Theorem.{IsTable}
 use Rattle.upon_engine.specs.declared.needs.Needs.{Needs}
+use Rattle.upon_tool_data.specs.Sources.{is_standard}
 use Rattle.upon_tool.specs.Filled.{EachHasTree, Fills}
+use Rattle.upon_tool.specs.ManyPages.{BuildIsWell, EachIsWell}
 use Rattle.upon_tool.specs.Missing.{EachIsRight, EachName, HeldIsRight}
 use Rattle.upon_tool.specs.Names.{needs_text, NeededBy}
 use Rattle.upon_tool.specs.Refusals.{Refuses}
 use Rattle.upon_tool.specs.Rendering.{ShowsPage}
 use Rattle.upon_tool.specs.Sources.{AreTexts}
-use Rattle.upon_tool.specs.Words.{is_standard}
 use Rattle.upon_tool.specs.declared.failure.Failure.{Failure}
 use Rattle.upon_tool.specs.declared.sources.FolderFile.{FolderFile}
 use Rattle.upon_tool.specs.declared.work.Templates.{Templates}
 use Rattle.upon_tool.specs.declared.work.Work.{Work}
-use Rattle.upon_tool.specs.declared.work.Work.TheVariants.{Render, Check, Names}
+use Rattle.upon_tool.specs.declared.work.Work.TheVariants.{Render, Check, Names, Each as EachWork, Build as BuildWork}
 
 -- the output is standard output
 abbrev pub to_standard : Option (Bor (List ℕ)) → Bool
@@ -40,30 +42,36 @@ ChecksFiles e names input status = (texts : List (List ℕ)) × (later : Option 
 -- a piece of work ends with a status, by what standard input had left
 abbrev pub Works : Work → Texts → Option (List ℕ) → ℕ → Option (List ℕ) → Option (List ℕ) → Type 0
 Works (Render page path) e input status old new = to_standard path ≡ true → ShowsPage e page.now status old new
-Works (Check names) e input status old new = (new ≡ old) × ChecksFiles e names.now input status
+Works (Check names callables) e input status old new = (new ≡ old) × ChecksFiles e names.now input status
 Works (Names name json) e input status old new = ListsNames e name.now json status old new
+Works (EachWork value asked terminal) e input status old new = (new ≡ old) × EachIsWell e (view value) asked.now status
+Works (BuildWork value asked terminal) e input status old new = (new ≡ old) × BuildIsWell e (view value.now) asked.now status
 
 -- the files that are checked
 abbrev pub checked_files : Work → List (Bor (List ℕ))
 checked_files (Render page path) = []
-checked_files (Check names) = names.now
+checked_files (Check names callables) = names.now
 checked_files (Names name json) = []
+checked_files (EachWork value asked terminal) = []
+checked_files (BuildWork value asked terminal) = []
 
 -- one of some files was not read, or memory was out
 abbrev pub IsUnreadOf : List (Bor (List ℕ)) → Failure → Type 0
-IsUnreadOf names failure = Refuses [] ⊥ (Contains names) (λ error. ⊥) failure
+IsUnreadOf names failure = Refuses (λ fault. ⊥) (Contains names) (λ error. ⊥) failure
 
 -- Why work was not done: a file that is to be checked was not read; or the template's text has a fault; or memory was out.
 abbrev pub RefusesWork : Templates → Work → Failure → Type 0
-RefusesWork templates work failure = Refuses [] ⊥ (Contains (checked_files work))
+RefusesWork templates work failure = Refuses (λ fault. ⊥) (Contains (checked_files work))
     (λ error. IsSomeAnd templates.page (λ page. IsSyntaxErrorOf page.0.now default_delimiters (string_bytes page.1) error))
     failure
 
 -- files are to be checked
 abbrev pub IsCheck : Work → Type 0
 IsCheck (Render page path) = ⊥
-IsCheck (Check names) = Unit {0}
+IsCheck (Check names callables) = Unit {0}
 IsCheck (Names name json) = ⊥
+IsCheck (EachWork value asked terminal) = ⊥
+IsCheck (BuildWork value asked terminal) = ⊥
 
 -- each file of a folder is held, and right
 abbrev pub EachFileIsRight : Texts → List FolderFile → Type 0

@@ -9,6 +9,7 @@ ghost use Rattle.upon_engine.specs.Template.{template_tree};
 ghost use Rattle.upon_tool.specs.Library.{refusal_of};
 ghost use Rattle.upon_tool.specs.Missing.{is_missing, IsRight};
 
+use crate::call_check::CallCheck;
 use crate::failure::{is_memory, report_fault};
 use crate::includes::show_includes;
 use crate::library::Library;
@@ -48,12 +49,15 @@ fn is_missing(engine: &Engine<'_>, own: &str, name: &str) -> bool
     name != own && engine.get_template(name).is_none()
 }
 
-/// Says what is wrong with the text of a template, and returns whether nothing is. It fails if there is no memory.
+/// Says what is wrong with the text of a template, beside the files of a library, and returns whether nothing is but calls
+/// that fail, which `calls` keeps. It fails if there is no memory.
 pub fn check_text<E: io::Write>(
     alloc: Global,
     engine: &Engine<'_>,
+    library: &Library,
     name: &str,
     source: CowStr<'_>,
+    calls: &mut CallCheck<'_>,
     err: &mut E,
 ) -> Result<bool, AllocError>
     ensures { IfOk result (λ is_right. (is_right ≡ true)
@@ -71,23 +75,32 @@ pub fn check_text<E: io::Write>(
             return Ok(false);
         }
     };
+    calls.check(alloc, name, template.source(), err)?;
     let missing = missing(alloc, engine, name, &template)?;
     if missing.is_empty() {
         return Ok(true);
     }
-    match show_includes(alloc, name, template.source(), missing.as_slice(), err) {
+    match show_includes(
+        alloc,
+        library,
+        name,
+        template.source(),
+        missing.as_slice(),
+        err,
+    ) {
         Ok(()) => Ok(false),
         Err(_) => Err(AllocError),
     }
 }
 
-/// Says what is wrong with the file of a name of a library, and returns whether nothing is. It fails if there is no
-/// memory.
+/// Says what is wrong with the file of a name of a library, and returns whether nothing is but calls that fail, which
+/// `calls` keeps. It fails if there is no memory.
 pub fn check_file<E: io::Write>(
     alloc: Global,
     engine: &Engine<'_>,
     library: &Library,
     name: &str,
+    calls: &mut CallCheck<'_>,
     err: &mut E,
 ) -> Result<bool, AllocError>
     ensures { let table = engine_templates engine.now in
@@ -103,8 +116,10 @@ pub fn check_file<E: io::Write>(
         Some(template) => check_text(
             alloc,
             engine,
+            library,
             name,
             CowStr::Borrowed(template.source()),
+            calls,
             err,
         ),
         None => Ok(true),

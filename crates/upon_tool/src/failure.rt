@@ -1,6 +1,6 @@
 // Why a run of the program fails, its status, and what is said of it.
 ghost use Rattle.std.specs.Prelude.{◌≡◌};
-ghost use Rattle.upon_tool.specs.Status.{is_memory, status_of, IsMemory};
+ghost use Rattle.upon_tool.specs.Status.{data_status, is_memory, status_of, IsMemory};
 
 use crate::hints::hint_of;
 use crate::picture::shown;
@@ -8,22 +8,18 @@ use std::alloc::{AllocError, AllocFailed, Global};
 use std::io::{self, Write};
 use upon::Error;
 use upon::error::ErrorKind;
-use upon_json::context::DataFault;
+use upon_tool_data::fault::ContextFault;
 use upon_tool_io::output::WriteFault;
 
 /// Why a run fails.
 #[derive(Drop)]
 pub enum Failure<'a> {
-    /// A word of `--set` without `=`.
-    NoEquals(&'a str),
-    /// Standard input is asked for twice.
-    InputTwice,
     /// A file or folder of this name could not be read, by this error of the system.
     Unreadable(&'a str, io::Error),
     /// The file of this name is not UTF-8.
     NotText(&'a str),
-    /// The file of this name is no context.
-    Data(&'a str, DataFault),
+    /// There is no value that a template could be rendered on.
+    Data(ContextFault<'a>),
     /// The file of this name could not be written.
     Unwritable(&'a str, WriteFault),
     /// A template was refused, could not be rendered or not be shown.
@@ -37,6 +33,16 @@ impl<'a> From<Error> for Failure<'a> {
 
     fn from(error: Error) -> Failure<'a> {
         Failure::Fault(error)
+    }
+}
+
+impl<'a> From<ContextFault<'a>> for Failure<'a> {
+    ghost use Rattle.upon_tool.specs.declared.failure.Failure.TheVariants.{Data};
+
+    ghost from_gives = { λ fault failure. failure ≡ Data fault };
+
+    fn from(fault: ContextFault<'a>) -> Failure<'a> {
+        Failure::Data(fault)
     }
 }
 
@@ -61,14 +67,6 @@ pub fn report<E: Write>(alloc: Global, failure: &Failure<'_>, err: &mut E) -> u8
     ensures { result ≡ status_of failure.now }
 {
     match failure {
-        Failure::NoEquals(word) => {
-            let _ = writeln!(err, "upon-tool: --set wants KEY=TEXT, not {word}");
-            2
-        }
-        Failure::InputTwice => {
-            let _ = writeln!(err, "upon-tool: standard input can be read only once");
-            2
-        }
         Failure::Unreadable(name, error) => {
             let _ = writeln!(err, "upon-tool: cannot read {name}: {error}");
             2
@@ -77,9 +75,9 @@ pub fn report<E: Write>(alloc: Global, failure: &Failure<'_>, err: &mut E) -> u8
             let _ = writeln!(err, "upon-tool: {name} is not UTF-8");
             2
         }
-        Failure::Data(name, fault) => {
-            report_data(name, fault, err);
-            1
+        Failure::Data(fault) => {
+            report_data(fault, err);
+            data_status(fault)
         }
         Failure::Unwritable(name, fault) => {
             report_unwritable(name, fault, err);
@@ -107,31 +105,58 @@ fn report_unwritable<E: Write>(name: &str, fault: &WriteFault, err: &mut E) {
     };
 }
 
-// Says why a file is no context: if it is no JSON, with the line and the column where that is seen.
-fn report_data<E: Write>(name: &str, fault: &DataFault, err: &mut E) {
+// Says why there is no context.
+fn report_data<E: Write>(fault: &ContextFault<'_>, err: &mut E) {
     let _ = match fault {
-        DataFault::Refused(refusal) => writeln!(err, "upon-tool: {name}: {refusal}"),
-        DataFault::NotObject => writeln!(err, "upon-tool: {name}: neither an object nor a list"),
-        DataFault::OutOfMemory => writeln!(err, "out of memory"),
+        ContextFault::OutOfMemory => writeln!(err, "out of memory"),
+        _ => writeln!(err, "upon-tool: {fault}"),
     };
+}
+
+// The status for what gives no context: 2 for wrong words, and for what can't be read as text; else 1.
+fn data_status(fault: &ContextFault<'_>) -> u8
+    ensures { result ≡ data_status fault.now }
+{
+    match fault {
+        ContextFault::LacksText(_)
+        | ContextFault::LacksValue(_)
+        | ContextFault::InputTwice
+        | ContextFault::Unreadable(..)
+        | ContextFault::NotText(_) => 2,
+        ContextFault::NotOfFormat(..)
+        | ContextFault::NotObject(_)
+        | ContextFault::NotJson(..)
+        | ContextFault::NotMap(_)
+        | ContextFault::OutOfMemory => 1,
+    }
 }
 
 /// Says what an error is, with its picture, ended by a newline; nothing, if the reader of the output has gone.
 pub fn report_fault<E: Write>(alloc: Global, error: &Error, err: &mut E) {
+    report_hinted(alloc, error, None, err);
+}
+
+/// Says the same, with a hint if one is given.
+pub(crate) fn report_hinted<E: Write>(
+    alloc: Global,
+    error: &Error,
+    hint: Option<&str>,
+    err: &mut E,
+) {
     if is_broken_pipe(error) {
         return;
     }
-    let _ = match told(alloc, error) {
+    let _ = match told(alloc, error, hint) {
         Ok(text) => write!(err, "{text}"),
         Err(_) => writeln!(err, "out of memory"),
     };
 }
 
-// What an error is, with its picture, ended by a newline; and a hint, if there is one.
-fn told(alloc: Global, error: &Error) -> Result<String, AllocError> {
+// What an error is, with its picture, ended by a newline; and a hint, if one is given or is there for its reason.
+fn told(alloc: Global, error: &Error, hint: Option<&str>) -> Result<String, AllocError> {
     let text = error.pretty(alloc)?;
     let mut told = shown(alloc, text.as_str())?;
-    if let Some(hint) = hint_of(error.reason().unwrap_or_default(), text.as_str()) {
+    if let Some(hint) = hint.or(hint_of(error.reason().unwrap_or_default(), text.as_str())) {
         told.push_str("   = hint: ")?;
         told.push_str(hint)?;
         told.push('\n')?;

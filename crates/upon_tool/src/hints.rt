@@ -2,11 +2,15 @@
 // templates would take.
 use crate::picture::{marks_of, widths};
 
-// What is marked in a picture: the text of the line before the marks, and from there on.
+/// What is marked in a picture.
 #[derive(Clone, Copy)]
-struct Marked<'p> {
-    before: &'p str,
-    rest: &'p str,
+pub(crate) struct Marked<'p> {
+    /// The text of the line before the marks.
+    pub(crate) before: &'p str,
+    /// The text above the marks.
+    pub(crate) text: &'p str,
+    /// The text from the marks on.
+    pub(crate) rest: &'p str,
 }
 
 /// Returns the hint for a fault of this reason and picture, if what is marked there looks like another language's.
@@ -246,8 +250,8 @@ fn word_of(text: &str) -> &str {
     }
 }
 
-// What is marked in a picture.
-fn mark_in(picture: &str) -> Option<Marked<'_>> {
+/// Returns what is marked in a picture.
+pub(crate) fn mark_in(picture: &str) -> Option<Marked<'_>> {
     let mut last: Option<&str> = None;
     for line in picture.lines() {
         if let (Some(marked), Some(marks)) = (last, marks_of(line)) {
@@ -261,9 +265,12 @@ fn mark_in(picture: &str) -> Option<Marked<'_>> {
 // What is marked in a line of a picture by the marks below it.
 fn mark_above<'p>(line: &'p str, marks: &str) -> Option<Marked<'p>> {
     let (_, text) = line.split_once(" | ")?;
-    let column = marks.len().saturating_sub(marks.trim_start().len());
+    let signs = marks.trim_start();
+    let column = marks.len().saturating_sub(signs.len());
     let (before, rest) = text.split_at_checked(offset_of(text, column))?;
-    Some(Marked { before, rest })
+    let width = signs.trim_end_matches('-').len();
+    let (text, _) = rest.split_at_checked(offset_of(rest, width))?;
+    Some(Marked { before, text, rest })
 }
 
 // The offset of a column in a line of a picture.

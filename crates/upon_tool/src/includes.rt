@@ -1,7 +1,8 @@
 // Where a text includes templates, and which.
 ghost use Rattle.upon_types.specs.Span.{LiesIn};
 
-use crate::failure::report_fault;
+use crate::library::Library;
+use crate::near::report_include;
 use std::alloc::Global;
 use std::borrow::CowStr;
 use std::collections::BTreeMap;
@@ -25,9 +26,11 @@ pub fn including(alloc: Global, quoted: &str) -> Result<Template<'static>> {
 const PICTURES: usize = 100;
 
 /// Shows the first include of each of these names in a text, as the error with which a rendering would end there, and
-/// says how many more there are. The first hundred are shown with their pictures, the others in a line each.
+/// says how many more there are. The first hundred are shown with their pictures, and with the files of a library that
+/// have a name near to it; the others in a line each.
 pub fn show_includes<E: io::Write>(
     alloc: Global,
+    library: &Library,
     name: &str,
     source: &str,
     missing: &[&str],
@@ -46,7 +49,7 @@ pub fn show_includes<E: io::Write>(
         let text = source.get(span.m..span.n).unwrap_or_default();
         if is_next {
             if let Some(count) = counts.remove(included(alloc, text)?.as_str()) {
-                shown = show_next(alloc, name, source, span, shown, err);
+                shown = show_next(alloc, library, name, source, span, shown, err);
                 show_count(name, count, err);
             }
         }
@@ -88,6 +91,7 @@ fn zeros(alloc: Global, names: &[&str]) -> Result<BTreeMap<String, usize>> {
 // Shows an include at a span, after so many that have been shown, and returns how many have been then.
 fn show_next<E: io::Write>(
     alloc: Global,
+    library: &Library,
     name: &str,
     source: &str,
     span: Span,
@@ -97,7 +101,7 @@ fn show_next<E: io::Write>(
     requires { LiesIn source.now span }
 {
     if shown < PICTURES {
-        show_include(alloc, name, source, span, err);
+        show_include(alloc, library, name, source, span, err);
         return shown + 1;
     }
     let quoted = source.get(span.m..span.n).unwrap_or_default();
@@ -109,12 +113,20 @@ fn show_next<E: io::Write>(
 }
 
 // Shows an include at a span.
-fn show_include<E: io::Write>(alloc: Global, name: &str, source: &str, span: Span, err: &mut E)
+fn show_include<E: io::Write>(
+    alloc: Global,
+    library: &Library,
+    name: &str,
+    source: &str,
+    span: Span,
+    err: &mut E,
+)
     requires { LiesIn source.now span }
 {
     let reason = Some("unknown template");
     let error = Error::from_parts(alloc, ErrorKind::Render, reason, Some((source, span)));
-    report_fault(alloc, &error.with_name(alloc, name), err);
+    let quoted = source.get(span.m..span.n).unwrap_or_default();
+    report_include(alloc, library, quoted, &error.with_name(alloc, name), err);
 }
 
 // Says that there are so many includes of what was shown, if there are more than one.
@@ -124,8 +136,8 @@ fn show_count<E: io::Write>(name: &str, count: usize, err: &mut E) {
     }
 }
 
-// The name that a quoted string denotes.
-fn included(alloc: Global, quoted: &str) -> Result<String> {
+/// Returns the name that a quoted string denotes.
+pub(crate) fn included(alloc: Global, quoted: &str) -> Result<String> {
     let template = including(alloc, quoted)?;
     let names = template.includes()?;
     let name = names.first().copied().unwrap_or_default();

@@ -2,7 +2,7 @@
 ghost use Rattle.std.specs.Prelude.{◌≡◌, ◌++◌, ◌∷◌, [], ℕ, List, map, None, Some, IfOk, OnErr, OnOk, option_map, bytes_eq, string_bytes};
 ghost use Rattle.std.specs.Map.{update};
 ghost use Rattle.upon_types.specs.Conversions.{or_else};
-ghost use Rattle.upon_tool.specs.Library.{library_names, refusal_of, read_refusal, IsOfAdded};
+ghost use Rattle.upon_tool.specs.Library.{library_callables, library_names, refusal_of, read_refusal, IsOfAdded};
 
 use crate::failure::is_memory;
 use crate::includes::including;
@@ -10,6 +10,7 @@ use std::alloc::{AllocError, Global};
 use std::collections::BTreeMap;
 use std::io;
 use upon::{Engine, Error};
+use upon_std::table::StandardFunction;
 use upon_tool_io::files::ReadFault;
 
 /// Why a file is no template.
@@ -54,25 +55,45 @@ impl Refusal {
     }
 }
 
-/// The files of a folder by their names, with the reasons why some are no templates. An engine holds the templates.
+/// What templates may call.
+#[derive(Clone, Copy)]
+pub struct Callables {
+    /// The functions.
+    pub functions: &'static [StandardFunction],
+    /// Whether there is the formatter `verbatim`.
+    pub has_verbatim: bool,
+}
+
+/// The files of a folder by their names, with the reasons why some are no templates, and what templates may call. An
+/// engine holds the templates.
 #[derive(Drop)]
 pub struct Library {
     alloc: Global,
+    callables: Callables,
     names: Vec<String>,
     refused: BTreeMap<String, Refusal>,
 }
 
 impl Library {
     /// Creates a library without files.
-    pub fn new(alloc: Global) -> Library
+    pub fn new(alloc: Global, callables: Callables) -> Library
+        ensures callables { library_callables result ≡ callables }
         ensures names { library_names result ≡ [] }
         ensures refused { (name : List ℕ) → refusal_of result name ≡ None }
     {
         Library {
             alloc,
+            callables,
             names: Vec::new(alloc),
             refused: BTreeMap::new(alloc),
         }
+    }
+
+    /// Returns what templates may call.
+    pub fn callables(&self) -> Callables
+        ensures { result ≡ library_callables self.now }
+    {
+        self.callables
     }
 
     /// Returns the names of the files, in the order in which they were added.
@@ -91,6 +112,7 @@ impl Library {
 
     /// Keeps the name of a file, and the reason why it is no template, if it is none. It fails if there is no memory.
     pub fn add(&mut self, name: &str, refusal: Option<Refusal>) -> Result<(), AllocError>
+        ensures callables { library_callables self.new ≡ library_callables self.old }
         // The name is the last of its names.
         ensures names { OnOk result (library_names self.new ≡ library_names self.old ++ name.now ∷ []) }
         // At the name is the reason, if one is given, and else what was there; at each other name is what was there.

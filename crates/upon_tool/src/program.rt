@@ -1,58 +1,97 @@
 // The program: from its words to its status.
-ghost use Rattle.std.specs.Prelude.{◌≡◌, ◌≤◌, false, IfErr, IfOk, IfSome, IsNone, OnErr};
-ghost use Rattle.upon_types.specs.Val.{text_val};
-ghost use Rattle.upon_json.specs.Context.{set_pairs};
+ghost use Rattle.std.specs.Prelude.{◌≡◌, ◌≤◌, false, IfErr, IfOk, IsSomeAnd, OnErr, true};
 ghost use Rattle.upon_tool.specs.Filled.{standard_functions};
-ghost use Rattle.upon_tool.specs.Rendering.{json_in};
-ghost use Rattle.upon_tool.specs.Calls.{CallEnds, ChecksCall, ListsCall, RefusesCall, RendersCall, Runs};
-ghost use Rattle.upon_tool_io.specs.declared.arguments.Call.TheVariants.{Render as RenderAsked, Check as CheckAsked, Names as NamesAsked};
-ghost use Rattle.upon_tool.specs.Words.{has_equals, json_named, pair_of, split_words, IsNoPair};
+ghost use Rattle.upon_tool.specs.ManyPages.{limits_set};
+ghost use Rattle.upon_tool.specs.Sources.{IsUnread};
+ghost use Rattle.upon_tool.specs.Calls.{is_input, limits_asked, AreWordsOf, BuildsCall, CallEnds, ChecksCall, IsLayout, ListsCall, RefusesCall, RendersCall, RendersEachCall, Runs};
+ghost use Rattle.upon_tool_io.specs.declared.arguments.Color.TheVariants.{Auto, Always, Never};
+ghost use Rattle.upon_tool_io.specs.declared.arguments.Call.TheVariants.{Render as RenderAsked, Check as CheckAsked, Names as NamesAsked, Each as EachAsked, Build as BuildAsked};
 
 use crate::failure::{Failure, report};
-use crate::rendering::Page;
-use crate::sources::{STANDARD, files_in, text_at, text_of};
+use crate::rendering::{Page, is_limited};
+use crate::sources::{files_in, text_of};
 use crate::terminal::Terminal;
 use crate::work::{Templates, Work, carry_out};
 use std::alloc::Global;
+use std::env::{self, Env, VarError};
 use std::io::{Read, Write};
 use std::rt::Files;
+use std::time::Clock;
 use upon::Limits;
 use upon_std::table::{ALL, StandardFunction};
-use upon_tool_io::arguments::{self, Call, CheckCall, NamesCall, RenderCall};
+use upon_tool_calls::judge::Declared;
+use upon_tool_data::context::context;
+use upon_tool_data::sources::STANDARD;
+use upon_tool_data::words::{DataWords, check};
+use upon_tool_io::arguments::{
+    self, BuildCall, Call, CheckCall, Color, EachCall, Escape, NamesCall, RenderCall,
+};
+use upon_tool_many::build::Build;
+use upon_tool_many::each::Each;
+
+// The formatters that there are if values are escaped.
+const FORMATTERS: [&str; 1] = ["verbatim"];
 
 /// Does what the words ask for, of which the first is the program's name, and returns the status. Templates and
 /// contexts come from files, and from `input` if their name is `-`. What goes to `err` has its control characters
-/// spelled.
-pub fn run<R: Files + AllocGlobal + Clone + Drop, I: Read, O: Write, E: Write>(
+/// spelled, and has colors if they are asked for: always, or if `err` goes to a terminal.
+pub fn run<R: Files + Env + Clock + AllocGlobal + Clone + Drop, I: Read, O: Write, E: Write>(
     rt: &R,
     words: &[String],
     input: &mut I,
     out: &mut O,
     err: &mut E,
+    is_terminal: bool,
 ) -> u8
     ensures { result ≤ 2 }
 {
     let alloc = rt.alloc();
-    let mut err = Terminal::new(err);
     match arguments::read(alloc, words) {
-        Ok(call) => run_call(rt, &call, input, out, &mut err),
-        Err(error) => show_words(alloc, &error, out, &mut err),
+        Ok(call) => {
+            let mut err = Terminal::new(alloc, err, has_colors(rt, call.color(), is_terminal));
+            let status = run_call(rt, &call, input, out, &mut err, is_terminal);
+            let _ = err.flush();
+            status
+        }
+        Err(error) => show_words(alloc, &error, out, &mut Terminal::new(alloc, err, false)),
     }
 }
 
-/// Does what a call asks for, and returns the status, as [`run`] does.
-pub fn run_call<R: Files + AllocGlobal + Clone + Drop, I: Read, O: Write, E: Write>(
+/// Returns whether pictures have colors: as it is asked for, or else on a terminal, if `NO_COLOR` is not set.
+pub fn has_colors<R: Env + AllocGlobal>(rt: &R, asked: Color, is_terminal: bool) -> bool
+    ensures always { asked ≡ Always → result ≡ true }
+    ensures never { asked ≡ Never → result ≡ false }
+    ensures terminal { asked ≡ Auto → is_terminal ≡ false → result ≡ false }
+{
+    match asked {
+        Color::Always => true,
+        Color::Never => false,
+        Color::Auto => is_terminal && !is_set(rt, "NO_COLOR"),
+    }
+}
+
+// Whether a variable of the environment is there and not empty.
+fn is_set<R: Env + AllocGlobal>(rt: &R, name: &str) -> bool {
+    match env::var(rt, name) {
+        Ok(text) => !text.is_empty(),
+        Err(fault) => fault != VarError::NotPresent,
+    }
+}
+
+/// Does what a call asks for, and returns the status, as [`run`] does, with what goes to `err` as it is.
+pub fn run_call<R: Files + Env + Clock + AllocGlobal + Clone + Drop, I: Read, O: Write, E: Write>(
     rt: &R,
     call: &Call<'_>,
     input: &mut I,
     out: &mut O,
     err: &mut E,
+    is_terminal: bool,
 ) -> u8
     ensures range { result ≤ 2 }
     // The work ends in one way of these, and that way has this status.
     ensures ends { CallEnds call.now (I.remaining input.old) result (O.contents out.old) (O.contents out.new) }
 {
-    let done = work_of(rt, call, input, out, err);
+    let done = work_of(rt, call, input, out, err, is_terminal);
     match done {
         Ok(status) => status,
         Err(failure) => report(rt.alloc(), &failure, err),
@@ -60,12 +99,13 @@ pub fn run_call<R: Files + AllocGlobal + Clone + Drop, I: Read, O: Write, E: Wri
 }
 
 // Does what a call asks for, and answers the status.
-fn work_of<'a, R: Files + AllocGlobal + Clone + Drop, I: Read, O: Write, E: Write>(
+fn work_of<'a, R: Files + Env + Clock + AllocGlobal + Clone + Drop, I: Read, O: Write, E: Write>(
     rt: &R,
     call: &Call<'a>,
     input: &mut I,
     out: &mut O,
     err: &mut E,
+    is_terminal: bool,
 ) -> Result<u8, Failure<'a>>
     ensures range { IfOk result (λ status. status ≤ 2) }
     ensures ends { Runs call.now (I.remaining input.old) result (O.contents out.old) (O.contents out.new) }
@@ -74,6 +114,8 @@ fn work_of<'a, R: Files + AllocGlobal + Clone + Drop, I: Read, O: Write, E: Writ
         Call::Render(call) => run_render(rt, call, input, out, err),
         Call::Check(call) => run_check(rt, call, input, out, err),
         Call::Names(call) => run_names(rt, call, input, out, err),
+        Call::Each(call) => run_each(rt, call, input, out, err, is_terminal),
+        Call::Build(call) => run_build(rt, call, input, out, err, is_terminal),
     }
 }
 
@@ -100,7 +142,7 @@ fn show_words<O: Write, E: Write>(
 }
 
 // Renders, and answers the status.
-fn run_render<'a, R: Files + AllocGlobal + Clone + Drop, I: Read, O: Write, E: Write>(
+fn run_render<'a, R: Files + Env + Clock + AllocGlobal + Clone + Drop, I: Read, O: Write, E: Write>(
     rt: &R,
     call: &RenderCall<'a>,
     input: &mut I,
@@ -113,12 +155,10 @@ fn run_render<'a, R: Files + AllocGlobal + Clone + Drop, I: Read, O: Write, E: W
     ensures unsent { OnErr result (O.contents out.new ≡ O.contents out.old) }
     ensures refused { IfErr result (RefusesCall (RenderAsked call.now) (I.remaining input.old)) }
 {
-    if call.file == STANDARD && call.data == Some(STANDARD) {
-        return Err(Failure::InputTwice);
-    }
-    let set = pairs(rt.alloc(), call.set.as_slice())?;
+    let words = data_words(call);
+    check(&words, call.file == STANDARD)?;
     let source = text_of(rt, call.file, input)?;
-    let json = text_at(rt, call.data, input)?;
+    let value = context(rt, &words, input)?;
     let files = files_in(rt, call.templates, call.follow)?;
     let templates = Templates {
         files,
@@ -128,13 +168,8 @@ fn run_render<'a, R: Files + AllocGlobal + Clone + Drop, I: Read, O: Write, E: W
     };
     let page = Page {
         name: call.file,
-        json: named(call.data, &json),
-        set: set.as_slice(),
-        limits: Limits {
-            steps: call.max_steps,
-            output: call.max_output,
-            values: call.max_memory,
-        },
+        value: &value,
+        limits: limits_of(call),
     };
     carry_out(
         rt,
@@ -157,41 +192,8 @@ fn standard(wanted: bool) -> &'static [StandardFunction]
     }
 }
 
-// A text that may be there, after its file's name.
-fn named<'a, 't>(name: Option<&'a str>, text: &'t Option<String>) -> Option<(&'a str, &'t str)>
-    ensures { json_in result ≡ json_named name.entry text.now }
-{
-    match (name, text) {
-        (Some(name), Some(text)) => Some((name, text.as_str())),
-        _ => None,
-    }
-}
-
-// The words of `--set`, each split at its first `=`.
-fn pairs<'a>(alloc: Global, words: &[&'a str]) -> Result<Vec<(&'a str, &'a str)>, Failure<'a>>
-    ensures split { IfOk result (λ pairs. set_pairs pairs.items ≡ split_words words.now) }
-    ensures refused { IfErr result (IsNoPair words.now) }
-{
-    let mut pairs = Vec::new(alloc);
-    for word in words {
-        let Some(pair) = pair_of(word) else {
-            return Err(Failure::NoEquals(word));
-        };
-        pairs.push(pair)?;
-    }
-    Ok(pairs)
-}
-
-// The key and the text of a word: what is before its first `=`, and what is after it.
-fn pair_of<'a>(word: &'a str) -> Option<(&'a str, &'a str)>
-    ensures split { IfSome result (λ pair. (pair.0.now, text_val pair.1.now) ≡ pair_of word.entry) }
-    ensures none { IsNone result → has_equals word.entry.now ≡ false }
-{
-    word.split_once('=')
-}
-
 // Checks, and answers the status.
-fn run_check<'a, R: Files + AllocGlobal + Clone + Drop, I: Read, O: Write, E: Write>(
+fn run_check<'a, R: Files + Env + Clock + AllocGlobal + Clone + Drop, I: Read, O: Write, E: Write>(
     rt: &R,
     call: &CheckCall<'a>,
     input: &mut I,
@@ -213,15 +215,30 @@ fn run_check<'a, R: Files + AllocGlobal + Clone + Drop, I: Read, O: Write, E: Wr
     carry_out(
         rt,
         templates,
-        Work::Check(call.files.as_slice()),
+        Work::Check(call.files.as_slice(), callables(call)),
         input,
         out,
         err,
     )
 }
 
+// What the templates that are checked may call.
+fn callables<'w>(call: &'w CheckCall<'_>) -> Declared<'w> {
+    Declared {
+        functions: standard(call.standard),
+        formatters: formatters(call.escape),
+        others: call.functions.as_slice(),
+    }
+}
+
+// The names of the formatters that there are, if values are escaped.
+fn formatters(escape: Option<Escape>) -> &'static [&'static str] {
+    let count = if escape.is_some() { 1 } else { 0 };
+    FORMATTERS.get(..count).unwrap_or_default()
+}
+
 // Lists what a template needs, and answers the status.
-fn run_names<'a, R: Files + AllocGlobal + Clone + Drop, I: Read, O: Write, E: Write>(
+fn run_names<'a, R: Files + Env + Clock + AllocGlobal + Clone + Drop, I: Read, O: Write, E: Write>(
     rt: &R,
     call: &NamesCall<'a>,
     input: &mut I,
@@ -250,4 +267,154 @@ fn run_names<'a, R: Files + AllocGlobal + Clone + Drop, I: Read, O: Write, E: Wr
         out,
         err,
     )
+}
+
+// Renders for each item, and answers the status.
+fn run_each<'a, R: Files + Env + Clock + AllocGlobal + Clone + Drop, I: Read, O: Write, E: Write>(
+    rt: &R,
+    call: &EachCall<'a>,
+    input: &mut I,
+    out: &mut O,
+    err: &mut E,
+    is_terminal: bool,
+) -> Result<u8, Failure<'a>>
+    ensures range { IfOk result (λ status. status ≤ 2) }
+    ensures unsent { O.contents out.new ≡ O.contents out.old }
+    ensures ends { IfOk result (RendersEachCall call.now (I.remaining input.old)) }
+    ensures refused { IfErr result (RefusesCall (EachAsked call.now) (I.remaining input.old)) }
+{
+    let render = &call.render;
+    let words = data_words(render);
+    check(&words, render.file == STANDARD)?;
+    let source = text_of(rt, render.file, input)?;
+    let value = context(rt, &words, input)?;
+    let files = files_in(rt, render.templates, render.follow)?;
+    let templates = Templates {
+        files,
+        page: Some((render.file, source)),
+        escape: render.escape,
+        functions: standard(render.standard),
+    };
+    let each = Each {
+        key: call.key,
+        page: render.file,
+        name: call.name,
+        out: call.out,
+        limits: limits_set(render),
+        keep_going: call.keep_going,
+    };
+    carry_out(
+        rt,
+        templates,
+        Work::Each(value, &each, is_terminal),
+        input,
+        out,
+        err,
+    )
+}
+
+// Builds a folder, and answers the status.
+fn run_build<'a, R: Files + Env + Clock + AllocGlobal + Clone + Drop, I: Read, O: Write, E: Write>(
+    rt: &R,
+    call: &BuildCall<'a>,
+    input: &mut I,
+    out: &mut O,
+    err: &mut E,
+    is_terminal: bool,
+) -> Result<u8, Failure<'a>>
+    ensures range { IfOk result (λ status. status ≤ 2) }
+    ensures unsent { O.contents out.new ≡ O.contents out.old }
+    ensures ends { IfOk result (BuildsCall call.now (I.remaining input.old)) }
+    ensures refused { IfErr result (RefusesCall (BuildAsked call.now) (I.remaining input.old)) }
+{
+    let render = &call.render;
+    let words = data_words(render);
+    check(&words, is_input(call.layout))?;
+    let layout = layout_of(rt, call.layout, input)?;
+    let value = context(rt, &words, input)?;
+    let files = files_in(rt, render.templates, render.follow)?;
+    let templates = Templates {
+        files,
+        page: layout,
+        escape: render.escape,
+        functions: standard(render.standard),
+    };
+    let build = Build {
+        source: render.file,
+        follows: render.follow,
+        out: call.out,
+        layout: call.layout,
+        limits: limits_set(render),
+        keep_going: call.keep_going,
+    };
+    carry_out(
+        rt,
+        templates,
+        Work::Build(&value, &build, is_terminal),
+        input,
+        out,
+        err,
+    )
+}
+
+// The words of a call's data.
+fn data_words<'a, 'w>(call: &'w RenderCall<'a>) -> DataWords<'a, 'w>
+    ensures { AreWordsOf call.entry.now result }
+{
+    DataWords {
+        env: call.env,
+        files: call.data.as_slice(),
+        format: call.format,
+        values: call.set_json.as_slice(),
+        texts: call.set.as_slice(),
+    }
+}
+
+// Whether a file that may be named is standard input.
+fn is_input(name: Option<&str>) -> bool
+    ensures { result ≡ is_input name.entry }
+{
+    match name {
+        Some(name) => name == STANDARD,
+        None => false,
+    }
+}
+
+// The template that a layout is, under its file's name, if that is named.
+fn layout_of<'a, R: Files + AllocGlobal, I: Read>(
+    rt: &R,
+    name: Option<&'a str>,
+    input: &mut I,
+) -> Result<Option<(&'a str, String)>, Failure<'a>>
+    ensures read { IfOk result (IsLayout name.entry (I.remaining input.old)) }
+    ensures kept { is_input name.entry ≡ false → I.remaining input.new ≡ I.remaining input.old }
+    ensures unread { IfErr result (λ failure. IsSomeAnd name.entry (λ name. IsUnread name failure)) }
+{
+    match name {
+        Some(name) => Ok(Some((name, text_of(rt, name, input)?))),
+        None => Ok(None),
+    }
+}
+
+// The limits that are asked for.
+fn limits_of(call: &RenderCall<'_>) -> Limits
+    ensures { result ≡ limits_asked call.now }
+{
+    Limits {
+        steps: call.max_steps,
+        output: call.max_output,
+        values: call.max_memory,
+    }
+}
+
+// The same, if one is set.
+fn limits_set(call: &RenderCall<'_>) -> Option<Limits>
+    ensures { result ≡ limits_set (limits_asked call.now) }
+{
+    let limits = limits_of(call);
+    if is_limited(&limits) {
+        Some(limits)
+    } else {
+        None
+    }
 }

@@ -1,61 +1,50 @@
-// A template rendered on the value of JSON.
-ghost use Rattle.std.specs.Prelude.{◌≡◌, ◌≤◌, ◌↔◌, None, Some, IfErr, IsErr, IsNone, IsSomeAnd, option_map, true};
+// A template rendered on a value.
+ghost use Rattle.std.specs.Prelude.{◌≡◌, ◌≤◌, ◌↔◌, None, Some, IsErr, IsNone, IsSomeAnd, Ok};
 ghost use Rattle.upon_types.specs.Tree.{Statements};
 ghost use Rattle.upon_types.specs.View.{view};
 ghost use Rattle.upon_language_spec.specs.Grammar.{HasTree};
 ghost use Rattle.upon_engine.specs.Texts.{Stored};
-ghost use Rattle.upon_json.specs.Context.{set_pairs};
-ghost use Rattle.upon_tool.specs.Rendering.{json_in, is_limited, is_of_data, Renders, SendsPage, Shows, ShowsPage, StaysWithin};
+ghost use Rattle.upon_tool.specs.Rendering.{is_limited, Renders, SendsPage, ShowsPage, StaysWithin};
 ghost use Rattle.upon_tool.specs.Status.{status_of};
 
 use crate::failure::{Failure, report, report_fault};
+use crate::known::Known;
 use crate::library::{Library, Refusal};
+use crate::near::report_near;
 use std::alloc::Global;
 use std::io;
 use upon::{AnyEngine, Engine, EngineTexts, Limits, Value};
-use upon_json::context::context;
 
 /// A template of an engine, with what it is rendered on.
 #[derive(Clone, Copy)]
-pub struct Page<'a, 't, 's> {
+pub struct Page<'a, 'v> {
     /// The template's name.
     pub name: &'a str,
-    /// The text of JSON, an object or a list, after its file's name; none is an object without members.
-    pub json: Option<(&'a str, &'t str)>,
-    /// Texts that are set over it, by their keys; of equal keys the last counts.
-    pub set: &'s [(&'a str, &'a str)],
+    /// The value that it is rendered on.
+    pub value: &'v Value,
     /// How far its rendering may go.
     pub limits: Limits,
 }
 
 /// Writes the text of a page.
 pub fn render<'a, O: io::Write>(
-    alloc: Global,
     engine: &Engine<'_>,
-    page: &Page<'a, '_, '_>,
+    page: &Page<'a, '_>,
     out: &mut O,
 ) -> Result<(), Failure<'a>>
-    // If a text is held under the name, the output receives what its tree means on the value of the JSON.
+    // If a text is held under the name, the output receives what its tree means on the value.
     ensures means { let texts = ⟦<AnyEngine as EngineTexts>⟧.texts engine.now in
         (held : Stored) (tree : Statements) → texts.texts page.now.name.now ≡ Some held
         → ∥ HasTree held.syntax held.text tree ∥₁
-        → Renders (json_in page.now.json) (set_pairs page.now.set.now) (λ v r.
-        SendsPage page.now.limits texts (Some page.now.name.now) held.text tree v r
+        → Renders (λ r. SendsPage page.now.limits texts (Some page.now.name.now) held.text tree (view page.now.value.now) r
         (O.contents out.old) (O.contents out.new)) result }
     // It never receives more bytes than the limit is, if that is set.
     ensures bounded { StaysWithin page.now.limits.output (O.contents out.old) (O.contents out.new) }
     // If none is, there is an error.
     ensures absent { let texts = ⟦<AnyEngine as EngineTexts>⟧.texts engine.now in
         texts.texts page.now.name.now ≡ None → IsErr result }
-    // If there is no context, nothing is written.
-    ensures unwritten { IfErr result (λ f. is_of_data f ≡ true → O.contents out.new ≡ O.contents out.old) }
 {
-    let (file, json) = parts(page.json);
-    let value = match context(alloc, json, page.set) {
-        Ok(value) => value,
-        Err(fault) => return Err(Failure::Data(file, fault)),
-    };
-    let Some(rendered) = send_on(engine, page, &value, out) else {
+    let Some(rendered) = send_on(engine, page, out) else {
         return Err(Failure::Unreadable(page.name, io::ErrorKind::NotFound.into()));
     };
     match rendered {
@@ -64,59 +53,46 @@ pub fn render<'a, O: io::Write>(
     }
 }
 
-// Sends the text of a page's template on a value. If no limit is set, nothing is counted.
+// Sends the text of a page's template on its value. If no limit is set, nothing is counted.
 fn send_on<O: io::Write>(
     engine: &Engine<'_>,
-    page: &Page<'_, '_, '_>,
-    value: &Value,
+    page: &Page<'_, '_>,
     out: &mut O,
 ) -> Option<upon::Result<()>>
     ensures means { let texts = ⟦<AnyEngine as EngineTexts>⟧.texts engine.now in
         (held : Stored) (tree : Statements) → texts.texts page.now.name.now ≡ Some held
         → ∥ HasTree held.syntax held.text tree ∥₁
-        → IsSomeAnd result (λ r. SendsPage page.now.limits texts (Some page.now.name.now) held.text tree (view value.now)
-        r (O.contents out.old) (O.contents out.new)) }
+        → IsSomeAnd result (λ r. SendsPage page.now.limits texts (Some page.now.name.now) held.text tree
+        (view page.now.value.now) r (O.contents out.old) (O.contents out.new)) }
     ensures bounded { StaysWithin page.now.limits.output (O.contents out.old) (O.contents out.new) }
     ensures absent { let texts = ⟦<AnyEngine as EngineTexts>⟧.texts engine.now in
         IsNone result ↔ (texts.texts page.now.name.now ≡ None) }
 {
     if is_limited(&page.limits) {
-        engine.render_template_to_within(&page.limits, page.name, value, out)
+        engine.render_template_to_within(&page.limits, page.name, page.value, out)
     } else {
-        engine.render_template_to(page.name, value, out)
+        engine.render_template_to(page.name, page.value, out)
     }
 }
 
-// Whether a limit is set.
-fn is_limited(limits: &Limits) -> bool
+/// Returns whether a limit is set.
+pub(crate) fn is_limited(limits: &Limits) -> bool
     ensures { result ≡ is_limited limits.now }
 {
     limits.steps.is_some() || limits.output.is_some() || limits.values.is_some()
 }
 
-// The name of the context's file, and its text if it is there.
-fn parts<'a, 't>(json: Option<(&'a str, &'t str)>) -> (&'a str, Option<&'t str>)
-    ensures { option_map (λ text. text.now) result.1 ≡ json_in json.entry }
-{
-    match json {
-        Some((file, text)) => (file, Some(text)),
-        None => ("", None),
-    }
-}
-
 /// Writes the same, and flushes.
 pub fn send<'a, O: io::Write>(
-    alloc: Global,
     engine: &Engine<'_>,
-    page: &Page<'a, '_, '_>,
+    page: &Page<'a, '_>,
     out: &mut O,
 ) -> Result<(), Failure<'a>>
-    // If a text is held under the name, the output receives what its tree means on the value of the JSON.
+    // If a text is held under the name, the output receives what its tree means on the value.
     ensures means { let texts = ⟦<AnyEngine as EngineTexts>⟧.texts engine.now in
         (held : Stored) (tree : Statements) → texts.texts page.now.name.now ≡ Some held
         → ∥ HasTree held.syntax held.text tree ∥₁
-        → Renders (json_in page.now.json) (set_pairs page.now.set.now) (λ v r.
-        SendsPage page.now.limits texts (Some page.now.name.now) held.text tree v r
+        → Renders (λ r. SendsPage page.now.limits texts (Some page.now.name.now) held.text tree (view page.now.value.now) r
         (O.contents out.old) (O.contents out.new)) result }
     // It never receives more bytes than the limit is, if that is set.
     ensures bounded { StaysWithin page.now.limits.output (O.contents out.old) (O.contents out.new) }
@@ -124,7 +100,7 @@ pub fn send<'a, O: io::Write>(
     ensures absent { let texts = ⟦<AnyEngine as EngineTexts>⟧.texts engine.now in
         texts.texts page.now.name.now ≡ None → IsErr result }
 {
-    render(alloc, engine, page, out)?;
+    render(engine, page, out)?;
     match out.flush() {
         Ok(()) => Ok(()),
         Err(error) => Err(Failure::Fault(error.into())),
@@ -136,7 +112,7 @@ pub fn show<O: io::Write, E: io::Write>(
     alloc: Global,
     engine: &Engine<'_>,
     library: &Library,
-    page: &Page<'_, '_, '_>,
+    page: &Page<'_, '_>,
     out: &mut O,
     err: &mut E,
 ) -> u8
@@ -152,27 +128,26 @@ pub fn show<O: io::Write, E: io::Write>(
     ensures means { let texts = ⟦<AnyEngine as EngineTexts>⟧.texts engine.now in
         (held : Stored) (tree : Statements) → texts.texts page.now.name.now ≡ Some held
         → ∥ HasTree held.syntax held.text tree ∥₁
-        → result ≡ 0 → Shows (json_in page.now.json) (set_pairs page.now.set.now) (λ v r.
-        SendsPage page.now.limits texts (Some page.now.name.now) held.text tree v r
-        (O.contents out.old) (O.contents out.new)) }
+        → result ≡ 0 → SendsPage page.now.limits texts (Some page.now.name.now) held.text tree (view page.now.value.now)
+        (Ok tt) (O.contents out.old) (O.contents out.new) }
     // If none is, the status is not 0.
     ensures absent { let texts = ⟦<AnyEngine as EngineTexts>⟧.texts engine.now in
         texts.texts page.now.name.now ≡ None → 1 ≤ result }
 {
-    let failure = match send(alloc, engine, page, out) {
+    let failure = match send(engine, page, out) {
         Ok(()) => return 0,
         Err(failure) => failure,
     };
     let _ = out.flush();
-    explain(alloc, engine, library, &failure, err)
+    explain(alloc, engine, &Known::of_page(library, page), &failure, err)
 }
 
 /// Says why a run failed, and returns its status. Of a file that it reached and that is no template, it says what is
-/// wrong there.
+/// wrong there; of a name that is not there, which names of what is known are near to it.
 pub fn explain<E: io::Write>(
     alloc: Global,
     engine: &Engine<'_>,
-    library: &Library,
+    known: &Known<'_>,
     failure: &Failure<'_>,
     err: &mut E,
 ) -> u8
@@ -181,9 +156,9 @@ pub fn explain<E: io::Write>(
     let Failure::Fault(error) = failure else {
         return report(alloc, failure, err);
     };
-    match library.reached(engine, error) {
+    match known.library.reached(engine, error) {
         Ok(Some((name, refusal))) => report_refusal(alloc, name, refusal, err),
-        Ok(None) => report_fault(alloc, error, err),
+        Ok(None) => report_near(alloc, engine, known, error, err),
         Err(_) => {
             let _ = writeln!(err, "out of memory");
         }

@@ -1,17 +1,15 @@
 // The texts that a run reads: files by their names, standard input, and the files of a folder.
-ghost use Rattle.std.specs.Prelude.{◌≡◌, [], false, option_map, IfErr, IfOk, IsNone, IsSomeAnd, string_bytes};
-ghost use Rattle.upon_tool.specs.Sources.{IsTextAt, IsTextOf, IsUnread, Unread};
-ghost use Rattle.upon_tool.specs.Words.{is_standard};
+ghost use Rattle.std.specs.Prelude.{◌≡◌, [], false, IfErr, IfOk, IsNone, IsSomeAnd, string_bytes};
+ghost use Rattle.upon_tool_data.specs.Sources.{is_standard, IsTextOf};
+ghost use Rattle.upon_tool.specs.Sources.{IsUnread, Unread};
 
 use crate::failure::Failure;
 use std::alloc::AllocError;
 use std::io::{ErrorKind, Read};
 use std::rt::Files;
-use upon_tool_io::files::{ReadFault, joined, read_file, read_text};
+use upon_tool_data::sources::read_source;
+use upon_tool_io::files::{ReadFault, joined, read_file};
 use upon_tool_io::folder::files_of;
-
-/// The name that stands for standard input or output.
-pub(crate) const STANDARD: &str = "-";
 
 /// A file of a folder, by its path there, with what was read of it.
 #[derive(Drop)]
@@ -51,22 +49,6 @@ pub(crate) fn files_in<'a, R: Files + AllocGlobal + Clone + Drop>(
     Ok(files)
 }
 
-/// Returns the text of a file, if one is given.
-pub(crate) fn text_at<'a, R: Files + AllocGlobal, I: Read>(
-    rt: &R,
-    name: Option<&'a str>,
-    input: &mut I,
-) -> Result<Option<String>, Failure<'a>>
-    ensures text { IfOk result
-        (λ text. IsTextAt name.entry (I.remaining input.old) (option_map string_bytes text)) }
-    ensures unread { IfErr result (λ failure. IsSomeAnd name.entry (λ name. IsUnread name failure)) }
-{
-    match name {
-        Some(name) => Ok(Some(text_of(rt, name, input)?)),
-        None => Ok(None),
-    }
-}
-
 /// Returns the text of a file, or of standard input.
 pub(crate) fn text_of<'a, R: Files + AllocGlobal, I: Read>(
     rt: &R,
@@ -79,13 +61,7 @@ pub(crate) fn text_of<'a, R: Files + AllocGlobal, I: Read>(
     ensures kept { is_standard name.entry.now ≡ false → I.remaining input.new ≡ I.remaining input.old }
     ensures unread { IfErr result (IsUnread name.entry) }
 {
-    let alloc = rt.alloc();
-    let read = if name == STANDARD {
-        read_text(alloc, input)
-    } else {
-        read_file(rt, alloc, name)
-    };
-    match read {
+    match read_source(rt, name, input) {
         Ok(text) => Ok(text),
         Err(fault) => Err(failure_of(name, fault)),
     }

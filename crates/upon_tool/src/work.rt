@@ -9,23 +9,31 @@ ghost use Rattle.upon_tool.specs.Rendering.{ShowsPage};
 ghost use Rattle.upon_tool.specs.Sources.{AreTexts};
 ghost use Rattle.upon_tool.specs.Work.{checked_files, to_standard, CarriesOut, ChecksFiles, IsCheck, IsUnreadOf, ListsNames, RefusesWork, Works};
 
+use crate::call_check::CallCheck;
 use crate::check::{check_file, check_text};
 use crate::escaping::Escaping;
 use crate::failure::Failure;
-use crate::library::{Library, Refusal};
+use crate::known::Known;
+use crate::library::{Callables, Library, Refusal};
+use crate::many::{show_build, show_each};
 use crate::names;
 use crate::rendering::{Page, explain, send, show};
-use crate::sources::{FolderFile, STANDARD, text_of};
+use crate::sources::{FolderFile, text_of};
 use std::alloc::{AllocError, Global};
 use std::borrow::CowStr;
 use std::io::{BufWriter, Read, Write};
 use std::rt::Files;
-use upon::{AnyEngine, Engine, EngineTexts, theorem};
+use std::time::Clock;
+use upon::{AnyEngine, Engine, EngineTexts, Value, theorem};
 use upon_engine::laws_of_templates;
 use upon_html::formatters::Verbatim;
 use upon_std::table::StandardFunction;
+use upon_tool_calls::judge::Declared;
+use upon_tool_data::sources::STANDARD;
 use upon_tool_io::arguments::Escape;
 use upon_tool_io::output::{Replacement, WriteFault};
+use upon_tool_many::build::Build;
+use upon_tool_many::each::Each;
 
 /// What an engine is to hold.
 #[derive(Drop)]
@@ -37,22 +45,32 @@ pub(crate) struct Templates<'a> {
     /// The language that values are escaped for, if they are.
     pub(crate) escape: Option<Escape>,
     /// The functions that templates may call.
-    pub(crate) functions: &'a [StandardFunction],
+    pub(crate) functions: &'static [StandardFunction],
 }
 
 /// What is done with it.
-#[derive(Clone, Copy)]
+#[derive(Drop)]
 pub(crate) enum Work<'w, 'a> {
     /// A page is rendered, to a file if one is given.
-    Render(&'w Page<'a, 'w, 'w>, Option<&'a str>),
-    /// Files are checked, and those of the folder.
-    Check(&'w [&'a str]),
+    Render(&'w Page<'a, 'w>, Option<&'a str>),
+    /// Files are checked, and those of the folder, which may call these.
+    Check(&'w [&'a str], Declared<'w>),
     /// It is listed what the template of a name needs, as JSON if that is asked for.
     Names(&'a str, bool),
+    /// A page is rendered for each item of a list of a value, and a user may wait for that at a terminal.
+    Each(Value, &'w Each<'a>, bool),
+    /// A folder is built into another, on a value; likewise.
+    Build(&'w Value, &'w Build<'a>, bool),
 }
 
 /// Puts templates into an engine, does a piece of work with it, and returns the status.
-pub(crate) fn carry_out<'a, R: Files + AllocGlobal + Clone + Drop, I: Read, O: Write, E: Write>(
+pub(crate) fn carry_out<
+    'a,
+    R: Files + Clock + AllocGlobal + Clone + Drop,
+    I: Read,
+    O: Write,
+    E: Write,
+>(
     rt: &R,
     templates: Templates<'a>,
     work: Work<'_, 'a>,
@@ -88,7 +106,11 @@ pub(crate) fn carry_out<'a, R: Files + AllocGlobal + Clone + Drop, I: Read, O: W
         let boxed = Box::new(alloc, *function)?;
         engine.add_function(CowStr::Borrowed(function.name()), boxed)?;
     }
-    let mut library = Library::new(alloc);
+    let callables = Callables {
+        functions,
+        has_verbatim: escape.is_some(),
+    };
+    let mut library = Library::new(alloc, callables);
     for file in files {
         let FolderFile { name, read } = file;
         let key = CowStr::Borrowed(name.as_str());
@@ -106,7 +128,7 @@ pub(crate) fn carry_out<'a, R: Files + AllocGlobal + Clone + Drop, I: Read, O: W
 }
 
 // Does a piece of work with an engine, and answers the status.
-fn do_work<'a, R: Files + AllocGlobal + Clone + Drop, I: Read, O: Write, E: Write>(
+fn do_work<'a, R: Files + Clock + AllocGlobal + Clone + Drop, I: Read, O: Write, E: Write>(
     rt: &R,
     engine: &Engine<'_>,
     library: &Library,
@@ -130,8 +152,16 @@ fn do_work<'a, R: Files + AllocGlobal + Clone + Drop, I: Read, O: Write, E: Writ
 {
     match work {
         Work::Render(page, path) => Ok(run_page(rt, engine, library, page, path, out, err)),
-        Work::Check(names) => check_all(rt, engine, library, names, input, err),
+        Work::Check(names, callables) => {
+            check_all(rt, engine, library, names, callables, input, err)
+        }
         Work::Names(name, json) => Ok(list(rt, engine, library, name, json, out, err)),
+        Work::Each(value, asked, is_terminal) => {
+            Ok(show_each(rt, engine, library, value, asked, is_terminal, err))
+        }
+        Work::Build(value, asked, is_terminal) => {
+            Ok(show_build(rt, engine, library, value, asked, is_terminal, err))
+        }
     }
 }
 
@@ -167,7 +197,7 @@ fn run_page<R: Files + AllocGlobal, O: Write, E: Write>(
     rt: &R,
     engine: &Engine<'_>,
     library: &Library,
-    page: &Page<'_, '_, '_>,
+    page: &Page<'_, '_>,
     path: Option<&str>,
     out: &mut O,
     err: &mut E,
@@ -186,7 +216,7 @@ fn run_page<R: Files + AllocGlobal, O: Write, E: Write>(
     };
     match write_file(rt, engine, page, path) {
         Ok(()) => 0,
-        Err(failure) => explain(alloc, engine, library, &failure, err),
+        Err(failure) => explain(alloc, engine, &Known::of_page(library, page), &failure, err),
     }
 }
 
@@ -204,7 +234,7 @@ fn file_of<'p>(path: Option<&'p str>) -> Option<&'p str>
 fn write_file<'a, R: Files + AllocGlobal>(
     rt: &R,
     engine: &Engine<'_>,
-    page: &Page<'a, '_, '_>,
+    page: &Page<'a, '_>,
     path: &'a str,
 ) -> Result<(), Failure<'a>> {
     let alloc = rt.alloc();
@@ -218,7 +248,7 @@ fn write_file<'a, R: Files + AllocGlobal>(
             return Err(Failure::Unwritable(path, WriteFault::Io(error)));
         }
     };
-    match send(alloc, engine, page, &mut writer) {
+    match send(engine, page, &mut writer) {
         Ok(()) => replacement
             .keep(rt, writer.get_ref())
             .map_err(|error| Failure::Unwritable(path, WriteFault::Io(error))),
@@ -235,6 +265,7 @@ fn check_all<'a, R: Files + AllocGlobal + Clone + Drop, I: Read, E: Write>(
     engine: &Engine<'_>,
     library: &Library,
     names: &[&'a str],
+    callables: Declared<'_>,
     input: &mut I,
     err: &mut E,
 ) -> Result<u8, Failure<'a>>
@@ -251,16 +282,23 @@ fn check_all<'a, R: Files + AllocGlobal + Clone + Drop, I: Read, E: Write>(
     theorem::one_table(engine);
     laws_of_templates::templates_are_the_table(engine);
     let alloc = rt.alloc();
-    let is_right = check_each(rt, engine, names, input, err)?;
-    let is_whole = check_folder(alloc, engine, library, err)?;
-    Ok(if is_right && is_whole { 0 } else { 1 })
+    let mut calls = CallCheck::new(callables);
+    let is_right = check_each(rt, engine, library, names, &mut calls, input, err)?;
+    let is_whole = check_folder(alloc, engine, library, &mut calls, err)?;
+    Ok(if is_right && is_whole {
+        calls.status()
+    } else {
+        1
+    })
 }
 
 // Whether nothing is wrong with files.
 fn check_each<'a, R: Files + AllocGlobal, I: Read, E: Write>(
     rt: &R,
     engine: &Engine<'_>,
+    library: &Library,
     names: &[&'a str],
+    calls: &mut CallCheck<'_>,
     input: &mut I,
     err: &mut E,
 ) -> Result<bool, Failure<'a>>
@@ -273,7 +311,8 @@ fn check_each<'a, R: Files + AllocGlobal, I: Read, E: Write>(
     let mut is_right = true;
     for name in names {
         let source = text_of(rt, name, input)?;
-        is_right &= check_text(alloc, engine, name, CowStr::Owned(source), err)?;
+        let source = CowStr::Owned(source);
+        is_right &= check_text(alloc, engine, library, name, source, calls, err)?;
     }
     Ok(is_right)
 }
@@ -283,6 +322,7 @@ fn check_folder<E: Write>(
     alloc: Global,
     engine: &Engine<'_>,
     library: &Library,
+    calls: &mut CallCheck<'_>,
     err: &mut E,
 ) -> Result<bool, AllocError>
     ensures { let table = engine_templates engine.now in
@@ -293,7 +333,7 @@ fn check_folder<E: Write>(
     let names = library.names();
     let mut is_right = true;
     for name in names {
-        is_right &= check_file(alloc, engine, library, name.as_str(), err)?;
+        is_right &= check_file(alloc, engine, library, name.as_str(), calls, err)?;
     }
     Ok(is_right)
 }

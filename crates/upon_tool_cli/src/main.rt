@@ -1,7 +1,7 @@
-// upon-tool: renders templates on JSON, and checks them.
+// upon-tool: renders templates on data, and checks them.
 #![tactic(auto)]
 
-use std::io::{BufWriter, Write};
+use std::io::{BufWriter, IsTerminal, Write};
 use std::process::ExitCode;
 use std::{env, io};
 use upon_tool::program::run;
@@ -35,5 +35,13 @@ fn main(rt: HostRuntime) -> ExitCode {
         return ExitCode::FAILURE;
     };
     let mut input = rt.stdin();
-    ExitCode::from(run(&rt, words.as_slice(), &mut input, &mut out, &mut err))
+    let is_terminal = err.is_terminal();
+    ExitCode::from(run(
+        &rt,
+        words.as_slice(),
+        &mut input,
+        &mut out,
+        &mut err,
+        is_terminal,
+    ))
 }

@@ -1,5 +1,5 @@
 -- Files that are added one after the other.
-use Rattle.std.proofs.Common.{◌≡◌, ◌<◌, ◌+◌, ℕ, List, [], ◌∷◌, ◌++◌, take, drop, length, get_or, false, Bor, Option, None, Some, Result, Ok, Err, IfErr, IsErrAnd, refl, sym, ap, subst, inl, inr, ◌∙◌}
+use Rattle.std.proofs.Common.{◌≡◌, ◌<◌, ◌+◌, ℕ, List, [], ◌∷◌, ◌++◌, take, drop, length, get_or, Bor, Option, Some, Result, Ok, Err, IfErr, IsErrAnd, refl, sym, ap, subst, inl, inr, ◌∙◌}
 use Rattle.std.proofs.lemmas.List.{at_drop_more, take-append-drop, take_more}
 use Rattle.upon_types.specs.Val.{Val, Entries}
 use Rattle.upon_data.specs.declared.format.Format.{Format}

@@ -1,5 +1,5 @@
 -- Words that are cut at their first `=`, and standard input among their files.
-use Rattle.std.proofs.Common.{◌≡◌, ◌≢◌, ◌<◌, ◌≤◌, ◌+◌, ◌||◌, ◌&&◌, ℕ, List, [], ◌∷◌, ◌++◌, length, drop, get_or, Bool, true, false, ◌==◌, Bor, Option, None, Some, MatchOption, IfSome, IsNone, IsSome, is_some, refl, sym, ap, ◌∙◌}
+use Rattle.std.proofs.Common.{◌≡◌, ◌≢◌, ◌<◌, ◌≤◌, ◌+◌, ◌||◌, ◌&&◌, ℕ, List, ◌∷◌, ◌++◌, length, drop, get_or, Bool, true, false, ◌==◌, Bor, Option, None, Some, MatchOption, IfSome, IsNone, IsSome, is_some, refl, sym, ap, ◌∙◌}
 use Rattle.std.proofs.lemmas.Bool.{ne_eqb}
 use Rattle.std.proofs.lemmas.List.{at_drop_all, at_drop_more}
 use Rattle.std.proofs.lemmas.List.Elements.{All-from_get_or}

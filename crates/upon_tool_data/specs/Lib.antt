@@ -1,5 +1,6 @@
 pub mod Sources
 pub mod Words
+pub mod Environment
 pub mod Files
 pub mod Settings
 pub mod Context

@@ -3,6 +3,7 @@
 #![tactic(auto)]
 
 pub mod context;
+mod environment;
 pub mod fault;
 mod files;
 mod settings;

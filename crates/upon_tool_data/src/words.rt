@@ -10,6 +10,8 @@ use upon_data::format::Format;
 /// What a call says of its data.
 #[derive(Clone, Copy)]
 pub struct DataWords<'a, 'w> {
+    /// Whether the variables of the environment are data, a map at the key `env`.
+    pub env: bool,
     /// The words of `--data`, each `FILE` or `KEY=FILE`; the file `-` is standard input.
     pub files: &'w [&'a str],
     /// The name of the format that each file has; without one the file's name says it, or it is JSON.

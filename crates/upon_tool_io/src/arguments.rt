@@ -12,6 +12,10 @@ pub enum Call<'a> {
     Check(CheckCall<'a>),
     /// To list what a template needs.
     Names(NamesCall<'a>),
+    /// To render a template once for each item of a list.
+    Each(EachCall<'a>),
+    /// To build a folder into another.
+    Build(BuildCall<'a>),
 }
 
 /// A rendering that is asked for.
@@ -19,8 +23,14 @@ pub enum Call<'a> {
 pub struct RenderCall<'a> {
     /// The template's file; `-` is standard input.
     pub file: &'a str,
-    /// The file of the context; `-` is standard input.
-    pub data: Option<&'a str>,
+    /// Whether the variables of the environment are data, a map at the key `env`.
+    pub env: bool,
+    /// The words of `--data`, each `FILE` or `KEY=FILE`; the file `-` is standard input.
+    pub data: Vec<&'a str>,
+    /// The name of the format that each file of the data has, if it is given.
+    pub format: Option<&'a str>,
+    /// The words of `--set-json`.
+    pub set_json: Vec<&'a str>,
     /// The words of `--set`.
     pub set: Vec<&'a str>,
     /// The folder of the templates that can be included.
@@ -39,6 +49,8 @@ pub struct RenderCall<'a> {
     pub max_output: Option<usize>,
     /// The most bytes of values that it makes; none is no limit.
     pub max_memory: Option<usize>,
+    /// When pictures of errors have colors.
+    pub color: Color,
 }
 
 /// A language that values are escaped for.
@@ -63,6 +75,14 @@ pub struct CheckCall<'a> {
     pub templates: Option<&'a str>,
     /// Whether links out of the folder are followed.
     pub follow: bool,
+    /// The language that values are escaped for, if they are: then there is the formatter `verbatim`.
+    pub escape: Option<Escape>,
+    /// Whether templates may call the standard functions.
+    pub standard: bool,
+    /// The names of other functions and formatters that templates may call.
+    pub functions: Vec<&'a str>,
+    /// When pictures of errors have colors.
+    pub color: Color,
 }
 
 /// A list that is asked for, of what a template needs.
@@ -76,6 +96,60 @@ pub struct NamesCall<'a> {
     pub follow: bool,
     /// Whether the list is JSON.
     pub json: bool,
+    /// When pictures of errors have colors.
+    pub color: Color,
+}
+
+/// When pictures of errors have colors.
+#[derive(Clone, Copy, Debug, PartialEq, Eq, Drop)]
+pub enum Color {
+    /// When they go to a terminal, and the variable `NO_COLOR` of the environment is empty or not there.
+    Auto,
+    /// Always.
+    Always,
+    /// Never.
+    Never,
+}
+
+impl<'a> Call<'a> {
+    /// Returns when pictures of errors have colors.
+    pub fn color(&self) -> Color {
+        match self {
+            Call::Render(call) => call.color,
+            Call::Check(call) => call.color,
+            Call::Names(call) => call.color,
+            Call::Each(call) => call.render.color,
+            Call::Build(call) => call.render.color,
+        }
+    }
+}
+
+/// A rendering that is asked for once for each item of a list.
+#[derive(Drop)]
+pub struct EachCall<'a> {
+    /// What is rendered, on which context.
+    pub render: RenderCall<'a>,
+    /// The key of the list in the context.
+    pub key: &'a str,
+    /// The template of the pages' names.
+    pub name: &'a str,
+    /// The folder of the pages.
+    pub out: &'a str,
+    /// Whether the pages after one that fails are rendered.
+    pub keep_going: bool,
+}
+
+/// A folder that is to be built into another.
+#[derive(Drop)]
+pub struct BuildCall<'a> {
+    /// The folder of the sources, in the place of the file of a template; and the context.
+    pub render: RenderCall<'a>,
+    /// The file of the template that a page's text is put into; `-` is standard input.
+    pub layout: Option<&'a str>,
+    /// The folder of the pages.
+    pub out: &'a str,
+    /// Whether the pages after one that fails are built.
+    pub keep_going: bool,
 }
 
 // The version: that of the language, and after the `+` that of this engine.
@@ -83,7 +157,16 @@ const VERSION: &str = "0.11.0+1";
 
 const FILE: &str = "FILE";
 
+const ENV: &str = "env";
+
 const DATA: &str = "data";
+
+const FORMAT: &str = "format";
+
+// The names of formats.
+const FORMATS: [&str; 4] = ["json", "jsonl", "csv", "toml"];
+
+const SET_JSON: &str = "set-json";
 
 const SET: &str = "set";
 
@@ -100,6 +183,8 @@ const LANGUAGES: [&str; 4] = ["html", "json", "shell", "yaml"];
 
 const STD: &str = "std";
 
+const FUNCTION: &str = "function";
+
 const OUT: &str = "out";
 
 const MAX_STEPS: &str = "max-steps";
@@ -108,9 +193,26 @@ const MAX_OUTPUT: &str = "max-output";
 
 const MAX_MEMORY: &str = "max-memory";
 
+const COLOR: &str = "color";
+
+// When there are colors.
+const COLORS: [&str; 3] = ["auto", "always", "never"];
+
 const JSON: &str = "json";
 
+const EACH: &str = "each";
+
+const NAME: &str = "name";
+
+const KEEP_GOING: &str = "keep-going";
+
+const LAYOUT: &str = "layout";
+
+const SOURCE: &str = "SRC";
+
 const RENDER: &str = "render";
+
+const BUILD: &str = "build";
 
 const CHECK: &str = "check";
 
@@ -144,7 +246,11 @@ fn read_by<'a>(
 // What the matches ask for, if they have a command.
 fn asked_for<'a>(alloc: Global, matches: &ArgMatches<'a>) -> Result<Option<Call<'a>>, AllocError> {
     match matches.subcommand() {
-        Some((RENDER, found)) => Ok(Some(Call::Render(render_call(alloc, found)?))),
+        Some((RENDER, found)) => match found.get_str(EACH) {
+            Some(key) => Ok(Some(Call::Each(each_call(alloc, found, key)?))),
+            None => Ok(Some(Call::Render(render_call(alloc, found)?))),
+        },
+        Some((BUILD, found)) => Ok(Some(Call::Build(build_call(alloc, found)?))),
         Some((CHECK, found)) => Ok(Some(Call::Check(check_call(alloc, found)?))),
         Some((NAMES, found)) => Ok(Some(Call::Names(names_call(found)))),
         _ => Ok(None),
@@ -155,7 +261,10 @@ fn asked_for<'a>(alloc: Global, matches: &ArgMatches<'a>) -> Result<Option<Call<
 fn render_call<'a>(alloc: Global, matches: &ArgMatches<'a>) -> Result<RenderCall<'a>, AllocError> {
     Ok(RenderCall {
         file: matches.get_str(FILE).unwrap_or_default(),
-        data: matches.get_str(DATA),
+        env: matches.get_flag(ENV),
+        data: words(alloc, matches.get_strs(DATA))?,
+        format: matches.get_str(FORMAT),
+        set_json: words(alloc, matches.get_strs(SET_JSON))?,
         set: words(alloc, matches.get_strs(SET))?,
         templates: matches.get_str(TEMPLATES),
         follow: matches.get_flag(FOLLOW),
@@ -165,6 +274,34 @@ fn render_call<'a>(alloc: Global, matches: &ArgMatches<'a>) -> Result<RenderCall
         max_steps: matches.get_one::<usize>(MAX_STEPS),
         max_output: matches.get_one::<usize>(MAX_OUTPUT),
         max_memory: matches.get_one::<usize>(MAX_MEMORY),
+        color: color_of(matches.get_str(COLOR)),
+    })
+}
+
+// What the matches of a rendering for each item ask for.
+fn each_call<'a>(
+    alloc: Global,
+    matches: &ArgMatches<'a>,
+    key: &'a str,
+) -> Result<EachCall<'a>, AllocError> {
+    Ok(EachCall {
+        render: render_call(alloc, matches)?,
+        key,
+        name: matches.get_str(NAME).unwrap_or_default(),
+        out: matches.get_str(OUT).unwrap_or_default(),
+        keep_going: matches.get_flag(KEEP_GOING),
+    })
+}
+
+// What a build's matches ask for.
+fn build_call<'a>(alloc: Global, matches: &ArgMatches<'a>) -> Result<BuildCall<'a>, AllocError> {
+    let mut render = render_call(alloc, matches)?;
+    render.file = matches.get_str(SOURCE).unwrap_or_default();
+    Ok(BuildCall {
+        render,
+        layout: matches.get_str(LAYOUT),
+        out: matches.get_str(OUT).unwrap_or_default(),
+        keep_going: matches.get_flag(KEEP_GOING),
     })
 }
 
@@ -180,12 +317,25 @@ fn escape_of(name: Option<&str>, html: bool) -> Option<Escape> {
     }
 }
 
+// When there are colors, by a word.
+fn color_of(word: Option<&str>) -> Color {
+    match word {
+        Some("always") => Color::Always,
+        Some("never") => Color::Never,
+        _ => Color::Auto,
+    }
+}
+
 // What a check's matches ask for.
 fn check_call<'a>(alloc: Global, matches: &ArgMatches<'a>) -> Result<CheckCall<'a>, AllocError> {
     Ok(CheckCall {
         files: words(alloc, matches.get_strs(FILE))?,
         templates: matches.get_str(TEMPLATES),
         follow: matches.get_flag(FOLLOW),
+        escape: escape_of(matches.get_str(ESCAPE), matches.get_flag(HTML)),
+        standard: matches.get_flag(STD),
+        functions: words(alloc, matches.get_strs(FUNCTION))?,
+        color: color_of(matches.get_str(COLOR)),
     })
 }
 
@@ -196,6 +346,7 @@ fn names_call<'a>(matches: &ArgMatches<'a>) -> NamesCall<'a> {
         templates: matches.get_str(TEMPLATES),
         follow: matches.get_flag(FOLLOW),
         json: matches.get_flag(JSON),
+        color: color_of(matches.get_str(COLOR)),
     }
 }
 
@@ -211,10 +362,11 @@ fn command<'a>(alloc: Global) -> Result<Command<'a>, AllocError> {
     let command = Command::new(alloc, "upon-tool")
         .bin_name("upon-tool")?
         .version(VERSION)
-        .about("Renders templates, checks them, and lists what they need")
+        .about("Renders templates, builds folders of them, checks them, and lists what they need")
         .subcommand_required(true)
         .disable_help_subcommand(true);
     let command = with_command(command, render_command(alloc))?;
+    let command = with_command(command, build_command(alloc))?;
     let command = with_command(command, check_command(alloc))?;
     with_command(command, names_command(alloc))
 }
@@ -234,27 +386,69 @@ fn with_command<'a>(
 }
 
 fn render_command<'a>(alloc: Global) -> Result<Command<'a>, AllocError> {
-    Command::new(alloc, RENDER)
-        .about("Renders a template on JSON")
-        .arg(file(alloc))?
-        .arg(option(
-            alloc,
-            DATA,
-            "DATA",
-            "The JSON that is the context, an object or a list; - for standard input",
-        ))?
-        .arg(set(alloc))?
+    let command = Command::new(alloc, RENDER)
+        .about("Renders a template on data")
+        .arg(file(alloc))?;
+    let command = with_data(alloc, command)?
         .arg(templates(alloc))?
-        .arg(follow(alloc))?
+        .arg(follow(alloc))?;
+    let command = with_languages(alloc, command)?.arg(option(
+        alloc,
+        OUT,
+        "OUT",
+        "Write to this file, which is replaced if all went well; with --each to this folder",
+    ))?;
+    with_limits(alloc, command)?
+        .arg(each(alloc).requires_arg(NAME)?.requires_arg(OUT)?)?
+        .arg(name(alloc).requires_arg(EACH)?)?
+        .arg(keep_going(alloc).requires_arg(EACH)?)?
+        .arg(colors(alloc))
+}
+
+fn build_command<'a>(alloc: Global) -> Result<Command<'a>, AllocError> {
+    let command = Command::new(alloc, BUILD)
+        .about("Builds a folder: renders its files NAME.upon to NAME, and copies the others")
+        .arg(
+            Arg::new(alloc, SOURCE)
+                .required(true)
+                .help("The folder of the templates and of the other files"),
+        )?;
+    let command = with_data(alloc, command)?
+        .arg(layout(alloc))?
+        .arg(templates(alloc))?
+        .arg(flag(alloc, FOLLOW, "Follow links that lead out of SRC and DIR"))?;
+    let command = with_languages(alloc, command)?.arg(option(
+        alloc,
+        OUT,
+        "DIR",
+        "The folder of the pages, which is made",
+    ).required(true))?;
+    with_limits(alloc, command)?
+        .arg(keep_going(alloc))?
+        .arg(colors(alloc))
+}
+
+// A command with the arguments of a context.
+fn with_data<'a>(alloc: Global, command: Command<'a>) -> Result<Command<'a>, AllocError> {
+    command
+        .arg(env(alloc))?
+        .arg(data(alloc))?
+        .arg(format(alloc))?
+        .arg(set_json(alloc))?
+        .arg(set(alloc))
+}
+
+// A command with the arguments of what values are escaped for, and of functions.
+fn with_languages<'a>(alloc: Global, command: Command<'a>) -> Result<Command<'a>, AllocError> {
+    command
         .arg(html(alloc))?
         .arg(language(alloc))?
-        .arg(standard(alloc))?
-        .arg(option(
-            alloc,
-            OUT,
-            "OUT",
-            "Write to this file, which is replaced if all went well",
-        ))?
+        .arg(standard(alloc))
+}
+
+// A command with the arguments of limits.
+fn with_limits<'a>(alloc: Global, command: Command<'a>) -> Result<Command<'a>, AllocError> {
+    command
         .arg(max_steps(alloc))?
         .arg(max_output(alloc))?
         .arg(max_memory(alloc))
@@ -266,11 +460,16 @@ fn check_command<'a>(alloc: Global) -> Result<Command<'a>, AllocError> {
         .action(ArgAction::Append)
         .required_unless_present(TEMPLATES)?
         .help("The templates, or - for standard input");
-    Command::new(alloc, CHECK)
-        .about("Shows each error of templates, and each include that names none")
+    let command = Command::new(alloc, CHECK)
+        .about(
+            "Shows each error of templates, each include that names none, and each call that fails",
+        )
         .arg(files)?
         .arg(templates(alloc))?
-        .arg(follow(alloc))
+        .arg(follow(alloc))?;
+    with_languages(alloc, command)?
+        .arg(function(alloc))?
+        .arg(colors(alloc))
 }
 
 fn names_command<'a>(alloc: Global) -> Result<Command<'a>, AllocError> {
@@ -281,7 +480,8 @@ fn names_command<'a>(alloc: Global) -> Result<Command<'a>, AllocError> {
         .arg(file(alloc))?
         .arg(templates(alloc))?
         .arg(follow(alloc))?
-        .arg(json(alloc))
+        .arg(json(alloc))?
+        .arg(colors(alloc))
 }
 
 fn file<'a>(alloc: Global) -> Arg<'a> {
@@ -299,12 +499,50 @@ fn templates<'a>(alloc: Global) -> Arg<'a> {
     )
 }
 
+fn env<'a>(alloc: Global) -> Arg<'a> {
+    flag(
+        alloc,
+        ENV,
+        "Set the variables of the environment at the key env, below DATA",
+    )
+}
+
+fn data<'a>(alloc: Global) -> Arg<'a> {
+    option(
+        alloc,
+        DATA,
+        "DATA",
+        "A file of JSON, JSON lines, CSV or TOML for the context, FILE or KEY=FILE; - for standard input",
+    )
+    .action(ArgAction::Append)
+}
+
+fn format<'a>(alloc: Global) -> Arg<'a> {
+    option(
+        alloc,
+        FORMAT,
+        "FORMAT",
+        "The format of all DATA, in place of the one that a file's name says",
+    )
+    .value_parser(FORMATS.as_slice())
+}
+
+fn set_json<'a>(alloc: Global) -> Arg<'a> {
+    option(
+        alloc,
+        SET_JSON,
+        "KEY=JSON",
+        "Set a value of JSON at a key of the context, over DATA; a.b is the member b of a",
+    )
+    .action(ArgAction::Append)
+}
+
 fn set<'a>(alloc: Global) -> Arg<'a> {
     option(
         alloc,
         SET,
         "KEY=TEXT",
-        "Set a text at a key of the context, over DATA",
+        "Set a text so, over DATA and values of JSON",
     )
     .action(ArgAction::Append)
 }
@@ -327,8 +565,28 @@ fn language<'a>(alloc: Global) -> Arg<'a> {
     .value_parser(LANGUAGES.as_slice())
 }
 
+fn colors<'a>(alloc: Global) -> Arg<'a> {
+    option(
+        alloc,
+        COLOR,
+        "WHEN",
+        "Color pictures of errors; auto is on a terminal where NO_COLOR is not set",
+    )
+    .value_parser(COLORS.as_slice())
+}
+
 fn standard<'a>(alloc: Global) -> Arg<'a> {
     flag(alloc, STD, "Let templates call the standard functions")
+}
+
+fn function<'a>(alloc: Global) -> Arg<'a> {
+    option(
+        alloc,
+        FUNCTION,
+        "NAME",
+        "Let templates call a function or formatter of this name, with any arguments",
+    )
+    .action(ArgAction::Append)
 }
 
 fn max_steps<'a>(alloc: Global) -> Arg<'a> {
@@ -355,6 +613,37 @@ fn max_memory<'a>(alloc: Global) -> Arg<'a> {
         MAX_MEMORY,
         "BYTES",
         "Stop a rendering that makes more than this many bytes of values",
+    )
+}
+
+fn each<'a>(alloc: Global) -> Arg<'a> {
+    option(
+        alloc,
+        EACH,
+        "KEY",
+        "Render once for each item of the list at a key, which is item, and its entries are over the context's",
+    )
+}
+
+fn name<'a>(alloc: Global) -> Arg<'a> {
+    option(
+        alloc,
+        NAME,
+        "TEMPLATE",
+        "The name of an item's file in OUT, as {{ id }}.txt",
+    )
+}
+
+fn keep_going<'a>(alloc: Global) -> Arg<'a> {
+    flag(alloc, KEEP_GOING, "Go on after a page that fails")
+}
+
+fn layout<'a>(alloc: Global) -> Arg<'a> {
+    option(
+        alloc,
+        LAYOUT,
+        "FILE",
+        "A template that each page's text is put into, as content",
     )
 }
 

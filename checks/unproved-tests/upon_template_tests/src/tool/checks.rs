@@ -4,8 +4,11 @@ use std::alloc::{AllocError, Global};
 use std::borrow::CowStr;
 use std::test::Fail;
 use upon::Engine;
+use upon_std::table::ALL;
+use upon_tool::call_check::CallCheck;
 use upon_tool::check::{check_file, check_text};
 use upon_tool::library::Library;
+use upon_tool_calls::judge::Declared;
 
 // The places and the files that are said to be wrong, in their order.
 fn places(alloc: Global, said: &str) -> Result<String, AllocError> {
@@ -19,10 +22,26 @@ fn places(alloc: Global, said: &str) -> Result<String, AllocError> {
     Ok(places)
 }
 
+/// Returns the standard functions, and no others, as what templates may call.
+pub fn all_known() -> Declared<'static> {
+    Declared {
+        functions: ALL.as_slice(),
+        formatters: [].as_slice(),
+        others: [].as_slice(),
+    }
+}
+
 // What is said of a text, or `right`.
-fn said_of_text(alloc: Global, engine: &Engine<'_>, source: &str) -> Result<String, AllocError> {
+fn said_of_text(
+    alloc: Global,
+    engine: &Engine<'_>,
+    library: &Library,
+    source: &str,
+) -> Result<String, AllocError> {
     let mut err = Vec::new(alloc);
-    if check_text(alloc, engine, "own", CowStr::Borrowed(source), &mut err)? {
+    let mut calls = CallCheck::new(all_known());
+    let source = CowStr::Borrowed(source);
+    if check_text(alloc, engine, library, "own", source, &mut calls, &mut err)? {
         return String::from_str(alloc, "right");
     }
     places(alloc, String::from_utf8_lossy(alloc, err.as_slice())?.as_str())
@@ -36,7 +55,8 @@ fn said_of_file(
     name: &str,
 ) -> Result<String, AllocError> {
     let mut err = Vec::new(alloc);
-    if check_file(alloc, engine, library, name, &mut err)? {
+    let mut calls = CallCheck::new(all_known());
+    if check_file(alloc, engine, library, name, &mut calls, &mut err)? {
         return String::from_str(alloc, "right");
     }
     places(alloc, String::from_utf8_lossy(alloc, err.as_slice())?.as_str())
@@ -47,7 +67,7 @@ fn texts(rt: HostRuntime) -> Result<(), Fail> {
     let alloc = rt.alloc();
     let files: [(&str, &[u8]); 1] = [("a", b"x")];
     let mut engine = Engine::new(alloc);
-    let _library = library(alloc, &mut engine, files.as_slice())?;
+    let library = library(alloc, &mut engine, files.as_slice())?;
     for (source, wanted) in [
         ("{% include \"a\" %}{% include \"own\" %}", "right"),
         (
@@ -64,7 +84,7 @@ fn texts(rt: HostRuntime) -> Result<(), Fail> {
         ),
         ("{{", "  --> own:1:3;"),
     ] {
-        let said = said_of_text(alloc, &engine, source)?;
+        let said = said_of_text(alloc, &engine, &library, source)?;
         assert_eq!(&rt; said.as_str(), wanted, "of {source}");
     }
     Ok(())

@@ -9,6 +9,7 @@ use upon_types::value::Value;
 // The data of standard input alone.
 fn from_input<'a, 'w>(files: &'w [&'a str], format: Option<&'a str>) -> DataWords<'a, 'w> {
     DataWords {
+        env: false,
         files,
         format,
         values: [].as_slice(),
@@ -19,6 +20,7 @@ fn from_input<'a, 'w>(files: &'w [&'a str], format: Option<&'a str>) -> DataWord
 // Values that are set over standard input.
 fn set_over<'a, 'w>(values: &'w [&'a str], texts: &'w [&'a str]) -> DataWords<'a, 'w> {
     DataWords {
+        env: false,
         files: ["-"].as_slice(),
         format: None,
         values,
@@ -74,6 +76,23 @@ fn formats(rt: HostRuntime) -> Result<(), Fail> {
         says(&rt, &from_input(files.as_slice(), format), input, Ok(wanted))?;
     }
     says(&rt, &from_input([].as_slice(), None), "unread", Ok("{}"))
+}
+
+#[test]
+fn environment(rt: HostRuntime) -> Result<(), Fail> {
+    for (input, text, wanted) in [
+        ("{\"env\": {\"a\": 1}}", "b=", "{\"b\": \"\", \"env\": {\"a\": 1}}"),
+        ("{\"env\": [], \"a\": 1}", "env=x", "{\"a\": 1, \"env\": \"x\"}"),
+        ("{\"a\": 1}", "env=", "{\"a\": 1, \"env\": \"\"}"),
+    ] {
+        let texts = [text];
+        let words = DataWords {
+            env: true,
+            ..set_over([].as_slice(), texts.as_slice())
+        };
+        says(&rt, &words, input, Ok(wanted))?;
+    }
+    Ok(())
 }
 
 #[test]
@@ -144,6 +163,7 @@ fn words_that_are_refused(rt: HostRuntime) -> Result<(), Fail> {
     ] {
         let (values, texts) = ([value], [text]);
         let words = DataWords {
+            env: false,
             files: files.as_slice(),
             format: None,
             values: values.as_slice(),

@@ -1,15 +1,21 @@
 // What is said below the pictures of faults to those who write another language's templates.
+use crate::tool::checks::all_known;
+use crate::tool::libraries::library;
 use std::alloc::{AllocError, Global};
 use std::borrow::CowStr;
 use std::test::Fail;
 use upon::Engine;
+use upon_tool::call_check::CallCheck;
 use upon_tool::check::check_text;
 
 // The hint for a text, or nothing.
 fn hint(alloc: Global, source: &str) -> Result<String, AllocError> {
-    let engine = Engine::new(alloc);
+    let mut engine = Engine::new(alloc);
+    let library = library(alloc, &mut engine, [].as_slice())?;
     let mut err = Vec::new(alloc);
-    check_text(alloc, &engine, "page", CowStr::Borrowed(source), &mut err)?;
+    let mut calls = CallCheck::new(all_known());
+    let source = CowStr::Borrowed(source);
+    check_text(alloc, &engine, &library, "page", source, &mut calls, &mut err)?;
     let said = String::from_utf8_lossy(alloc, err.as_slice())?;
     match said.as_str().rsplit_once("\n   = hint: ") {
         Some((_, hint)) => String::from_str(alloc, hint.trim_end()),

@@ -3,7 +3,7 @@ use std::alloc::{AllocError, Global};
 use std::borrow::CowStr;
 use std::io;
 use upon::Engine;
-use upon_tool::library::{Library, Refusal};
+use upon_tool::library::{Callables, Library, Refusal};
 use upon_tool_io::files::read_text;
 
 /// Adds files to an engine, of which each has its name and its bytes; returns their library, with one more file that
@@ -13,7 +13,21 @@ pub fn library(
     engine: &mut Engine<'_>,
     files: &[(&str, &[u8])],
 ) -> Result<Library, AllocError> {
-    let mut library = Library::new(alloc);
+    let none = Callables {
+        functions: [].as_slice(),
+        has_verbatim: false,
+    };
+    library_calling(alloc, engine, none, files)
+}
+
+/// Does the same, with what templates may call.
+pub fn library_calling(
+    alloc: Global,
+    engine: &mut Engine<'_>,
+    callables: Callables,
+    files: &[(&str, &[u8])],
+) -> Result<Library, AllocError> {
+    let mut library = Library::new(alloc, callables);
     for (name, bytes) in files {
         let mut reader = *bytes;
         let refusal = match read_text(alloc, &mut reader) {

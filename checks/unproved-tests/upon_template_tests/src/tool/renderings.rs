@@ -1,36 +1,41 @@
-// What is shown of a template on JSON, and what is said if that fails.
+// What is shown of a template on a value, and what is said if that fails.
 use crate::tool::libraries::library;
 use std::alloc::{AllocError, Global};
 use std::borrow::CowStr;
 use std::test::Fail;
-use upon::{Engine, Limits};
+use upon::{Engine, Limits, Value};
+use upon_data::lines::json;
 use upon_html::formatters::{Escape, Verbatim};
 use upon_tool::library::Library;
 use upon_tool::rendering::{Page, show};
 
 // The status, what went to standard output and what to standard error, as one text.
-fn answer<'a>(
+fn answer(
     alloc: Global,
     engine: &Engine<'_>,
     library: &Library,
-    name: &'a str,
-    json: &str,
-    set: &[(&'a str, &'a str)],
-) -> Result<String, AllocError> {
+    name: &str,
+    text: &str,
+) -> Result<String, Fail> {
+    let value = value(alloc, text)?;
     let page = Page {
         name,
-        json: Some(("data.json", json)),
-        set,
+        value: &value,
         limits: Limits::none(),
     };
-    shown(alloc, engine, library, &page)
+    Ok(shown(alloc, engine, library, &page)?)
+}
+
+// The value of a text of JSON.
+fn value(alloc: Global, text: &str) -> Result<Value, Fail> {
+    json(alloc, text).map_err(|_| Fail::new(format_args!("no JSON: {text}")))
 }
 
 fn shown(
     alloc: Global,
     engine: &Engine<'_>,
     library: &Library,
-    page: &Page<'_, '_, '_>,
+    page: &Page<'_, '_>,
 ) -> Result<String, AllocError> {
     let mut out = Vec::new(alloc);
     let mut err = Vec::new(alloc);
@@ -49,7 +54,7 @@ fn all_answer(
     let mut engine = Engine::new(alloc);
     let library = library(alloc, &mut engine, files)?;
     for (name, json, wanted) in rows {
-        let line = answer(alloc, &engine, &library, name, json, &[])?;
+        let line = answer(alloc, &engine, &library, name, json)?;
         if line.as_str() != *wanted {
             return Err(Fail::new(format_args!("{line:?} in place of {wanted:?}, of {name}")));
         }
@@ -75,25 +80,6 @@ fn renders(rt: HostRuntime) -> Result<(), Fail> {
 }
 
 #[test]
-fn sets_texts(rt: HostRuntime) -> Result<(), Fail> {
-    let alloc = rt.alloc();
-    let mut engine = Engine::new(alloc);
-    let files: [(&str, &[u8]); 1] = [("page", b"{{ a }}{{ b }}")];
-    let library = library(alloc, &mut engine, files.as_slice())?;
-    let set = [("b", "x"), ("b", "<y>")];
-    let line = answer(
-        alloc,
-        &engine,
-        &library,
-        "page",
-        "{\"a\": -2}",
-        set.as_slice(),
-    )?;
-    assert_eq!(&rt; line.as_str(), "0|-2<y>|");
-    Ok(())
-}
-
-#[test]
 fn escapes(rt: HostRuntime) -> Result<(), Fail> {
     let alloc = rt.alloc();
     let mut engine = Engine::new(alloc);
@@ -101,21 +87,9 @@ fn escapes(rt: HostRuntime) -> Result<(), Fail> {
     engine.set_default_formatter(Box::new(alloc, Escape)?);
     let files: [(&str, &[u8]); 1] = [("page", b"<p>{{ a }}</p>{{ a | verbatim }}")];
     let library = library(alloc, &mut engine, files.as_slice())?;
-    let line = answer(alloc, &engine, &library, "page", "{\"a\": \"<b>\"}", &[])?;
+    let line = answer(alloc, &engine, &library, "page", "{\"a\": \"<b>\"}")?;
     assert_eq!(&rt; line.as_str(), "0|<p>&lt;b&gt;</p><b>|");
     Ok(())
-}
-
-#[test]
-fn refuses_contexts(rt: HostRuntime) -> Result<(), Fail> {
-    let files: [(&str, &[u8]); 1] = [("page", b"x")];
-    let wrong = "1||upon-tool: data.json: invalid JSON at line 2 column 2\n";
-    let text = "1||upon-tool: data.json: neither an object nor a list\n";
-    all_answer(
-        rt.alloc(),
-        files.as_slice(),
-        &[("page", "{\"a\":\n 01}", wrong), ("page", "\"a\"", text)],
-    )
 }
 
 #[test]
@@ -151,7 +125,7 @@ fn shows_the_fault_that_is_reached(rt: HostRuntime) -> Result<(), Fail> {
     let mut engine = Engine::new(alloc);
     let files: [(&str, &[u8]); 2] = [("wr\"ng", b"{{"), ("page", b"{% include \"wr\\\"ng\" %}")];
     let library = library(alloc, &mut engine, files.as_slice())?;
-    let line = answer(alloc, &engine, &library, "page", "{}", &[])?;
+    let line = answer(alloc, &engine, &library, "page", "{}")?;
     assert!(&rt;
         line.as_str()
             .starts_with("1||invalid syntax\n\n  --> wr\"ng:1:3\n"),
@@ -165,6 +139,7 @@ fn stops_at_limits(rt: HostRuntime) -> Result<(), Fail> {
     let alloc = rt.alloc();
     let mut engine = Engine::new(alloc);
     let files: [(&str, &[u8]); 1] = [("page", b"ab{{ x }}cd")];
+    let value = value(alloc, "{\"x\": 12}")?;
     let library = library(alloc, &mut engine, files.as_slice())?;
     for (steps, output, wanted) in [
         (None, None, "0|ab12cd|"),
@@ -178,8 +153,7 @@ fn stops_at_limits(rt: HostRuntime) -> Result<(), Fail> {
     ] {
         let page = Page {
             name: "page",
-            json: Some(("data.json", "{\"x\": 12}")),
-            set: &[],
+            value: &value,
             limits: Limits { steps, output, values: None },
         };
         let line = shown(alloc, &engine, &library, &page)?;

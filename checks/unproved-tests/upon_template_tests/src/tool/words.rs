@@ -1,7 +1,9 @@
 // What the words of a call ask for.
 use std::alloc::{AllocError, Global};
 use std::test::Fail;
-use upon_tool_io::arguments::{Call, CheckCall, NamesCall, RenderCall, read};
+use upon_tool_io::arguments::{
+    BuildCall, Call, CheckCall, Color, EachCall, Escape, NamesCall, RenderCall, read,
+};
 
 // The words ask for this, as one text.
 fn asks(alloc: Global, words: &[&str], wanted: &str) -> Result<(), Fail> {
@@ -13,6 +15,8 @@ fn asks(alloc: Global, words: &[&str], wanted: &str) -> Result<(), Fail> {
         Ok(Call::Render(call)) => render_line(alloc, &call)?,
         Ok(Call::Check(call)) => check_line(alloc, &call)?,
         Ok(Call::Names(call)) => names_line(alloc, &call)?,
+        Ok(Call::Each(call)) => each_line(alloc, &call)?,
+        Ok(Call::Build(call)) => build_line(alloc, &call)?,
         Err(error) => format!(in alloc; "{:?}", error.kind())?,
     };
     if line.as_str() == wanted {
@@ -22,10 +26,27 @@ fn asks(alloc: Global, words: &[&str], wanted: &str) -> Result<(), Fail> {
     }
 }
 
+// When there are colors, if that is asked for, after a blank.
+fn color_text(color: Color) -> &'static str {
+    match color {
+        Color::Auto => "",
+        Color::Always => " always",
+        Color::Never => " never",
+    }
+}
+
+// Whether the environment is asked for.
+fn env_text(env: bool) -> &'static str {
+    if env { " env" } else { "" }
+}
+
 fn render_line(alloc: Global, call: &RenderCall<'_>) -> Result<String, AllocError> {
     let RenderCall {
         file,
+        env,
         data,
+        format,
+        set_json,
         set,
         templates,
         follow,
@@ -35,10 +56,13 @@ fn render_line(alloc: Global, call: &RenderCall<'_>) -> Result<String, AllocErro
         max_steps,
         max_output,
         max_memory,
+        color,
     } = call;
     let limits = format!(in alloc; "{max_steps:?} {max_output:?} {max_memory:?}")?;
     let writing = format!(in alloc; "{escape:?} {standard}")?;
-    format!(in alloc; "{file} {data:?} {set:?} {templates:?} {follow} {writing} {out:?} {limits}")
+    let said = format!(in alloc; "{data:?} {format:?} {set_json:?} {set:?}")?;
+    let (env, color) = (env_text(*env), color_text(*color));
+    format!(in alloc; "{file} {said} {templates:?} {follow} {writing} {out:?} {limits}{env}{color}")
 }
 
 fn check_line(alloc: Global, call: &CheckCall<'_>) -> Result<String, AllocError> {
@@ -46,8 +70,27 @@ fn check_line(alloc: Global, call: &CheckCall<'_>) -> Result<String, AllocError>
         files,
         templates,
         follow,
+        escape,
+        standard,
+        functions,
+        color,
     } = call;
-    format!(in alloc; "{files:?} {templates:?} {follow}")
+    let called = called_text(alloc, *escape, *standard, functions.as_slice())?;
+    let color = color_text(*color);
+    format!(in alloc; "{files:?} {templates:?} {follow}{called}{color}")
+}
+
+// What a check says of what templates may call, if it does.
+fn called_text(
+    alloc: Global,
+    escape: Option<Escape>,
+    standard: bool,
+    functions: &[&str],
+) -> Result<String, AllocError> {
+    if escape.is_none() && !standard && functions.is_empty() {
+        return Ok(String::new(alloc));
+    }
+    format!(in alloc; " {escape:?} {standard} {functions:?}")
 }
 
 fn names_line(alloc: Global, call: &NamesCall<'_>) -> Result<String, AllocError> {
@@ -56,14 +99,77 @@ fn names_line(alloc: Global, call: &NamesCall<'_>) -> Result<String, AllocError>
         templates,
         follow,
         json,
+        color,
     } = call;
-    format!(in alloc; "{file} {templates:?} {follow} {json}")
+    let color = color_text(*color);
+    format!(in alloc; "{file} {templates:?} {follow} {json}{color}")
+}
+
+fn each_line(alloc: Global, call: &EachCall<'_>) -> Result<String, AllocError> {
+    let EachCall {
+        render,
+        key,
+        name,
+        out,
+        keep_going,
+    } = call;
+    let file = render.file;
+    let (env, color) = (env_text(render.env), color_text(render.color));
+    format!(in alloc; "{file} {key} {name} {out} {keep_going}{env}{color}")
+}
+
+fn build_line(alloc: Global, call: &BuildCall<'_>) -> Result<String, AllocError> {
+    let BuildCall {
+        render,
+        layout,
+        out,
+        keep_going,
+    } = call;
+    let file = render.file;
+    let follow = render.follow;
+    let (env, color) = (env_text(render.env), color_text(render.color));
+    format!(in alloc; "{file} {layout:?} {out} {keep_going} {follow}{env}{color}")
+}
+
+#[test]
+fn many_pages(rt: HostRuntime) -> Result<(), Fail> {
+    let alloc = rt.alloc();
+    let each = ["t", "render", "a", "--each", "k", "--name", "n", "--out", "o"];
+    asks(alloc, each.as_slice(), "a k n o false")?;
+    let keeps = [
+        "t",
+        "render",
+        "--keep-going",
+        "--name=",
+        "--out=o",
+        "--each=",
+        "a",
+    ];
+    asks(alloc, keeps.as_slice(), "a   o true")?;
+    asks(alloc, &["t", "render", "a", "--each", "k"], "MissingRequiredArgument")?;
+    asks(alloc, &["t", "render", "a", "--name", "n"], "MissingRequiredArgument")?;
+    asks(alloc, &["t", "render", "a", "--keep-going"], "MissingRequiredArgument")?;
+    asks(alloc, &["t", "build", "a", "--out", "o"], "a None o false false")?;
+    let whole = [
+        "t",
+        "build",
+        "--layout",
+        "l",
+        "--out=o",
+        "--keep-going",
+        "--follow",
+        "a",
+    ];
+    asks(alloc, whole.as_slice(), "a Some(\"l\") o true true")?;
+    asks(alloc, &["t", "build", "a"], "MissingRequiredArgument")?;
+    asks(alloc, &["t", "build", "--out", "o"], "MissingRequiredArgument")?;
+    asks(alloc, &["t", "build", "a", "--each", "k"], "UnknownArgument")
 }
 
 #[test]
 fn renderings(rt: HostRuntime) -> Result<(), Fail> {
     let alloc = rt.alloc();
-    asks(alloc, &["t", "render", "a"], "a None [] None false None false None None None None")?;
+    asks(alloc, &["t", "render", "a"], "a [] None [] [] None false None false None None None None")?;
     let words = [
         "t",
         "render",
@@ -80,10 +186,67 @@ fn renderings(rt: HostRuntime) -> Result<(), Fail> {
     asks(
         alloc,
         words.as_slice(),
-        "a Some(\"-\") [\"k=v\", \"k=-w\"] None false Some(Html) false Some(\"o\") None None None",
+        "a [\"-\"] None [] [\"k=v\", \"k=-w\"] None false Some(Html) false Some(\"o\") None None None",
     )?;
     let words = ["t", "render", "--templates", "d", "--follow", "--", "-a"];
-    asks(alloc, words.as_slice(), "-a None [] Some(\"d\") true None false None None None None")
+    asks(alloc, words.as_slice(), "-a [] None [] [] Some(\"d\") true None false None None None None")
+}
+
+#[test]
+fn data(rt: HostRuntime) -> Result<(), Fail> {
+    let alloc = rt.alloc();
+    let ends = "None false None false None None None None";
+    for (words, said) in [
+        (["--data", "b", "--data=k=c"], "[\"b\", \"k=c\"] None [] []"),
+        (["--data=-", "--format", "toml"], "[\"-\"] Some(\"toml\") [] []"),
+        (["--format=csv", "--set", "k=v"], "[] Some(\"csv\") [] [\"k=v\"]"),
+        (["--set-json=k=1", "--set-json", "a.b=[]"], "[] None [\"k=1\", \"a.b=[]\"] []"),
+        (["--set-json=k", "--set", ""], "[] None [\"k\"] [\"\"]"),
+    ] {
+        let [first, second, third] = words;
+        let wanted = format!(in alloc; "a {said} {ends}")?;
+        asks(alloc, &["t", "render", "a", first, second, third], wanted.as_str())?;
+    }
+    for (words, wanted) in [
+        (["--format", "xml"], "InvalidValue"),
+        (["--format", "JSON"], "InvalidValue"),
+        (["--format=csv", "--format=csv"], "ArgumentConflict"),
+        (["--set-json", "--data"], "InvalidValue"),
+    ] {
+        let [first, second] = words;
+        asks(alloc, &["t", "render", "a", first, second], wanted)?;
+        asks(alloc, &["t", "check", "a", first], "UnknownArgument")?;
+    }
+    Ok(())
+}
+
+#[test]
+fn environment_and_colors(rt: HostRuntime) -> Result<(), Fail> {
+    let alloc = rt.alloc();
+    let each = ["t", "render", "a", "--each=k", "--name=n", "--out=o", "--env"];
+    asks(alloc, each.as_slice(), "a k n o false env")?;
+    let built = ["t", "build", "a", "--out=o", "--color=never", "--env"];
+    asks(alloc, built.as_slice(), "a None o false false env never")?;
+    for (word, said) in [
+        ("--color=auto", ""),
+        ("--color=always", " always"),
+        ("--color=never", " never"),
+    ] {
+        let render = format!(in alloc; "a [] None [] [] None false None false None None None None{said}")?;
+        asks(alloc, &["t", "render", "a", word], render.as_str())?;
+        let check = format!(in alloc; "[\"a\"] None false{said}")?;
+        asks(alloc, &["t", "check", word, "a"], check.as_str())?;
+        let names = format!(in alloc; "a None false false{said}")?;
+        asks(alloc, &["t", "names", word, "a"], names.as_str())?;
+    }
+    for command in ["render", "check", "names"] {
+        asks(alloc, &["t", command, "a", "--color=red"], "InvalidValue")?;
+        asks(alloc, &["t", command, "a", "--color"], "InvalidValue")?;
+        asks(alloc, &["t", command, "a", "--color=auto", "--color=auto"], "ArgumentConflict")?;
+    }
+    asks(alloc, &["t", "render", "a", "--env", "--env"], "ArgumentConflict")?;
+    asks(alloc, &["t", "render", "a", "--env=PATH"], "TooManyValues")?;
+    asks(alloc, &["t", "check", "a", "--env"], "UnknownArgument")
 }
 
 #[test]
@@ -97,14 +260,13 @@ fn languages(rt: HostRuntime) -> Result<(), Fail> {
         (["--html", "--std"], "Some(Html) true"),
         (["--escape=json", "--std"], "Some(Json) true"),
     ] {
-        let wanted = format!(in alloc; "a None [] None false {writing} None None None None")?;
+        let wanted = format!(in alloc; "a [] None [] [] None false {writing} None None None None")?;
         let [first, second] = words;
         asks(alloc, &["t", "render", "a", first, second], wanted.as_str())?;
     }
     asks(alloc, &["t", "render", "a", "--escape", "xml"], "InvalidValue")?;
     asks(alloc, &["t", "render", "a", "--escape"], "InvalidValue")?;
     asks(alloc, &["t", "render", "a", "--std", "--std"], "ArgumentConflict")?;
-    asks(alloc, &["t", "check", "a", "--std"], "UnknownArgument")?;
     asks(alloc, &["t", "names", "a", "--escape", "json"], "UnknownArgument")
 }
 
@@ -118,11 +280,11 @@ fn limits(rt: HostRuntime) -> Result<(), Fail> {
         ("--max-steps=18446744073709551615", "Some(18446744073709551615) None None"),
         ("--max-output=18446744073709551615", "None Some(18446744073709551615) None"),
     ] {
-        let wanted = format!(in alloc; "a None [] None false None false None {limits}")?;
+        let wanted = format!(in alloc; "a [] None [] [] None false None false None {limits}")?;
         asks(alloc, &["t", "render", "a", word], wanted.as_str())?;
     }
     let words = ["t", "render", "--max-output", "20", "a", "--max-steps", "007"];
-    asks(alloc, words.as_slice(), "a None [] None false None false None Some(7) Some(20) None")
+    asks(alloc, words.as_slice(), "a [] None [] [] None false None false None Some(7) Some(20) None")
 }
 
 #[test]
@@ -156,7 +318,21 @@ fn checks(rt: HostRuntime) -> Result<(), Fail> {
     let alloc = rt.alloc();
     asks(alloc, &["t", "check", "a", "b"], "[\"a\", \"b\"] None false")?;
     let words = ["t", "check", "--templates", "d", "--follow"];
-    asks(alloc, words.as_slice(), "[] Some(\"d\") true")
+    asks(alloc, words.as_slice(), "[] Some(\"d\") true")?;
+    for (word, wanted) in [
+        ("--std", "[\"a\"] None false None true []"),
+        ("--html", "[\"a\"] None false Some(Html) false []"),
+        ("--escape=yaml", "[\"a\"] None false Some(Yaml) false []"),
+        ("--function=f", "[\"a\"] None false None false [\"f\"]"),
+        ("--escape=xml", "InvalidValue"),
+        ("--function", "InvalidValue"),
+    ] {
+        asks(alloc, &["t", "check", "a", word], wanted)?;
+    }
+    let words = ["t", "check", "--function", "f", "a", "--function=g", "--std"];
+    asks(alloc, words.as_slice(), "[\"a\"] None false None true [\"f\", \"g\"]")?;
+    asks(alloc, &["t", "render", "a", "--function=f"], "UnknownArgument")?;
+    asks(alloc, &["t", "names", "a", "--std"], "UnknownArgument")
 }
 
 #[test]

@@ -1,16 +1,21 @@
-use Rattle.std.proofs.Common.{◌∙◌, ap, option_map, string_bytes, subst}
+use Rattle.std.proofs.Common.{string_bytes, subst}
 use Rattle.std.proofs.lemmas.Result.{IfOk-weaker}
-use Rattle.upon_json.specs.Context.{set_pairs}
+use Rattle.upon_types.specs.View.{view}
 use Rattle.upon_tool.specs.Calls.{limits_asked}
 use Rattle.upon_tool.specs.Filled.{engine_for, standard_functions, TakesFiles}
-use Rattle.upon_tool.specs.Words.{split_words}
-use Rattle.upon_tool.proofs.Calls.{unread_data, unread_parts}
-use Rattle.upon_tool.proofs.Filled.{json_is, page_shown}
+use Rattle.upon_tool.proofs.Calls.{context_read, data_refused, no_context, unread_parts, wrong_words}
+use Rattle.upon_tool.proofs.Filled.{page_shown}
 use Rattle.upon_tool.proofs.program.run_render.Goals as goal
 
-pub returns-in_err-json-clause-refused : goal.returns-in_err-json-clause-refused
-returns-in_err-json-clause-refused g c =
-    unread_data c.args.call.now (g.I.Read.remaining c.args.input.now) c.in_err-json.field-0.0 c.from_residual-in_err-json.result c.from_residual-in_err-json.ensures.1 c.in_err-json.ensures.unread
+pub returns-in_err-check-clause-refused : goal.returns-in_err-check-clause-refused
+returns-in_err-check-clause-refused g c =
+    data_refused c.args.call.now (g.I.Read.remaining c.args.input.now) c.in_err-check.field-0.0 c.from_residual.result c.from_residual.ensures.1
+    (wrong_words c.args.call.now c.data_words-words.result c.data_words-words.ensures _ _ (g.I.Read.remaining c.args.input.now) c.in_err-check.field-0.0 c.eq.ensures c.in_err-check.ensures.refused)
+
+pub returns-in_err-value-clause-refused : goal.returns-in_err-value-clause-refused
+returns-in_err-value-clause-refused g c =
+    data_refused c.args.call.now (g.I.Read.remaining c.args.input.now) c.in_err-value.field-0.0 c.from_residual-in_err-value.result c.from_residual-in_err-value.ensures.1
+    (no_context c.args.call.now c.data_words-words.result c.data_words-words.ensures _ (g.I.Read.remaining c.args.input.now) (g.I.Read.remaining c.text_of.new.input) c.in_err-value.field-0.0 c.text_of.ensures.kept c.in_err-value.ensures.refused)
 
 pub returns-in_err-files-clause-refused : goal.returns-in_err-files-clause-refused
 returns-in_err-files-clause-refused g c =
@@ -20,13 +25,15 @@ pub returns-clause-ends : goal.returns-clause-ends
 returns-clause-ends g c = IfOk-weaker c.carry_out.result _ _ (λ status said. record {
   text = string_bytes c.in_ok-source.source;
   later = g.I.Read.remaining c.text_of.new.input;
-  json = option_map string_bytes c.in_ok-json.json;
+  value = view c.in_ok-value.value;
+  last = g.I.Read.remaining c.context.new.input;
   files = c.in_ok-files.files.items;
   folder = said.1.0;
   read = c.in_ok-source.ensures.text;
   left = c.text_of.ensures.kept;
-  data_read = c.in_ok-json.ensures.text;
+  data_read = context_read c.args.call.now c.data_words-words.result c.data_words-words.ensures (g.I.Read.remaining c.text_of.new.input) (view c.in_ok-value.value) (g.I.Read.remaining c.context.new.input) c.in_ok-value.ensures.read;
   no_folder = c.in_ok-files.ensures.none;
   taken = subst (λ functions. TakesFiles c.in_ok-files.files.items (engine_for c.args.call.now.escape functions) said.1.0) c.standard.ensures said.1.1;
-  shown = λ standard. page_shown c.args.call.now.escape (standard_functions c.args.call.now.standard) c.in_ok-files.files.items said.1.0 said.0 (record { name = c.args.call.now.file; json = c.named.result; set = c.as_slice-2.result; limits = limits_asked c.args.call.now }) (string_bytes c.in_ok-source.source) status _ _ _ _ (subst (λ functions. TakesFiles c.in_ok-files.files.items (engine_for c.args.call.now.escape functions) said.1.0) c.standard.ensures said.1.1) said.1.2 said.2 (said.3 standard) (c.named.ensures ∙ json_is _ _ _ c.in_ok-json.ensures.text) (ap set_pairs c.as_slice-2.ensures.value ∙ c.in_ok-set.ensures.split ∙ ap split_words c.as_slice.ensures.value);
+  shown = λ standard. page_shown c.args.call.now.escape (standard_functions c.args.call.now.standard) c.in_ok-files.files.items said.1.0 said.0 c.args.call.now.file.now (view c.in_ok-value.value) c.limits_of.result (limits_asked c.args.call.now) (string_bytes c.in_ok-source.source) status (g.O.Write.contents c.args.out.now) (g.O.Write.contents c.carry_out.new.out)
+      (subst (λ functions. TakesFiles c.in_ok-files.files.items (engine_for c.args.call.now.escape functions) said.1.0) c.standard.ensures said.1.1) said.1.2 said.2 c.limits_of.ensures (said.3 standard);
 }) c.carry_out.ensures.ends

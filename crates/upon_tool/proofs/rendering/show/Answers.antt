@@ -1,6 +1,5 @@
 use Rattle.std.proofs.Common.{◌≡◌, ◌≤◌, ◌∙◌, Some, Ok, Err, refl, sym, subst}
-use Rattle.upon_json.specs.Context.{set_pairs}
-use Rattle.upon_tool.specs.Rendering.{json_in}
+use Rattle.upon_types.specs.View.{view}
 use Rattle.upon_tool.specs.Status.{status_of}
 use Rattle.upon_tool.proofs.Sent.{renders_kept, stays_kept}
 use Rattle.upon_tool.proofs.Statuses.{least_status, most_status, no_success}
@@ -32,6 +31,6 @@ returns-clause-ends g c = λ held tree there has.
     let page = c.args.page.now in (
       Err c.in-Err.failure,
       c.explain.ensures,
-      renders_kept _ _ c.args.engine.now page.limits (Some page.name.now) held.text tree (json_in page.json) (set_pairs page.set.now) (g.O.Write.contents c.args.out.now) (g.O.Write.contents c.send.new.out) (g.O.Write.contents c.flush.new.self) c.in-Err.failure c.flush.ensures.bytes (c.in-Err.ensures.means held tree there has),
+      renders_kept _ _ c.args.engine.now page.limits (Some page.name.now) held.text tree (view page.value.now) (g.O.Write.contents c.args.out.now) (g.O.Write.contents c.send.new.out) (g.O.Write.contents c.flush.new.self) c.in-Err.failure c.flush.ensures.bytes (c.in-Err.ensures.means held tree there has),
       stays_kept page.limits.output (g.O.Write.contents c.args.out.now) (g.O.Write.contents c.send.new.out) (g.O.Write.contents c.flush.new.self) c.flush.ensures.bytes c.send.ensures.bounded,
     )

@@ -1,4 +1,4 @@
-use Rattle.std.proofs.Common.{◌≡◌, ◌∙◌, refl, sym, ap, inr, string_bytes}
+use Rattle.std.proofs.Common.{◌≡◌, ◌∙◌, IfErr, refl, sym, ap, subst, inr, string_bytes}
 use Rattle.std.proofs.lemmas.List.{nil_from_length}
 use Rattle.std.proofs.lemmas.Result.{IfOk-weaker}
 use Rattle.std.specs.Vec.Iter.{into_iter_items}
@@ -7,8 +7,9 @@ use Rattle.upon_engine.proofs.Boxed.{boxed_reads}
 use Rattle.upon_std.specs.Table.{standard_answer}
 use Rattle.upon_tool.specs.Escaping.{format_for}
 use Rattle.upon_tool.specs.Filled.{engine_for, escaping_engine, with_page, TakesFiles, TakesRead}
-use Rattle.upon_tool.proofs.Calls.{work_refused}
-use Rattle.upon_tool.proofs.Filled.{all_added, file_taken, function_added, if_both, no_page, none_taken, page_put, page_refused, read_passed, read_taken, taken_from, with_escape, without_escape}
+use Rattle.upon_tool.specs.Work.{checked_files, IsUnreadOf}
+use Rattle.upon_tool.proofs.Calls.{work_out_of_memory, work_refused}
+use Rattle.upon_tool.proofs.Filled.{all_added, check_kept, file_taken, function_added, if_both, no_page, none_taken, page_put, page_refused, read_passed, read_taken, taken_from, with_escape, without_escape, work_kept}
 use Rattle.upon_tool.proofs.FolderFiles.{folder_begun, folder_ended, folder_more, files_right, took_text, Took}
 use Rattle.upon_tool.proofs.work.carry_out.OwnLists.{own-1, own-2, at-1-1, at-1-2, at-2-1}
 use Rattle.upon_tool.proofs.work.carry_out.Goals.{in-Some+in_ok-new+in_ok-add_formatter+in_ok-new-2, in_default, in-Ok+in_ok-refusal-in-Ok, in-Err+in_ok-of_read-in-Err, in-Some-page+in_ok-add_template, in_default-page}
@@ -18,10 +19,11 @@ pub loop-function-preserved : goal.loop-function-preserved
 loop-function-preserved g c = (
   c.loop-function.invariant.0,
   function_added c.args.templates.functions.now c.loop-function.function-index _ _ _ _ _ _ _ c.loop-function-test.true c.loop-function.invariant.1 refl c.name.ensures (boxed_reads own-2 at-2-1 _ (λ j v. j.1.answers v) _ _ _ c.into_dyn_box-in-loop-function.ensures.1 ∙ ap standard_answer c.in_ok-boxed.ensures.ok) c.in_ok-add_function.ensures.engine,
+  c.loop-function.invariant.2,
 )
 
 pub loop-file-init : goal.loop-file-init
-loop-file-init g c = (refl, λ e takes. takes, folder_begun c.new-library.result (texts_of (λ f. (own-1.entry f.vtable).1.formats f.value) (λ f. (own-2.entry f.vtable).1.answers f.value) c.loop-function.engine) (into_iter_items c.into_iter-file-iterator.result) c.new-library.ensures.names)
+loop-file-init g c = (refl, λ e takes. takes, folder_begun c.new-library.result (texts_of (λ f. (own-1.entry f.vtable).1.formats f.value) (λ f. (own-2.entry f.vtable).1.answers f.value) c.loop-function.engine) (into_iter_items c.into_iter-file-iterator.result) c.new-library.ensures.names, refl)
 
 pub loop-file-preserved : goal.loop-file-preserved
 loop-file-preserved g c =
@@ -38,7 +40,11 @@ loop-file-preserved g c =
       c.loop-file.invariant.0,
       λ e takes. c.loop-file.invariant.1 e (file_taken c.in-Some-file.file _ _ held next e c.in-Some-file.ensures.steps.0 read takes),
       folder_more _ c.match-read.refusal held next c.loop-file.library c.add.new.self c.in-Some-file.file _ _ (into_iter_items c.into_iter-file-iterator.result) c.as_str-in-loop-file.ensures.value c.in-Some-file.ensures.steps.0 took c.in_ok-add.ensures.names c.in_ok-add.ensures.refused c.loop-file.invariant.2,
+      c.loop-file.invariant.3,
     )
+
+pub returns-in_err-add-clause-refused : goal.returns-in_err-add-clause-refused
+returns-in_err-add-clause-refused g c = work_out_of_memory c.args.templates c.args.work c.from_residual-in_err-add.result c.from_residual-in_err-add.ensures.1
 
 pub returns-in_err-add_template-clause-refused : goal.returns-in_err-add_template-clause-refused
 returns-in_err-add_template-clause-refused g c =
@@ -66,7 +72,10 @@ returns-clause-ends g c =
       | in_default-page w ↦ no_page c.args.templates.page folder whole (sym c.loop-function.invariant.0 ∙ sym c.loop-file.invariant.0 ∙ w.in_default-page.is) (ap (λ x. texts_of (λ f. (own-1.entry f.vtable).1.formats f.value) (λ f. (own-2.entry f.vtable).1.answers f.value) x) w.engine-is)
     ] in
     let so_far = folder_ended c.loop-file.library folder _ _ c.args.templates.files.items (nil_from_length (into_iter_items c.loop-file.file-iterator) (sym c.loop-file.file-iterator.rest.ok.0 ∙ c.in-None.ensures.steps.0)) c.into_iter-file-iterator.ensures.into_iter_gives.0 c.loop-file.invariant.2 in
-    IfOk-weaker c.do_work.result _ _ (λ status said. (whole, (folder, filled, put), c.held_has_tree.ensures, said.0, λ check zero. files_right c.loop-file.library folder whole c.args.templates.page c.args.templates.files.items put so_far (said.1 check zero))) (if_both _ _ c.do_work.result c.do_work.ensures.ends c.do_work.ensures.folder)
+    let same = c.loop-file.invariant.3 ∙ c.loop-function.invariant.2 in
+    IfOk-weaker c.do_work.result _ _ (λ status said. (whole, (folder, filled, put), c.held_has_tree.ensures, work_kept c.args.work _ whole (g.I.Read.remaining c.args.input.now) status (g.O.Write.contents c.args.out.now) (g.O.Write.contents c.do_work.new.out) same said.0, λ check zero. files_right c.loop-file.library folder whole c.args.templates.page c.args.templates.files.items put so_far (said.1 (check_kept c.args.work _ same check) zero))) (if_both _ _ c.do_work.result c.do_work.ensures.ends c.do_work.ensures.folder)
 
 pub returns-clause-refused : goal.returns-clause-refused
-returns-clause-refused g c = work_refused c.args.templates c.args.work c.do_work.result c.do_work.ensures.refused
+returns-clause-refused g c =
+    let same = c.loop-file.invariant.3 ∙ c.loop-function.invariant.2 in
+    work_refused c.args.templates c.args.work c.do_work.result (subst (λ work. IfErr c.do_work.result (IsUnreadOf (checked_files work))) same c.do_work.ensures.refused)

@@ -11,6 +11,7 @@ abbrev pub invariant-loop-function : goal.invariant-loop-function
 invariant-loop-function g l =
     (l.page ≡ l.initial.page)
     × (texts_of (λ f. (own-1.entry f.vtable).1.formats f.value) (λ f. (own-2.entry f.vtable).1.answers f.value) l.engine ≡ with_functions (take l.function-index l.functions) (texts_of (λ f. (own-1.entry f.vtable).1.formats f.value) (λ f. (own-2.entry f.vtable).1.answers f.value) l.initial.engine))
+    × (l.work ≡ l.initial.work)
 
 -- what is left of the files is taken by what the engine holds so far; the library has the names of those that were taken,
 -- and each without a reason is held
@@ -19,3 +20,4 @@ invariant-loop-file g l =
     (l.page ≡ l.initial.page)
     × ((e : Texts) → TakesFiles (into_iter_items l.file-iterator) (texts_of (λ f. (own-1.entry f.vtable).1.formats f.value) (λ f. (own-2.entry f.vtable).1.answers f.value) l.engine) e → TakesFiles (into_iter_items l.initial.file-iterator) (texts_of (λ f. (own-1.entry f.vtable).1.formats f.value) (λ f. (own-2.entry f.vtable).1.answers f.value) l.initial.engine) e)
     × FolderSoFar l.library (texts_of (λ f. (own-1.entry f.vtable).1.formats f.value) (λ f. (own-2.entry f.vtable).1.answers f.value) l.engine) (into_iter_items l.file-iterator) (into_iter_items l.initial.file-iterator)
+    × (l.work ≡ l.initial.work)

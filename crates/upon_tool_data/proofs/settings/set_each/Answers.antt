@@ -1,4 +1,3 @@
-use Rattle.std.proofs.Common.{refl}
 use Rattle.upon_data.specs.Parts.{data_entries}
 use Rattle.upon_tool_data.specs.Settings.{RefusesSettings}
 use Rattle.upon_tool_data.proofs.FileSteps.{handed_on}

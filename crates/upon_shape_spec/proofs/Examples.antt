@@ -1,0 +1,4 @@
+pub mod Shapes
+pub mod Templates
+pub mod Includes
+pub mod Doubts

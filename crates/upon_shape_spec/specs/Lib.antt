@@ -1,0 +1,13 @@
+pub mod Shape
+pub mod Fits
+pub mod Join
+pub mod Wider
+pub mod Found
+pub mod Paths
+pub mod Scope
+pub mod Declared
+pub mod ExpressionShapes
+pub mod Narrowed
+pub mod Ends
+pub mod Accepted
+pub mod Doubts

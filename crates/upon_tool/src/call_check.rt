@@ -1,0 +1,146 @@
+// Calls in templates that fail on any values: of functions that there are not, and with another number of arguments than a
+// function expects.
+ghost use Rattle.std.specs.Prelude.{◌≡◌, ◌≤◌, true};
+ghost use Rattle.upon_types.specs.Span.{LiesIn};
+
+use crate::failure::report_hinted;
+use std::alloc::{AllocError, Global};
+use std::io;
+use upon::Error;
+use upon::error::ErrorKind;
+use upon::types::Span;
+use upon_tool_calls::calls::{FoundCall, calls_in};
+use upon_tool_calls::judge::{CallFault, Declared, fault_of};
+use upon_tool_near::said::{names_text, near_text};
+
+// How many calls of a text are shown by their pictures, for each of which the text is walked from its begin.
+const PICTURES: usize = 100;
+
+/// What templates may call, and whether a call failed so far.
+#[derive(Clone, Copy)]
+pub struct CallCheck<'k> {
+    callables: Declared<'k>,
+    is_right: bool,
+}
+
+impl<'k> CallCheck<'k> {
+    /// Creates one that has seen no call.
+    pub fn new(callables: Declared<'k>) -> CallCheck<'k> {
+        CallCheck {
+            callables,
+            is_right: true,
+        }
+    }
+
+    /// Returns whether no call fails of those that it has seen.
+    pub fn is_right(&self) -> bool {
+        self.is_right
+    }
+
+    /// Returns the status of a check in which nothing else is wrong.
+    pub(crate) fn status(&self) -> u8
+        ensures { result ≤ 1 }
+    {
+        if self.is_right { 0 } else { 1 }
+    }
+
+    /// Says which calls fail in the text of a template, the first hundred with their pictures. It fails if there is no
+    /// memory.
+    pub fn check<E: io::Write>(
+        &mut self,
+        alloc: Global,
+        name: &str,
+        source: &str,
+        err: &mut E,
+    ) -> Result<(), AllocError> {
+        let Ok(calls) = calls_in(alloc, source) else {
+            return Err(AllocError);
+        };
+        let mut shown = 0usize;
+        for call in calls {
+            if self.check_call(alloc, name, source, call, shown < PICTURES, err)? {
+                shown = shown.saturating_add(1);
+            }
+        }
+        self.is_right &= shown == 0;
+        Ok(())
+    }
+
+    // Says what is wrong with a call, and answers whether something is.
+    fn check_call<E: io::Write>(
+        &self,
+        alloc: Global,
+        name: &str,
+        source: &str,
+        call: FoundCall,
+        is_pictured: bool,
+        err: &mut E,
+    ) -> Result<bool, AllocError> {
+        let called = source.get(call.name.m..call.name.n).unwrap_or_default();
+        let Some(fault) = fault_of(alloc, &self.callables, called, call.arguments)? else {
+            return Ok(false);
+        };
+        let reason = reason_of(alloc, fault, call.arguments)?;
+        if is_pictured && lies_in(source, call.name) {
+            let at = Some((source, call.name));
+            let error = Error::from_parts(alloc, ErrorKind::Render, Some(reason.as_str()), at);
+            let hint = self.hint(alloc, called, fault)?;
+            let hint = hint.as_ref().map(|hint| hint.as_str());
+            report_hinted(alloc, &error.with_name(alloc, name), hint, err);
+        } else {
+            let _ = writeln!(err, "upon-tool: {name}: {called}: {reason}");
+        }
+        Ok(true)
+    }
+
+    // Which names there are near to one that nothing has, and if none is, which there are.
+    fn hint(
+        &self,
+        alloc: Global,
+        called: &str,
+        fault: CallFault,
+    ) -> Result<Option<String>, AllocError> {
+        if fault != CallFault::Unknown {
+            return Ok(None);
+        }
+        let names = self.names(alloc)?;
+        match near_text(alloc, called, names.as_slice())? {
+            Some(text) => Ok(Some(text)),
+            None => names_text(alloc, names.as_slice()),
+        }
+    }
+
+    // The names of all that templates may call.
+    fn names(&self, alloc: Global) -> Result<Vec<&'k str>, AllocError> {
+        let mut names = Vec::from_slice(alloc, self.callables.others)?;
+        names.extend_from_slice(self.callables.formatters)?;
+        for function in self.callables.functions {
+            names.push(function.name())?;
+        }
+        Ok(names)
+    }
+}
+
+// Whether a span lies in a text, and both its ends are between characters.
+fn lies_in(source: &str, span: Span) -> bool
+    ensures { result ≡ true → LiesIn source.now span }
+{
+    span.m <= span.n && source.is_char_boundary(span.m) && source.is_char_boundary(span.n)
+}
+
+// What an error says of a call that has so many arguments.
+fn reason_of(alloc: Global, fault: CallFault, given: usize) -> Result<String, AllocError> {
+    let reason = match fault {
+        CallFault::Unknown => return String::from_str(alloc, "unknown function"),
+        CallFault::Arguments(expected) => {
+            format!(in alloc; "function expects {expected} arguments, {given} provided")
+        }
+        CallFault::FormatterArguments => {
+            format!(in alloc; "formatter expects 1 argument, {given} provided")
+        }
+    };
+    match reason {
+        Ok(reason) => Ok(reason),
+        Err(_) => Err(AllocError),
+    }
+}

@@ -1,0 +1,230 @@
+// Hints below the pictures of errors that say that a name is not there: which names there are that are near to it.
+use crate::failure::{is_memory, report_hinted};
+use crate::hints::{Marked, mark_in};
+use crate::includes::included;
+use crate::known::Known;
+use crate::library::Library;
+use std::alloc::{AllocError, Global};
+use std::io::Write;
+use upon::{Engine, Error, Value};
+use upon_tool_near::said::{names_text, near_text};
+use upon_types::value::look::entry;
+
+/// Says what an error is, with its picture, and which names there are in place of one that is not there.
+pub(crate) fn report_near<E: Write>(
+    alloc: Global,
+    engine: &Engine<'_>,
+    known: &Known<'_>,
+    error: &Error,
+    err: &mut E,
+) {
+    say(alloc, error, near_hint(alloc, engine, known, error), err);
+}
+
+/// Says what the error of an include of this quoted name is, with its picture, and which files have a name near to it.
+pub(crate) fn report_include<E: Write>(
+    alloc: Global,
+    library: &Library,
+    quoted: &str,
+    error: &Error,
+    err: &mut E,
+) {
+    say(alloc, error, of_file(alloc, library, quoted), err);
+}
+
+// Says what an error is, with a hint.
+fn say<E: Write>(
+    alloc: Global,
+    error: &Error,
+    hint: Result<Option<String>, AllocError>,
+    err: &mut E,
+) {
+    match hint {
+        Ok(Some(hint)) => report_hinted(alloc, error, Some(hint.as_str()), err),
+        Ok(None) => report_hinted(alloc, error, None, err),
+        Err(_) => {
+            let _ = writeln!(err, "out of memory");
+        }
+    }
+}
+
+// The reasons for which names are looked up.
+const NO_VARIABLE: &str = "not found in this scope";
+
+const NO_MEMBER: &str = "not found in map";
+
+const NO_FUNCTION: &str = "unknown function";
+
+const NO_CALLABLE: &str = "unknown formatter or function";
+
+const NO_TEMPLATE: &str = "unknown template";
+
+// Whether an error of this reason says that a name is not there.
+fn is_of_name(reason: &str) -> bool {
+    matches!(
+        reason,
+        NO_VARIABLE | NO_MEMBER | NO_FUNCTION | NO_CALLABLE | NO_TEMPLATE
+    )
+}
+
+// Which names there are in place of the one that an error marks, if some are near.
+fn near_hint(
+    alloc: Global,
+    engine: &Engine<'_>,
+    known: &Known<'_>,
+    error: &Error,
+) -> Result<Option<String>, AllocError> {
+    let reason = error.reason().unwrap_or_default();
+    if !is_of_name(reason) {
+        return Ok(None);
+    }
+    let picture = error.pretty(alloc)?;
+    let Some(marked) = mark_in(picture.as_str()) else {
+        return Ok(None);
+    };
+    match reason {
+        NO_VARIABLE => of_variable(alloc, engine, known, error, marked.text),
+        NO_MEMBER => of_member(alloc, engine, known, error, marked),
+        NO_FUNCTION => of_callable(alloc, known.library, marked.text, false),
+        NO_CALLABLE => of_callable(alloc, known.library, marked.text, true),
+        NO_TEMPLATE => of_file(alloc, known.library, marked.text),
+        _ => Ok(None),
+    }
+}
+
+// The keys of the context that are near to a name.
+fn of_variable(
+    alloc: Global,
+    engine: &Engine<'_>,
+    known: &Known<'_>,
+    error: &Error,
+    name: &str,
+) -> Result<Option<String>, AllocError> {
+    if !is_of_context(engine, known, error, name)? {
+        return Ok(None);
+    }
+    match known.value {
+        Some(value) => of_keys(alloc, value, name),
+        None => Ok(None),
+    }
+}
+
+// The keys near to a member, of the value that the path before it leads to from the context.
+fn of_member(
+    alloc: Global,
+    engine: &Engine<'_>,
+    known: &Known<'_>,
+    error: &Error,
+    marked: Marked<'_>,
+) -> Result<Option<String>, AllocError> {
+    let path = path_at_end(marked.before);
+    let (first, _) = path.split_once('.').unwrap_or((path, ""));
+    if !is_of_context(engine, known, error, first.trim_end_matches('?'))? {
+        return Ok(None);
+    }
+    match value_at(known, path) {
+        Some(value) => of_keys(alloc, value, marked.text.trim_start_matches('.')),
+        None => Ok(None),
+    }
+}
+
+// Whether an error lies where this name is one of the context: in the template itself that is rendered, or in one that it
+// includes, if it takes the name from its context there.
+fn is_of_context(
+    engine: &Engine<'_>,
+    known: &Known<'_>,
+    error: &Error,
+    name: &str,
+) -> Result<bool, AllocError> {
+    if error.template_name().is_none() {
+        return Ok(true);
+    }
+    let Some(page) = known.page else {
+        return Ok(false);
+    };
+    match engine.needs(page) {
+        Some(needs) => Ok(needs?.names().contains(&name)),
+        None => Ok(false),
+    }
+}
+
+// The letters of a path that a text ends with.
+fn path_at_end(text: &str) -> &str {
+    let is_other = |letter: char| !letter.is_alphanumeric() && !matches!(letter, '_' | '.' | '?');
+    match text.rsplit_once(is_other) {
+        Some((_, path)) => path,
+        None => text,
+    }
+}
+
+// The value that a path of keys leads to from the context.
+fn value_at<'k>(known: &Known<'k>, path: &str) -> Option<&'k Value> {
+    let mut value = known.value?;
+    for key in path.split('.') {
+        value = entry(value, key.trim_end_matches('?'))?;
+    }
+    Some(value)
+}
+
+// The keys of a value that are near to a name.
+fn of_keys(alloc: Global, value: &Value, name: &str) -> Result<Option<String>, AllocError> {
+    let Value::Map(entries) = value else {
+        return Ok(None);
+    };
+    let mut keys = Vec::new(alloc);
+    for key in entries.keys() {
+        keys.push(key.as_str())?;
+    }
+    of_names(alloc, keys.as_slice(), name)
+}
+
+// The names that are near to one; nothing, if it is one of them.
+fn of_names(alloc: Global, names: &[&str], name: &str) -> Result<Option<String>, AllocError> {
+    if names.contains(&name) {
+        return Ok(None);
+    }
+    near_text(alloc, name, names)
+}
+
+// What can be called that is near to a name, and if nothing is, what there is.
+fn of_callable(
+    alloc: Global,
+    library: &Library,
+    name: &str,
+    is_formatter: bool,
+) -> Result<Option<String>, AllocError> {
+    let callables = library.callables();
+    let mut names = Vec::new(alloc);
+    if is_formatter && callables.has_verbatim {
+        names.push("verbatim")?;
+    }
+    for function in callables.functions {
+        names.push(function.name())?;
+    }
+    match of_names(alloc, names.as_slice(), name)? {
+        Some(text) => Ok(Some(text)),
+        None => names_text(alloc, names.as_slice()),
+    }
+}
+
+// The files with a name near to one that is quoted.
+fn of_file(alloc: Global, library: &Library, quoted: &str) -> Result<Option<String>, AllocError> {
+    let name = match included(alloc, quoted) {
+        Ok(name) => name,
+        Err(error) => return nothing_or_memory(&error),
+    };
+    let mut names = Vec::new(alloc);
+    for file in library.names() {
+        names.push(file.as_str())?;
+    }
+    of_names(alloc, names.as_slice(), name.as_str())
+}
+
+// No names, of what could not be read as a name; unless memory is out.
+fn nothing_or_memory(error: &Error) -> Result<Option<String>, AllocError> {
+    if is_memory(error) {
+        Err(AllocError)
+    } else {
+        Ok(None)
+    }
+}

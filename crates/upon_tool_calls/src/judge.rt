@@ -1,0 +1,88 @@
+// What is wrong with a call, by the functions that there are.
+use std::alloc::{AllocError, Global};
+use upon_functions::function::{CallError, Function};
+use upon_std::table::StandardFunction;
+use upon_types::value::{Value, ValueCow};
+
+/// What templates can call.
+#[derive(Clone, Copy)]
+pub struct Declared<'k> {
+    /// The functions.
+    pub functions: &'k [StandardFunction],
+    /// The names of formatters, which take one argument.
+    pub formatters: &'k [&'k str],
+    /// The names of what else there is, which may take any arguments.
+    pub others: &'k [&'k str],
+}
+
+/// What is wrong with a call.
+#[derive(Clone, Copy, Debug, PartialEq, Eq)]
+pub enum CallFault {
+    /// Nothing has the name.
+    Unknown,
+    /// The function expects another number of arguments, this one.
+    Arguments(usize),
+    /// A formatter gets another number of arguments than one.
+    FormatterArguments,
+}
+
+/// Returns what is wrong with a call of what has a name, with so many arguments, if something is: on whatever values it is
+/// made, it fails. It fails if there is no memory.
+pub fn fault_of(
+    alloc: Global,
+    declared: &Declared<'_>,
+    name: &str,
+    arguments: usize,
+) -> Result<Option<CallFault>, AllocError> {
+    if has_name(declared.others, name) {
+        return Ok(None);
+    }
+    if has_name(declared.formatters, name) {
+        return Ok(if arguments == 1 {
+            None
+        } else {
+            Some(CallFault::FormatterArguments)
+        });
+    }
+    match function_of(declared.functions, name) {
+        Some(function) => Ok(expected(alloc, function, arguments)?.map(CallFault::Arguments)),
+        None => Ok(Some(CallFault::Unknown)),
+    }
+}
+
+// Whether a name is among some.
+fn has_name(names: &[&str], name: &str) -> bool {
+    for other in names {
+        if *other == name {
+            return true;
+        }
+    }
+    false
+}
+
+// The function of a name, if there is one.
+fn function_of(functions: &[StandardFunction], name: &str) -> Option<StandardFunction> {
+    for function in functions {
+        if function.name() == name {
+            return Some(*function);
+        }
+    }
+    None
+}
+
+// How many arguments a function expects, if not this number: it looks at that first, whatever the arguments are.
+fn expected(
+    alloc: Global,
+    function: StandardFunction,
+    arguments: usize,
+) -> Result<Option<usize>, AllocError> {
+    let mut nothing = Vec::new(alloc);
+    for _ in 0..arguments {
+        nothing.push(ValueCow::Owned(Value::None))?;
+    }
+    match function.call(alloc, nothing.as_slice()) {
+        Err(CallError::Arity(expected)) => Ok(Some(expected)),
+        Err(CallError::Memory) => Err(AllocError),
+        _ => Ok(None),
+    }
+}
