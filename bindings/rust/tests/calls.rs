@@ -81,5 +81,6 @@ fn other_calls() {
     assert!(picture(check(&[("page", "{{")], &plain())).is_some());
     let needed = r#"{"missing":[],"names":["text","title"],"templates":["head"],"whole":false}"#;
     assert_eq!(names(&TEMPLATES, "page", &plain()).as_deref(), Ok(needed));
-    assert_eq!(version().as_deref(), Ok(env!("CARGO_PKG_VERSION")));
+    // The library says the language's version, which the package's version begins with.
+    assert_eq!(version().as_deref().ok(), env!("CARGO_PKG_VERSION").split('+').next());
 }
