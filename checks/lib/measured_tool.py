@@ -104,7 +104,7 @@ def measured(name, programs):
     for size in (1, 2, 4):
         words = make(size * least)
         for by, program in programs.items():
-            runs[by].append(min(taken([*program, *words]) for _ in range(3)))
+            runs[by].append(taken([*program, *words]))
             sums[by].append(sum_of_written())
     if len({tuple(it) for it in sums.values()}) > 1:
         sys.exit(f"measure: {name}: the programs do not write the same")
