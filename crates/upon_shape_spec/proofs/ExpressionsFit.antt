@@ -14,16 +14,16 @@ use Rattle.upon_meaning_spec.specs.Entries.{with_entry}
 use Rattle.upon_meaning_spec.specs.Evaluation.{Operand, values_of, answer_value, call_value, with_span, append_operand, as_list, as_map, application, evaluate, evaluate_base, evaluate_bases, evaluate_items, evaluate_arguments}
 use Rattle.upon_meaning_spec.proofs.RisingEntries.{rises_more, entry_more}
 use Rattle.upon_shape_spec.specs.Declared.{DeclaredCallable, gives_by, formats, Declared, GivesOf, KeepsGiving, CallableKeeps, KeepsDeclared, Signature, KeepsSignatures, given_by}
-use Rattle.upon_shape_spec.specs.ExpressionShapes.{literal_shape, join_all, shape_then, value_given, call_shape, expression_shape, base_shape, bases_shapes, items_keys, arguments_shapes}
+use Rattle.upon_shape_spec.specs.ExpressionShapes.{literal_shape, join_onto, join_all, shape_then, value_given, call_shape, expression_shape, base_shape, bases_shapes, items_keys, arguments_shapes}
 use Rattle.upon_shape_spec.specs.Fits.{EachValue, Fits, KeyFits, AllFit}
 use Rattle.upon_shape_spec.specs.Found.{Finds, FindsShape, ComesTo}
 use Rattle.upon_shape_spec.specs.Join.{join}
 use Rattle.upon_shape_spec.specs.Scope.{Scope, ScopeFits, path_shape}
-use Rattle.upon_shape_spec.specs.Shape.{Shape, Keys, key_then, list_of, map_of, no_others, without}
+use Rattle.upon_shape_spec.specs.Shape.{Shape, never, Keys, key_then, list_of, map_of, no_others, without}
 use Rattle.upon_shape_spec.specs.Wider.{all_wider}
 use Rattle.upon_shape_spec.proofs.Joins.{first_fits, second_fits, entry_here}
 use Rattle.upon_shape_spec.proofs.PathsFit.{path_finds}
-use Rattle.upon_shape_spec.proofs.Tests.{each_more, beside}
+use Rattle.upon_shape_spec.proofs.Tests.{beside}
 use Rattle.upon_shape_spec.proofs.Widths.{all_wider_fit}
 
 -- if there are shapes, each comes to a value of its own
@@ -48,12 +48,16 @@ literal_fits (text_val bytes) = refl
 literal_fits (list_val vs) = tt
 literal_fits (map_val es) = tt
 
-items_joined : (shapes : List Shape) (os : List Operand) → AllFit shapes (values_of os) → EachValue (Fits (join_all shapes)) (vals_of (values_of os))
-items_joined [] [] h = tt
-items_joined [] (o ∷ os) h = absurd h
-items_joined (s ∷ ss) [] h = absurd h
-items_joined (s ∷ ss) (o ∷ os) h =
-    (first_fits s (join_all ss) o.value h.0, each_more (Fits (join_all ss)) (Fits (join s (join_all ss))) (second_fits s (join_all ss)) (vals_of (values_of os)) (items_joined ss os h.1))
+-- what fits a shape fits it with others joined to it, and so does what fits one of those
+onto_fits : (joined : Shape) (shapes : List Shape) (v : Val) → Fits joined v → Fits (join_onto joined shapes) v
+onto_fits joined [] v h = h
+onto_fits joined (s ∷ ss) v h = onto_fits (join joined s) ss v (first_fits joined s v h)
+
+items_joined : (joined : Shape) (shapes : List Shape) (os : List Operand) → AllFit shapes (values_of os) → EachValue (Fits (join_onto joined shapes)) (vals_of (values_of os))
+items_joined joined [] [] h = tt
+items_joined joined [] (o ∷ os) h = absurd h
+items_joined joined (s ∷ ss) [] h = absurd h
+items_joined joined (s ∷ ss) (o ∷ os) h = (onto_fits (join joined s) ss o.value (second_fits joined s o.value h.0), items_joined (join joined s) ss os h.1)
 
 more_entries : (ks : Keys) (es : Entries) (key : List ℕ) (s : Shape) (v : Val) → EntriesFit ks es → Fits s v → EntriesFit (key_then key true s (without key ks)) (with_entry key v es)
 more_entries ks es key s v h k =
@@ -107,7 +111,7 @@ module _ {V : Type 0} where
 
   list_comes : (ss : Option (List Shape)) (r : Reply V (Finding (List Operand))) (at : Span) → AllCome ss r.answer → ComesTo (option_map (λ shapes. list_of (join_all shapes)) ss) (as_list r at).answer
   list_comes None r at h = tt
-  list_comes (Some ss) r at h = found_then (λ (os : List Operand). AllFit ss (values_of os)) (λ (o : Operand). Fits (list_of (join_all ss)) o.value) r.answer r.next _ h (λ os x. items_joined ss os x)
+  list_comes (Some ss) r at h = found_then (λ (os : List Operand). AllFit ss (values_of os)) (λ (o : Operand). Fits (list_of (join_all ss)) o.value) r.answer r.next _ h (λ os x. items_joined never ss os x)
 
   map_comes : (ks : Option Keys) (r : Reply V (Finding Entries)) (at : Span) → ItemsCome ks r.answer → ComesTo (option_map map_of ks) (as_map r at).answer
   map_comes None r at h = tt

@@ -6,12 +6,12 @@ use Rattle.upon_types.specs.Path.{Member}
 use Rattle.upon_types.specs.Tree.{Statement, raw, inline_expr, include, if_else, for_loop, with, Statements, no_statements, statement_then, Else, no_else, otherwise}
 use Rattle.upon_shape_spec.specs.Accepted.{OnSome, loop_names, iteration_names, StatementAccepted, StatementsAccepted, ElseAccepted}
 use Rattle.upon_shape_spec.specs.Declared.{DeclaredCallable, gives_by, formats, Declared}
-use Rattle.upon_shape_spec.specs.Doubts.{Unsure, Doubt, doubt, unless, if_none, if_some, after_found, walk_doubts, bound_doubts, bound_or_root_doubts, given_doubts, expression_doubts, base_doubts, bases_doubts, items_doubts, arguments_doubts, shown_value_doubts, shown_call_doubts, text_doubts, shown_doubts, base_shown_doubts, loop_doubts, statement_doubts, statements_doubts, else_doubts}
+use Rattle.upon_shape_spec.specs.Doubts.{Unsure, Doubt, doubt, has_items, unless, if_none, if_some, after_found, walk_doubts, bound_doubts, bound_or_root_doubts, given_doubts, expression_doubts, base_doubts, bases_doubts, items_doubts, arguments_doubts, shown_value_doubts, shown_call_doubts, text_doubts, shown_doubts, base_shown_doubts, items_in_doubt, or_never, or_names, bound_names, statement_doubts, statements_doubts, else_doubts}
 use Rattle.upon_shape_spec.specs.ExpressionShapes.{join_all, value_given, call_shape, is_taken, is_formatted, shows_given, shows_call, shape_then, expression_shape, base_shape, arguments_shapes, bases_shapes, items_keys, is_shown, base_is_shown}
 use Rattle.upon_shape_spec.specs.Narrowed.{tested_scope}
 use Rattle.upon_shape_spec.specs.Paths.{MemberShape, may_fail, finds, may_miss, member_shape, after_member, walk_shape}
 use Rattle.upon_shape_spec.specs.Scope.{BoundShape, value_of, loop_key, a_loop, NameShape, Scope, name_shape, scope_over, with_names, bound_shape_of, state_shape, bound_walk_shape, bound_or_root_shape}
-use Rattle.upon_shape_spec.specs.Shape.{Shape, Keys, key_then, optional, list_of, map_of, no_others, without}
+use Rattle.upon_shape_spec.specs.Shape.{Shape, never, Keys, key_then, optional, list_of, map_of, no_others, without}
 use Rattle.upon_shape_spec.specs.Wider.{wider}
 
 -- there is no doubt
@@ -50,13 +50,18 @@ some_same : {A : Type 0} (ds : List Doubt) (o : Option A) (go : A → List Doubt
 some_same ds None go P f g = (λ h. f.0 (sure_first ds [] h), λ h. absurd h)
 some_same ds (Some a) go P f g = (λ h. (g a).0 (sure_second ds (go a) h), λ h. sure_both ds (go a) (f.1 tt) ((g a).1 h))
 
+-- on with a part that has doubts of its own, which are told in any case
+told_same : {A : Type 0} (ds : List Doubt) (o : Option A) (es : Option A → List Doubt) (P : A → Type 0) → (Sure ds ↔ Has o) → ((a : A) → Sure (es (Some a)) ↔ P a) → Sure (ds ++ es o) ↔ OnSome o P
+told_same ds None es P f g = (λ h. f.0 (sure_first ds (es None) h), λ h. absurd h)
+told_same ds (Some a) es P f g = (λ h. (g a).0 (sure_second ds (es (Some a)) h), λ h. sure_both ds (es (Some a)) (f.1 tt) ((g a).1 h))
+
 unless_same : (b : Bool) (at : Span) (unsure : Unsure) → Sure (unless b (doubt at unsure)) ↔ (b ≡ true)
 unless_same true at unsure = (λ h. refl, λ h. tt)
 unless_same false at unsure = (λ h. absurd h, λ h. absurd (cc))
 
-none_same : (o : Option Shape) (at : Span) (unsure : Unsure) → Sure (if_none o (doubt at unsure)) ↔ Has o
+none_same : {A : Type 0} (o : Option A) (at : Span) (unsure : Unsure) → Sure (if_none o (doubt at unsure)) ↔ Has o
 none_same None at unsure = same
-none_same (Some s) at unsure = same
+none_same (Some a) at unsure = same
 
 -- ---- paths
 map_has : {A B : Type 0} (f : A → B) (o : Option A) → Has o ↔ Has (option_map f o)
@@ -173,9 +178,9 @@ module _ (declared : Declared) (scope : Scope) where
     base_shown_same (mapping items span) = text_same span (base_doubts declared scope (mapping items span)) (base_shape declared scope (mapping items span)) (base_same (mapping items span))
 
 -- ---- statements
-loop_same : (at : Span) (s : Shape) (o : Option (List NameShape)) (go : List NameShape → List Doubt) (P : List NameShape → Type 0) → ((bs : List NameShape) → Sure (go bs) ↔ P bs) → Sure (loop_doubts at s o go) ↔ OnSome o P
-loop_same at s None go P f = same
-loop_same at s (Some bs) go P f = f bs
+loop_same : {Q : Type 0} (at : Span) (s : Shape) (o others : Option (List NameShape)) (go : List NameShape → List Doubt) (es : List Doubt) (P : List NameShape → Type 0) → ((bs : List NameShape) → Sure (go bs) ↔ P bs) → (Sure es ↔ Q) → Sure (if_none o (doubt at (has_items s)) ++ (go (or_names o others) ++ es)) ↔ (OnSome o P × Q)
+loop_same at s None others go es P f q = (λ h. absurd h, λ h. absurd h.0)
+loop_same at s (Some bs) others go es P f q = both_same (go bs) es (f bs) q
 
 module _ (declared : Declared) (included : List ℕ → Scope → Bool) where
   abbrev Included : List ℕ → Scope → Type 0
@@ -190,15 +195,21 @@ module _ (declared : Declared) (included : List ℕ → Scope → Bool) where
         some_same (expression_doubts declared scope e) (expression_shape declared scope e) _ (λ s. Included word.text (scope_over s)) (expression_same declared scope e)
         (λ s. unless_same (included word.text (scope_over s)) word.span _)
     statement_same scope (if_else negated e body other) =
-        some_same (expression_doubts declared scope e) (expression_shape declared scope e) _ (λ s. StatementsAccepted declared Included (tested_scope (not negated) e scope) body × ElseAccepted declared Included (tested_scope negated e scope) other) (expression_same declared scope e)
+        told_same (expression_doubts declared scope e) (expression_shape declared scope e)
+        (λ o. statements_doubts declared included (tested_scope (not negated) e scope) body ++ else_doubts declared included (tested_scope negated e scope) other)
+        (λ s. StatementsAccepted declared Included (tested_scope (not negated) e scope) body × ElseAccepted declared Included (tested_scope negated e scope) other) (expression_same declared scope e)
         (λ s. both_same (statements_doubts declared included (tested_scope (not negated) e scope) body) (else_doubts declared included (tested_scope negated e scope) other) (statements_same (tested_scope (not negated) e scope) body) (else_same (tested_scope negated e scope) other))
     statement_same scope (for_loop names e body other) =
-        some_same (expression_doubts declared scope e) (expression_shape declared scope e) _ (λ s. OnSome (loop_names names s) (λ bs. StatementsAccepted declared Included (with_names (iteration_names bs) scope) body) × ElseAccepted declared Included scope other) (expression_same declared scope e)
-        (λ s. let go = λ (bs : List NameShape). statements_doubts declared included (with_names (iteration_names bs) scope) body in
-        both_same (loop_doubts (expression_span e) s (loop_names names s) go) (else_doubts declared included scope other)
-        (loop_same (expression_span e) s (loop_names names s) go (λ bs. StatementsAccepted declared Included (with_names (iteration_names bs) scope) body) (λ bs. statements_same (with_names (iteration_names bs) scope) body)) (else_same scope other))
+        let inner = λ (bs : List NameShape). statements_doubts declared included (with_names (iteration_names bs) scope) body in
+        let loop = λ (s : Shape). items_in_doubt (expression_span e) names s ++ (inner (bound_names names s) ++ else_doubts declared included scope other) in
+        told_same (expression_doubts declared scope e) (expression_shape declared scope e) (λ o. loop (or_never o))
+        (λ s. OnSome (loop_names names s) (λ bs. StatementsAccepted declared Included (with_names (iteration_names bs) scope) body) × ElseAccepted declared Included scope other) (expression_same declared scope e)
+        (λ s. loop_same (expression_span e) s (loop_names names s) (loop_names names never) inner (else_doubts declared included scope other) (λ bs. StatementsAccepted declared Included (with_names (iteration_names bs) scope) body)
+        (λ bs. statements_same (with_names (iteration_names bs) scope) body) (else_same scope other))
     statement_same scope (with e word body) =
-        some_same (expression_doubts declared scope e) (expression_shape declared scope e) _ (λ s. StatementsAccepted declared Included (with_names (name_shape word.text (value_of s) ∷ []) scope) body) (expression_same declared scope e)
+        told_same (expression_doubts declared scope e) (expression_shape declared scope e)
+        (λ o. statements_doubts declared included (with_names (name_shape word.text (value_of (or_never o)) ∷ []) scope) body)
+        (λ s. StatementsAccepted declared Included (with_names (name_shape word.text (value_of s) ∷ []) scope) body) (expression_same declared scope e)
         (λ s. statements_same (with_names (name_shape word.text (value_of s) ∷ []) scope) body)
 
     pub statements_same : (scope : Scope) (ts : Statements) → Sure (statements_doubts declared included scope ts) ↔ StatementsAccepted declared Included scope ts

@@ -2,7 +2,7 @@
 use Rattle.std.specs.Prelude.{ℕ, List, [], ◌∷◌, ◌++◌, Bool, true, false, not, Option, Some, None}
 use Rattle.upon_types.specs.declared.types.Span.{Span}
 use Rattle.upon_types.specs.Expression.{Expression, base, filtered, Base, var, literal, list, mapping, paren, call, Bases, no_bases, base_then, Items, no_items, item_then, Arguments, no_arguments, arguments, expression_span}
-use Rattle.upon_types.specs.Path.{Member}
+use Rattle.upon_types.specs.Path.{Member, LoopVars}
 use Rattle.upon_types.specs.Tree.{Statement, raw, inline_expr, include, if_else, for_loop, with, Statements, no_statements, statement_then, Else, no_else, otherwise}
 use Rattle.upon_shape_spec.specs.Accepted.{loop_names, iteration_names}
 use Rattle.upon_shape_spec.specs.Declared.{DeclaredCallable, gives_by, formats, Declared}
@@ -10,7 +10,7 @@ use Rattle.upon_shape_spec.specs.ExpressionShapes.{value_given, is_formatted, sh
 use Rattle.upon_shape_spec.specs.Narrowed.{tested_scope}
 use Rattle.upon_shape_spec.specs.Paths.{MemberShape, may_fail, finds, may_miss, member_shape}
 use Rattle.upon_shape_spec.specs.Scope.{BoundShape, value_of, loop_key, a_loop, NameShape, Scope, name_shape, scope_over, with_names, bound_shape_of, state_shape}
-use Rattle.upon_shape_spec.specs.Shape.{Shape}
+use Rattle.upon_shape_spec.specs.Shape.{Shape, never}
 use Rattle.upon_shape_spec.specs.Wider.{wider}
 
 -- what is not sure: that a value of this shape, or a loop's key or state, has the member; that a callable takes values
@@ -38,10 +38,16 @@ abbrev pub unless : Bool → List Doubt → List Doubt
 unless true ds = []
 unless false ds = ds
 
--- a doubt, if there is no shape
-abbrev pub if_none : Option Shape → List Doubt → List Doubt
+-- a doubt, if there is nothing
+abbrev pub if_none : {A : Type 0} → Option A → List Doubt → List Doubt
 if_none None ds = ds
-if_none (Some s) ds = []
+if_none (Some a) ds = []
+
+-- names, or else others, or else none
+abbrev pub or_names : Option (List NameShape) → Option (List NameShape) → List NameShape
+or_names (Some bs) others = bs
+or_names None None = []
+or_names None (Some bs) = bs
 
 -- the doubts about what is there; where nothing is, there are some already
 abbrev pub if_some : {A : Type 0} → Option A → (A → List Doubt) → List Doubt
@@ -162,15 +168,24 @@ module _ (declared : Declared) (scope : Scope) where
         base_doubts (mapping items span)
         ++ if_some (base_shape declared scope (mapping items span)) (text_doubts span)
 
--- a body, if a loop has names
-abbrev pub loop_doubts : Span → Shape → Option (List NameShape) → (List NameShape → List Doubt) → List Doubt
-loop_doubts at s None go = doubt at (has_items s)
-loop_doubts at s (Some bs) go = go bs
+-- that a loop's value has items for its names
+abbrev pub items_in_doubt : Span → LoopVars → Shape → List Doubt
+items_in_doubt at names s = if_none (loop_names names s) (doubt at (has_items s))
+
+-- the shape of an expression's value; where the expression is in doubt, that of no value, of which nothing is in doubt:
+-- a doubt is told once
+abbrev pub or_never : Option Shape → Shape
+or_never None = never
+or_never (Some s) = s
+
+-- what a loop binds, also one that is in doubt
+abbrev pub bound_names : LoopVars → Shape → List NameShape
+bound_names names s = or_names (loop_names names s) (loop_names names never)
 
 -- where a test says which includes, on which scopes, do not fail
 module _ (declared : Declared) (included : List ℕ → Scope → Bool) where
   abbrev mutual
-    -- of a statement; what is in a body is not known where its expression is in doubt
+    -- of a statement; a body's own doubts are told also where its expression is in doubt
     pub statement_doubts : Scope → Statement → List Doubt
     statement_doubts scope (raw span) = []
     statement_doubts scope (inline_expr e span) = shown_doubts declared scope e
@@ -181,19 +196,18 @@ module _ (declared : Declared) (included : List ℕ → Scope → Bool) where
         (λ s. unless (included word.text (scope_over s)) (doubt word.span (is_included (scope_over s))))
     statement_doubts scope (if_else negated e body other) =
         expression_doubts declared scope e
-        ++ if_some (expression_shape declared scope e)
-        (λ s. statements_doubts (tested_scope (not negated) e scope) body
+        ++ (statements_doubts (tested_scope (not negated) e scope) body
         ++ else_doubts (tested_scope negated e scope) other)
     statement_doubts scope (for_loop names e body other) =
+        let s : Shape = or_never (expression_shape declared scope e) in
         expression_doubts declared scope e
-        ++ if_some (expression_shape declared scope e)
-        (λ s. loop_doubts (expression_span e) s (loop_names names s)
-        (λ bs. statements_doubts (with_names (iteration_names bs) scope) body)
-        ++ else_doubts scope other)
+        ++ (items_in_doubt (expression_span e) names s
+        ++ (statements_doubts (with_names (iteration_names (bound_names names s)) scope) body
+        ++ else_doubts scope other))
     statement_doubts scope (with e word body) =
+        let s : Shape = or_never (expression_shape declared scope e) in
         expression_doubts declared scope e
-        ++ if_some (expression_shape declared scope e)
-        (λ s. statements_doubts (with_names (name_shape word.text (value_of s) ∷ []) scope) body)
+        ++ statements_doubts (with_names (name_shape word.text (value_of s) ∷ []) scope) body
 
     -- of each of them
     pub statements_doubts : Scope → Statements → List Doubt

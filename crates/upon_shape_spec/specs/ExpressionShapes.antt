@@ -17,10 +17,14 @@ literal_shape (text_val bytes) = text_shape
 literal_shape (list_val vs) = any_shape
 literal_shape (map_val es) = any_shape
 
+-- a shape with others joined to it, one after another
+abbrev pub join_onto : Shape → List Shape → Shape
+join_onto joined [] = joined
+join_onto joined (s ∷ ss) = join_onto (join joined s) ss
+
 -- shapes joined
 abbrev pub join_all : List Shape → Shape
-join_all [] = never
-join_all (s ∷ ss) = join s (join_all ss)
+join_all ss = join_onto never ss
 
 -- a shape ahead of others
 abbrev pub shape_then : Option Shape → Option (List Shape) → Option (List Shape)

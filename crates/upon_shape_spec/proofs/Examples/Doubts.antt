@@ -41,3 +41,9 @@ three_places = refl
 -- `{{ user.name }}`: none
 no_doubt : doubts (show (path (codes "user") (dot (codes "name") ∷ [])) ∷ []) page ≡ []
 no_doubt = refl
+
+-- `{% for x in user.nicks %}{{ x | upper }}{{ title }}{% endfor %}`: of an item of what may not be there nothing is in doubt, and the
+-- body's own doubts are told
+also_in_the_body : doubts (for_each (codes "x") (path (codes "user") (dot (codes "nicks") ∷ [])) (shows (filter_of (name (codes "x")) (codes "upper")) ∷ show (name (codes "title")) ∷ []) ∷ []) page
+    ≡ doubt nowhere (has_member user) ++ doubt nowhere (has_member page)
+also_in_the_body = refl
