@@ -8,6 +8,12 @@ WORD = re.compile(r"[^\s(){}\[\];,.λ→×∥₁]+")
 IMPORT = re.compile(r"^use Rattle\.(upon_\w+)\.specs\.([\w.]+)\.\{(.*)\}$")
 
 
+class Block(list):
+    """The lines of a definition, and how many lines of words stand above it."""
+
+    words = 0
+
+
 class Module:
     """The definitions of a module by their names, each with its text, and what the module brings in."""
 
@@ -21,15 +27,17 @@ class Module:
 
     def read(self, text):
         """Reads imports and definitions. A definition goes from its signature to the next one, without its comments."""
-        block = None
+        block, words = None, 0
         for line in text.split("\n"):
             found = IMPORT.match(line)
             if found:
                 self.bring(found)
             elif line.strip() == "" or re.match(r" *(--|use |module |mutual)", line):
-                block = None
+                block, words = None, words + 1 if line.lstrip().startswith("--") else 0
             else:
-                block = self.line(line, block)
+                before, block = block, self.line(line, block)
+                if block is not before:
+                    block.words, words = words, 0
 
     def bring(self, found):
         """Notes the names of an import, also those under another name."""
@@ -42,11 +50,11 @@ class Module:
         head = re.match(r"^( *)(abbrev pub|unfoldable pub|pub data|pub record|pub|data|record) ([^\s:{]+)", line)
         if head and not (block and block[0].startswith("pub record") and head.group(1)):
             if not block or head.group(2) != "pub" or not re.match(r" *(pub )?(data|record)", block[0]):
-                block = []
+                block = Block()
                 self.blocks.append(block)
             self.names[head.group(3)] = block
         if block is None:
-            block = []
+            block = Block()
             self.blocks.append(block)
         if re.match(r" +[^\s:]+ : ", line) and re.match(r" *pub data", (block or [""])[0]):
             self.names[line.split()[0]] = block
@@ -79,18 +87,28 @@ def all_modules():
     return found
 
 
-def clause_roots():
-    """The definitions that the imports of the theorem's source name."""
-    for line in open(SOURCE, encoding="utf8"):
+def words_of(clause, text):
+    """The words of the clauses of a name in the theorem's source."""
+    found = re.findall(rf"ensures {clause} \{{(.*?)\}}\n(?= *(?:ensures|//|\{{))", text, re.S)
+    return set(WORD.findall("\n".join(found)))
+
+
+def clause_roots(clause=None):
+    """The definitions that the imports of the theorem's source name, or those of them that clauses of a name have."""
+    text = open(SOURCE, encoding="utf8").read()
+    words = words_of(clause, text) if clause else None
+    for line in text.split("\n"):
         found = IMPORT.match(line.strip().removeprefix("ghost ").rstrip(";"))
         if found:
             for item in found.group(3).split(","):
-                yield found.group(1), found.group(2), item.strip().partition(" as ")[0]
+                name, _, here = item.strip().partition(" as ")
+                if words is None or (here or name) in words:
+                    yield found.group(1), found.group(2), name
 
 
-def reached(modules):
-    """The definitions that the clauses reach, and all words in them."""
-    waiting, seen, words = list(clause_roots()), {}, set()
+def reached(modules, clause=None):
+    """The definitions that the clauses reach, or those of a name, and all words in them."""
+    waiting, seen, words = list(clause_roots(clause)), {}, set()
     while waiting:
         crate, name, word = waiting.pop()
         module = modules.get((crate, name))

@@ -1,0 +1,44 @@
+"""What checks/house counts in words: the files that speak of each kind of statement, and long lines."""
+import re
+
+# What is no name: comments, and the samples of templates in pages, cases and tests.
+ASIDE = re.compile(r"\{%.*?%\}|^ *(?:--|//).*$", re.M)
+IMPORT = re.compile(r" *(?:ghost |pub )*use ")
+
+
+def kind(words, parts, more=""):
+    """Returns what finds a name of a kind of statement: of its case, tag or instruction, or of its closing tag."""
+    opened = rf"(?:{words})_?(?:{parts})"
+    closed = rf"(?:end_?|key_|jump_?|\ban?_)(?:{words})"
+    return re.compile(rf"(?i:{opened}|{closed})(?![a-z]){more}")
+
+
+# A block with branches, one with turns, and one with a name: `with` alone, which is a word of English too, is a case.
+KINDS = (
+    kind("if", "else|block|tag"),
+    kind("for|loop", "loop|block|tag|start|next"),
+    kind("with", "block|tag|start|end", r"|\(with \w|\bwith : "),
+)
+
+
+# A copy of the language before `for .. else`, and a page that a script writes, which no statement changes by hand.
+UNTOUCHED = ("crates/upon_before_spec/", "docs/DEFINITIONS.md")
+
+
+def name_each_kind(sources):
+    """The files that name each kind of statement: a new one, which is a kind more, touches these."""
+    for path, text in sources:
+        if not path.startswith(UNTOUCHED) and all(it.search(text) for it in KINDS):
+            code = ASIDE.sub("", text)
+            if all(it.search(code) for it in KINDS):
+                yield path
+
+
+def long_lines(sources, most):
+    """The lines that have more columns than that, and of these the ones that bring in names."""
+    found, imports = [], []
+    for path, text in sources:
+        for number, line in enumerate(text.split("\n"), 1):
+            if len(line) > most:
+                (imports if IMPORT.match(line) else found).append(f"{path}:{number}: {len(line)} columns")
+    return found, imports
