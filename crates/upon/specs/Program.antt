@@ -99,9 +99,9 @@ Reads file (Err Unreadable) = Unit {0}
 Reads file (Err NotText) = IsNoText file
 Reads file (Err (Fault error)) = fault_of error ≡ out_of_memory
 
--- A run on words ends, of a file whose bytes may be known. If all went well, or by a fault, the first word is a name and
--- the file's text was rendered under it on the other words; or memory was out. Else nothing was sent: the words are
--- those of no call, the file was not read, or it is not UTF-8.
+-- A run on words ends, of a file whose bytes may be known. If all went well, or by a fault, the first word is a name
+-- and the file's text was rendered under it on the other words; or memory was out. Else nothing was sent: the words
+-- are those of no call, the file was not read, or it is not UTF-8.
 abbrev pub Ends : List (String Global) → Option (List ℕ) → Result (Unit {0}) Failure → Option (List ℕ)
     → Option (List ℕ) → Type 0
 Ends [] file end old new = (end ≡ Err Usage) × Keeps old new

@@ -157,7 +157,8 @@ fn render<O: Write>(
     context: &Value,
     out: &mut O,
 ) -> Result<(), Error>
-    ensures { Renders name.now (string_bytes source) (view context.now) result (O.contents out.old) (O.contents out.new) }
+    ensures { Renders name.now (string_bytes source) (view context.now) result (O.contents out.old)
+        (O.contents out.new) }
 {
     let mut engine = Engine::new(alloc);
     engine.add_template(CowStr::Borrowed(name), CowStr::Owned(source))?;

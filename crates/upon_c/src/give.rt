@@ -29,7 +29,8 @@ pub(crate) fn give(status: u8, text: &[u8], out: &mut [u8], size: &mut usize) ->
     status
 }
 
-/// Does the same with the text of a failure, whose status it returns. If memory is out, `size` is 0 and the status is 5.
+/// Does the same with the text of a failure, whose status it returns. If memory is out, `size` is 0 and the status is
+/// 5.
 pub(crate) fn give_failure(alloc: Global, failure: Failure, out: &mut [u8], size: &mut usize) -> u8
     ensures { GivesFailure failure result size.new out.old out.new }
 {

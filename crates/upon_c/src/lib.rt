@@ -29,12 +29,15 @@ pub extern "C" fn upon_render(
     size: &mut usize,
 ) -> u8
     ensures range { result ≤ 5 }
-    ensures rendered { result ≡ 0 → HandsOut (Renders templates.now context.now name.now options.now) size.new out.old out.new }
-    ensures faulty { result ≡ 1 → HandsOut (RenderFaults templates.now context.now name.now options.now) size.new out.old out.new }
+    ensures rendered { result ≡ 0 → HandsOut (Renders templates.now context.now name.now options.now) size.new
+        out.old out.new }
+    ensures faulty { result ≡ 1 → HandsOut (RenderFaults templates.now context.now name.now options.now) size.new
+        out.old out.new }
     ensures refused { result ≡ 2
         → HandsOut (IsRefusal (RenderRefuses templates.now context.now name.now options.now)) size.new out.old out.new }
     ensures not_text { result ≡ 3
-        → HandsOut (NamesNoText (RenderNotText templates.now context.now name.now options.now)) size.new out.old out.new }
+        → HandsOut (NamesNoText (RenderNotText templates.now context.now name.now options.now)) size.new out.old
+        out.new }
     // The buffer has no room for a text that one of these clauses describes.
     ensures small { result ≡ 4 → HasNoRoom
         (IsAny

@@ -33,7 +33,8 @@ asked_by o = record {
 -- whether a key is one of an option
 abbrev pub is_key : List ℕ → Bool
 is_key key = bytes_eq key (codes "escape") || (bytes_eq key (codes "html") || (bytes_eq key (codes "syntax")
-    || (bytes_eq key (codes "functions") || (bytes_eq key (codes "max_include_depth") || (bytes_eq key (codes "max_steps")
+    || (bytes_eq key (codes "functions") || (bytes_eq key (codes "max_include_depth")
+    || (bytes_eq key (codes "max_steps")
     || (bytes_eq key (codes "max_output") || bytes_eq key (codes "max_memory")))))))
 
 -- whether each key is one of an option

@@ -33,8 +33,8 @@ IsAbsent e (Render name value) = e.texts name.now ≡ None
 IsAbsent e (RenderText source value) = ⊥
 IsAbsent e (Names name) = e.texts name.now ≡ None
 
--- why it gives no text: it ends with a fault, of which these are the pictures; or its name is refused, as nothing is held
--- under it; or memory was out
+-- why it gives no text: it ends with a fault, of which these are the pictures; or its name is refused, as nothing is
+-- held under it; or memory was out
 abbrev pub WorkFails : (Fault → Type 0) → Type 0 → Failure → Type 0
 WorkFails Ends Absent (Faults pictures) = IsPicture Ends (string_bytes pictures)
 WorkFails Ends Absent (Refused argument reason) = (argument ≡ Name) × Absent

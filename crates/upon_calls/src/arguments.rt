@@ -33,8 +33,8 @@ pub(crate) fn text_in<'v>(value: &'v Value) -> Option<&'v str>
     }
 }
 
-/// Returns the value of an argument's JSON, as contexts have it: an object, or a list at the key `items`. The empty text
-/// is an object without members.
+/// Returns the value of an argument's JSON, as contexts have it: an object, or a list at the key `items`. The empty
+/// text is an object without members.
 pub(crate) fn value_of(alloc: Global, argument: Argument, text: &str) -> Result<Value, Failure>
     ensures read { IfOk result (λ v. IsValueOf text.now (view v)) }
     ensures refused { IfErr result (RefusedIf argument (HasNoValue text.now)) }

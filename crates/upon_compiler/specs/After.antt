@@ -1,5 +1,5 @@
--- What a compiler has after it is told of a piece of a template. A jump past instructions is written once they are there;
--- before that, another instruction is in its place.
+-- What a compiler has after it is told of a piece of a template. A jump past instructions is written once they are
+-- there; before that, another instruction is in its place.
 use Rattle.std.specs.Prelude.{◌≡◌, ℕ, ◌<◌, List, [], ◌∷◌, ◌++◌, length, Bool, true, false, Option, Some, None, slice_set}
 use Rattle.upon_types.specs.Path.{LoopVars}
 use Rattle.upon_types.specs.declared.types.Span.{Span}
@@ -20,7 +20,8 @@ outer (block ∷ blocks) = blocks
 abbrev pub if_begun : Bool → List Instr → List OpenBlock → State
 if_begun negated code blocks = state (code ++ jump 0 ∷ []) (If negated (length code) ∷ blocks)
 
--- between the branches of an `if`: the jump of this number goes to the second one, the jump past that is not written yet
+-- between the branches of an `if`: the jump of this number goes to the second one, the jump past that is not written
+-- yet
 abbrev pub between : Bool → ℕ → List Instr → List Instr
 between negated start code =
     let way : List Instr = code ++ jump 0 ∷ [] in slice_set way start (jump_unless negated (length way))

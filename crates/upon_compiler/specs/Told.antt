@@ -17,7 +17,8 @@ abbrev mutual
   IsTold (for_loop names e body other) before rest = (mid after : List Event)
       × (before ≡ for_event names (expression_span e) (expression_code e) ∷ mid) × AreTold body mid after
       × IsForElseTold other after rest
-  IsTold (with e word body) before rest = (mid after : List Event) × (before ≡ with_event word (expression_code e) ∷ mid)
+  IsTold (with e word body) before rest =
+      (mid after : List Event) × (before ≡ with_event word (expression_code e) ∷ mid)
       × AreTold body mid after × (after ≡ endwith_event ∷ rest)
 
   -- those of statements, one after the other
@@ -47,5 +48,6 @@ abbrev mutual
   -- those of the `if` of an `else if`
   pub IsIfAfterElseTold : Statement → List Event → List Event → Type 0
   IsIfAfterElseTold (if_else negated e body other) before rest = (mid after : List Event)
-      × (before ≡ else_if_event negated (expression_code e) ∷ mid) × AreTold body mid after × IsElseTold other after rest
+      × (before ≡ else_if_event negated (expression_code e) ∷ mid) × AreTold body mid after
+      × IsElseTold other after rest
   IsIfAfterElseTold _ before rest = ⊥

@@ -1,5 +1,5 @@
-// The compiler: it is told of a template piece by piece, and appends the instructions of each. A jump past instructions is
-// written once they are there, and until then the block that it belongs to is on a stack.
+// The compiler: it is told of a template piece by piece, and appends the instructions of each. A jump past
+// instructions is written once they are there, and until then the block that it belongs to is on a stack.
 ghost use Rattle.std.specs.Prelude.{◌≡◌, ◌++◌, [], ◌∷◌, OnOk, MatchOption, length, slice_set};
 ghost use Rattle.upon_types.specs.AstPath.{ident_of, string_of};
 ghost use Rattle.upon_instructions.specs.Program.{instr_of, program_view};
@@ -69,14 +69,16 @@ impl Compiler {
 
     /// Appends the instructions that show an expression, and leaves none of them behind. It fails if memory is out.
     pub fn shown(&mut self, code: &mut Vec<Instr>) -> Result<(), AllocError>
-        ensures state { OnOk result (state_of self.new ≡ after (shown_event (program_view code.old.items)) (state_of self.old)) }
+        ensures state { OnOk result (state_of self.new
+            ≡ after (shown_event (program_view code.old.items)) (state_of self.old)) }
         ensures moved { OnOk result (code.new.items ≡ []) }
     {
         self.append(code)?;
         Ok(())
     }
 
-    /// Begins a `with`, whose expression has these instructions, and leaves none of them behind. It fails if memory is out.
+    /// Begins a `with`, whose expression has these instructions, and leaves none of them behind. It fails if memory
+    /// is out.
     pub fn begin_with(&mut self, code: &mut Vec<Instr>, name: Ident) -> Result<(), AllocError>
         ensures state { OnOk result (state_of self.new
             ≡ after (with_event (ident_of name) (program_view code.old.items)) (state_of self.old)) }
@@ -172,7 +174,8 @@ impl Compiler {
     fn leave(&mut self) -> Option<OpenBlock>
         ensures code { code_of self.new ≡ code_of self.old }
         ensures blocks { blocks_of self.new ≡ outer (blocks_of self.old) }
-        ensures block { MatchOption result (blocks_of self.old ≡ []) (λ block. blocks_of self.old ≡ block ∷ blocks_of self.new) }
+        ensures block { MatchOption result (blocks_of self.old ≡ [])
+            (λ block. blocks_of self.old ≡ block ∷ blocks_of self.new) }
     {
         self.blocks.pop()
     }

@@ -26,7 +26,8 @@ abbrev mutual
   -- the entries are those of the members, under the same keys
   pub AreEntriesOf : Members → Entries → Type 0
   AreEntriesOf no_members es = es ≡ no_entries
-  AreEntriesOf (member key d ms) es = (w : Val) × (fs : Entries) × IsValueOf d w × AreEntriesOf ms fs × (es ≡ entry_then key w fs)
+  AreEntriesOf (member key d ms) es =
+      (w : Val) × (fs : Entries) × IsValueOf d w × AreEntriesOf ms fs × (es ≡ entry_then key w fs)
 
 -- the value is the map that a text of TOML is, passing over a byte order mark
 abbrev pub IsDocument : List ℕ → Val → Type 0

@@ -25,7 +25,8 @@ keys_of path = slice_split (λ byte. byte == 46) path
 -- entries with another value at a key that they have
 abbrev pub replaced : List ℕ → Val → Entries → Entries
 replaced key v no_entries = no_entries
-replaced key v (entry_then other w es) = if bytes_eq key other then entry_then other v es else entry_then other w (replaced key v es)
+replaced key v (entry_then other w es) =
+    if bytes_eq key other then entry_then other v es else entry_then other w (replaced key v es)
 
 -- a map with its entries changed; any other value can't be changed so
 abbrev pub inside : (Entries → Option Entries) → Val → Option Val

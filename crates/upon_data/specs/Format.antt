@@ -21,7 +21,8 @@ format_named word =
 
 -- a path ends so, but for the case of letters
 abbrev pub has_ending : List ℕ → List ℕ → Bool
-has_ending path ending = bytes_eq (str_to_ascii_lowercase (drop (length path - length ending) path)) (str_to_ascii_lowercase ending)
+has_ending path ending =
+    bytes_eq (str_to_ascii_lowercase (drop (length path - length ending) path)) (str_to_ascii_lowercase ending)
 
 -- the format of the file at a path
 abbrev pub format_of_path : List ℕ → Option Format

@@ -60,7 +60,8 @@ impl Data {
     /// may leave some of the entries merged in.
     pub fn merge(&mut self, alloc: Global, value: Value) -> Result<(), PartFault>
         ensures ok { OnOk result (merged (view value) (data_entries self.old) ≡ Some (data_entries self.new)) }
-        ensures refused { IfErr result (λ fault. is_memory fault ≡ false → merged (view value) (data_entries self.old) ≡ None) }
+        ensures refused { IfErr result (λ fault. is_memory fault ≡ false
+            → merged (view value) (data_entries self.old) ≡ None) }
         ensures kept { IfErr result (λ fault. is_memory fault ≡ false → data_entries self.new ≡ data_entries self.old) }
     {
         match value {
@@ -92,8 +93,10 @@ impl Data {
     /// The error is `NotMap` if the path goes through a value that is no map, and `OutOfMemory`. Both leave the data as
     /// they were.
     pub fn set(&mut self, alloc: Global, path: &str, value: Value) -> Result<(), PartFault>
-        ensures ok { OnOk result (with_member (keys_of path.now) (view value) (data_entries self.old) ≡ Some (data_entries self.new)) }
-        ensures refused { IfErr result (λ fault. is_memory fault ≡ false → with_member (keys_of path.now) (view value) (data_entries self.old) ≡ None) }
+        ensures ok { OnOk result (with_member (keys_of path.now) (view value) (data_entries self.old)
+            ≡ Some (data_entries self.new)) }
+        ensures refused { IfErr result (λ fault. is_memory fault ≡ false
+            → with_member (keys_of path.now) (view value) (data_entries self.old) ≡ None) }
         ensures kept { OnErr result (data_entries self.new ≡ data_entries self.old) }
     {
         set_in(alloc, &mut self.entries, path, value)
@@ -112,7 +115,8 @@ fn merge_entries(
     entries: &mut BTreeMap<String, Value>,
     more: BTreeMap<String, Value>,
 ) -> Result<(), AllocError>
-    ensures { OnOk result (entries_view entries.new.entries ≡ entries_over (entries_view more.entries) (entries_view entries.old.entries)) }
+    ensures { OnOk result (entries_view entries.new.entries
+        ≡ entries_over (entries_view more.entries) (entries_view entries.old.entries)) }
 {
     for (key, value) in more {
         drop(entries.insert(key, value)?);
@@ -127,7 +131,8 @@ fn insert(
     key: &str,
     value: Value,
 ) -> Result<(), AllocError>
-    ensures ok { OnOk result (entries_view entries.new.entries ≡ put key.now (view value) (entries_view entries.old.entries)) }
+    ensures ok { OnOk result (entries_view entries.new.entries
+        ≡ put key.now (view value) (entries_view entries.old.entries)) }
     ensures kept { OnErr result (entries.new.entries ≡ entries.old.entries) }
 {
     drop(entries.insert(String::from_str(alloc, key)?, value)?);
@@ -142,8 +147,10 @@ fn set_in(
     path: &str,
     value: Value,
 ) -> Result<(), PartFault>
-    ensures ok { OnOk result (with_member (keys_of path.now) (view value) (entries_view entries.old.entries) ≡ Some (entries_view entries.new.entries)) }
-    ensures refused { IfErr result (λ fault. is_memory fault ≡ false → with_member (keys_of path.now) (view value) (entries_view entries.old.entries) ≡ None) }
+    ensures ok { OnOk result (with_member (keys_of path.now) (view value) (entries_view entries.old.entries)
+        ≡ Some (entries_view entries.new.entries)) }
+    ensures refused { IfErr result (λ fault. is_memory fault ≡ false
+        → with_member (keys_of path.now) (view value) (entries_view entries.old.entries) ≡ None) }
     ensures kept { OnErr result (entries_view entries.new.entries ≡ entries_view entries.old.entries) }
 {
     let Some((key, rest)) = first_key(path) else {
@@ -180,8 +187,10 @@ fn set_inside(
     path: &str,
     value: Value,
 ) -> (Value, Result<(), PartFault>)
-    ensures ok { OnOk result.1 (inside (with_member (keys_of path.now) (view value)) (view whole) ≡ Some (view result.0)) }
-    ensures refused { IfErr result.1 (λ fault. is_memory fault ≡ false → inside (with_member (keys_of path.now) (view value)) (view whole) ≡ None) }
+    ensures ok { OnOk result.1 (inside (with_member (keys_of path.now) (view value)) (view whole)
+        ≡ Some (view result.0)) }
+    ensures refused { IfErr result.1 (λ fault. is_memory fault ≡ false
+        → inside (with_member (keys_of path.now) (view value)) (view whole) ≡ None) }
     ensures kept { OnErr result.1 (view result.0 ≡ view whole) }
 {
     match whole {

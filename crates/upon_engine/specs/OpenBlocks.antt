@@ -28,8 +28,8 @@ binds name i = false
 abbrev pub blocks : List (Bor CodeInstr) → List Instr
 blocks opened = map (λ block. instr_of block.now) opened
 
--- of open blocks, the outermost first, how many there are from the outermost on that binds the name; so many are counted
--- around them
+-- of open blocks, the outermost first, how many there are from the outermost on that binds the name; so many are
+-- counted around them
 abbrev pub open_count : List ℕ → ℕ → List Instr → ℕ
 open_count name n [] = n
 open_count name n (block ∷ inner) = open_count name (block_begins (binds name block) n) inner

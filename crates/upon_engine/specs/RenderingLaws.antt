@@ -17,10 +17,12 @@ IsPlain delimiters s = NoneFrom delimiters s 0 (length s)
 
 -- a rendering of a text answers what its tree means
 abbrev pub AnswersFor : Texts → Option (List ℕ) → List ℕ → Val → Result (String Global) Error → Type 0
-AnswersFor e name source v result = (tree : Statements) → HasTree e.syntax source tree → Answers e name source tree v result
+AnswersFor e name source v result =
+    (tree : Statements) → HasTree e.syntax source tree → Answers e name source tree v result
 
 -- a writer receives what the tree of a text means
-abbrev pub SendsFor : Texts → Option (List ℕ) → List ℕ → Val → Result (Unit {0}) Error → Option (List ℕ) → Option (List ℕ)
+abbrev pub SendsFor : Texts → Option (List ℕ) → List ℕ → Val → Result (Unit {0}) Error → Option (List ℕ)
+    → Option (List ℕ)
     → Type 0
 SendsFor e name source v result old new =
     (tree : Statements) → HasTree e.syntax source tree → Sends e name source tree v result old new

@@ -30,8 +30,8 @@ abbrev pub EndsWithin : Texts → Table → Option (List ℕ) → List ℕ → S
 EndsWithin e table name source tree v n = IsSome (runs e table name source tree v n)
 
 -- A rendering of the tree of a text within limits answers what the tree means, if the machine ends within the steps and
--- the text has no more bytes; if not, it names a limit beyond which it goes. A limit of values may be named if it is set.
--- So it is whatever the table of the texts that are held.
+-- the text has no more bytes; if not, it names a limit beyond which it goes. A limit of values may be named if it is
+-- set. So it is whatever the table of the texts that are held.
 abbrev pub AnswersWithin : Texts → Limits → Option (List ℕ) → List ℕ → Statements → Val → Result (String Global) Error
     → Type 0
 AnswersWithin e limits name source tree v result =

@@ -4,8 +4,8 @@ ghost use Rattle.upon_render.specs.LoopItems.{KeysRise};
 
 use upon_types::value::Value;
 
-/// States that the keys of a map ascend, in the order of their bytes: what laws of maps ask for holds of each context that
-/// is a map, and of each map that a loop goes over.
+/// States that the keys of a map ascend, in the order of their bytes: what laws of maps ask for holds of each context
+/// that is a map, and of each map that a loop goes over.
 pub fn keys_ascend(value: &Value)
     ensures { KeysRise (view value.now) }
 {

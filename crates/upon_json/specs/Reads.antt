@@ -7,7 +7,8 @@ use Rattle.upon_json.specs.Value.{value_of, values_of, entries_over}
 use Rattle.upon_json.specs.declared.value.ReadFault.{ReadFault}
 use Rattle.upon_json.specs.declared.value.ReadFault.TheVariants.{NotJson, TooDeep, OutOfMemory}
 
--- the value that the tokens begin with, with lists and objects nested no deeper than the number, and the tokens after it
+-- the value that the tokens begin with, with lists and objects nested no deeper than the number, and the tokens after
+-- it
 abbrev pub reads : ℕ → List Token → Option (Val × List Token)
 reads depth ts = parse_map value_of (value depth ts)
 

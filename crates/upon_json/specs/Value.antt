@@ -1,5 +1,5 @@
--- The value of JSON: null is none; a number is an integer, if it is one of 64 bits, else the text that spells it; of the
--- members with one key the last counts, and the keys rise; all else is what it is.
+-- The value of JSON: null is none; a number is an integer, if it is one of 64 bits, else the text that spells it; of
+-- the members with one key the last counts, and the keys rise; all else is what it is.
 use Rattle.std.specs.Prelude.{ℕ, ◌^◌, ◌&&◌, List, length, Bool, true, false, nat_lt, nat_le, if◌then◌else◌}
 use Rattle.std.specs.Cmp.Lexicographic.{slice_cmp}
 use Rattle.std.specs.Ordering.{match_ordering, nat_cmp}

@@ -143,7 +143,8 @@ fn put(
     key: &str,
     value: Value,
 ) -> Result<(), AllocError>
-    ensures { OnOk result (entries_view entries.new.entries ≡ put key.now (view value) (entries_view entries.old.entries)) }
+    ensures { OnOk result (entries_view entries.new.entries
+        ≡ put key.now (view value) (entries_view entries.old.entries)) }
 {
     drop(entries.insert(String::from_str(alloc, key)?, value)?);
     Ok(())

@@ -54,7 +54,7 @@ module _ (marks : Marks) (ds : List DelimiterText) (s : List ℕ) (q : ℕ) (tex
       let same : q + 0 ≡ q = omega arith in
       let byte : get_or d 0 0 ≡ get_or s q 0 = occurs_reads s q d 0 occurs (texts i inside) ∙ ap (λ x. get_or s x 0) same in
       let Has : ℕ → Type 0 = λ b. HasMark marks.first b (i % 16) in
-      subst Has byte (each i inside).first
+      subst Has byte (each.texts i inside).first
 
   -- no delimiter begins where the first byte and the next share no bit
   pub apart_none : (next : ℕ) → next ≡ get_or s (q + 1) 0 → next < 256
@@ -63,4 +63,4 @@ module _ (marks : Marks) (ds : List DelimiterText) (s : List ℕ) (q : ℕ) (tex
       let d = text_at ds i in
       let follows : MayFollow next d = λ two. occurs_reads s q d 1 occurs two ∙ sym is in
       shares (get_or marks.first (get_or s q 0) 0) (get_or marks.second next 0) (i % 16) (first_marked i inside occurs)
-      ((each i inside).second next small follows) (is_zero _ apart)
+      ((each.texts i inside).second next small follows) (is_zero _ apart)

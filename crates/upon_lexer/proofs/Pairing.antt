@@ -3,7 +3,7 @@ use Rattle.std.proofs.Common.{◌≡◌, ◌⊎◌, inl, inr, ℕ, zero, suc, �
 use Rattle.memchr.specs.Find.{Passes, Nowhere, is_byte2}
 use Rattle.upon_language_spec.specs.DefaultDelimiters.{default_delimiters}
 use Rattle.upon_language_spec.specs.Search.{DelimiterText, NoneFrom, Occurs, text_at}
-use Rattle.upon_lexer.specs.Pairs.{is_pair, HasPair, NoPairWith}
+use Rattle.upon_lexer.specs.Pairs.{is_pair, HasPair, NoPairIn, NoPairWith}
 use Rattle.upon_lexer.proofs.Ways.{occurs_reads}
 
 -- a text has a pair at its begin or after its first byte
@@ -94,7 +94,7 @@ NoPairs s at end = (brace : ℕ) → brace < end → is_byte2 123 125 (get_or s 
 less_or_not : (m n : ℕ) → (m < n) ⊎ (n ≤ m)
 less_or_not m n = grind arith
 
-less_or_same : (m n : ℕ) → m < n + 1 → (m < n) ⊎ (m ≡ n)
+pub less_or_same : (m n : ℕ) → m < n + 1 → (m < n) ⊎ (m ≡ n)
 less_or_same m n l = grind arith
 
 pub none_before : (s : List ℕ) (at : ℕ) → NoPairs s at at
@@ -125,6 +125,16 @@ pub none_more : (s : List ℕ) (at end : ℕ) → NoPairs s at end → NoPairWit
 none_more s at end pairs here j below brace = elim (less_or_same j end below) [
   | inl less ↦ pairs j less brace
   | inr same ↦ let With : ℕ → Type 0 = λ x. NoPairWith s at x in subst With (sym same) here
+]
+
+-- no brace of a block that was passed belongs to a pair
+pub none_passed : (s : List ℕ) (at end to : ℕ) → at ≤ end → NoPairs s at (end + 1) → NoPairWith s at end → NoPairIn s (end + 1) to → NoPairs s at to
+none_passed s at end to low pairs here none j below brace q after from near has = elim (less_or_not j (end + 1)) [
+  | inl less ↦ pairs j less brace q after from near has
+  | inr later ↦ elim (less_or_not q (end + 1)) [
+    | inl less ↦ here q after (omega (arith, less)) (omega (arith, later, near)) has
+    | inr more ↦ none q more (omega (arith, from, below)) has
+  ]
 ]
 
 -- no pair begins before an offset, if no brace before it or at it belongs to one

@@ -30,7 +30,10 @@ path_end nodes n (b ∷ t) = path_end (with_child nodes n b) (made_child nodes n
 
 -- a list of nodes where a node holds a delimiter's index, unless it held one
 unfoldable pub marked : List Node → ℕ → ℕ → List Node
-marked nodes n i = cond (is_some (node_at nodes n).pair) nodes (slice_set nodes n (record (node_at nodes n) { pair = Some i }))
+marked nodes n i = cond (is_some (node_at nodes n).pair) nodes (slice_set nodes n (record (node_at nodes n) {
+  pair =
+      Some i;
+}))
 
 -- a trie with one text more
 abbrev pub with_text : List Node → List ℕ → ℕ → List Node

@@ -19,5 +19,7 @@ pub mod Pairs
 pub mod DefaultBest
 pub mod Plain
 pub mod FewBytes
+pub mod ByteSet
+pub mod Begins
 pub mod Marks
 pub mod Ways

@@ -2,6 +2,7 @@
 use Rattle.std.specs.Prelude.{◌≡◌, ℕ, ◌<◌, ◌%◌, List, length, slice_index, slice_index_or}
 use Rattle.std.specs.Int.{bit_at}
 use Rattle.upon_language_spec.specs.Search.{DelimiterText, text_at}
+use Rattle.upon_lexer.specs.Begins.{MayBeginEach}
 use Rattle.upon_lexer.specs.declared.compile.marks.Marks.{Marks}
 
 -- a table has a bit for a byte
@@ -17,6 +18,7 @@ pub record MarksText (marks : Marks) (bit : ℕ) (text : List ℕ) : Type 0 wher
   pub first : HasMark marks.first (slice_index text 0) bit
   pub second : (b : ℕ) → b < 256 → MayFollow b text → HasMark marks.second b bit
 
--- each delimiter is marked with the bit of its index
-abbrev pub MarksEach : Marks → List DelimiterText → Type 0
-MarksEach marks delimiters = (i : ℕ) → i < length delimiters → MarksText marks (i % 16) (text_at delimiters i)
+-- each delimiter is marked with the bit of its index, and begins as is known
+pub record MarksEach (marks : Marks) (delimiters : List DelimiterText) : Type 0 where
+  pub texts : (i : ℕ) → i < length delimiters → MarksText marks (i % 16) (text_at delimiters i)
+  pub begins : MayBeginEach marks.begins delimiters

@@ -1,6 +1,8 @@
 // The steps from a template's text to its tokens.
+mod begins;
 mod braces;
 mod brackets;
+mod byte_set;
 pub mod chars;
 mod fault;
 mod few_bytes;

@@ -11,7 +11,8 @@ loop_binds name (item word) = bytes_eq (codes "loop") name || bytes_eq word.text
 loop_binds name (key_value key value both) =
     bytes_eq (codes "loop") name || (bytes_eq key.text name || bytes_eq value.text name)
 
--- of the open blocks, how many there are from the outermost on that binds the name: one more block, which binds it or not
+-- of the open blocks, how many there are from the outermost on that binds the name: one more block, which binds it or
+-- not
 abbrev pub block_begins : Bool → ℕ → ℕ
 block_begins binds zero = if binds then 1 else 0
 block_begins binds (suc n) = suc (suc n)
@@ -24,7 +25,8 @@ count_after name at (loop_start names span) n = block_begins (loop_binds name na
 count_after name at (jump to) n = if leb to at then n - 1 else n
 count_after name at i n = n
 
--- the instructions, the first of which has this number, that no open block binds the name for; so many are open at first
+-- the instructions, the first of which has this number, that no open block binds the name for; so many are open at
+-- first
 abbrev pub unbound : List ℕ → ℕ → ℕ → List Instr → List Instr
 unbound name at n [] = []
 unbound name at zero (i ∷ is) = i ∷ unbound name (at + 1) (count_after name at i zero) is

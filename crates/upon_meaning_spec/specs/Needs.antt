@@ -1,5 +1,5 @@
--- What a template needs of its context: the names that begin a path outside of each `with` and `for` that binds them, in
--- it, or in what it includes there without a value; and the whole context where an index begins a path.
+-- What a template needs of its context: the names that begin a path outside of each `with` and `for` that binds them,
+-- in it, or in what it includes there without a value; and the whole context where an index begins a path.
 use Rattle.std.specs.Prelude.{◌≡◌, ◌⊎◌, ℕ, List, [], ◌∷◌, Option, Some, None, codes}
 use Rattle.upon_types.specs.Expression.{Expression, base, filtered, Base, var, literal, list, mapping, paren, call, Bases, no_bases, base_then, Items, no_items, item_then, Arguments, no_arguments, arguments}
 use Rattle.upon_types.specs.Path.{Access, by_index, by_key, LoopVars, item, key_value}
@@ -113,8 +113,8 @@ abbrev mutual
   ElsePasses start via no_else = ⊥
   ElsePasses start via (otherwise body) = StatementsPass start via body
 
--- the tree passes it to the first of these templates, which the table holds, that one to the next, and so on to the last,
--- where it begins a path
+-- the tree passes it to the first of these templates, which the table holds, that one to the next, and so on to the
+-- last, where it begins a path
 abbrev pub NeedsBy : Table → Statements → List (List ℕ) → Start → Type 0
 NeedsBy table tree [] start = StatementsBegin start tree
 NeedsBy table tree (via ∷ names) start = StatementsPass start via tree ×

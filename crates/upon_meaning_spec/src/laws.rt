@@ -73,8 +73,8 @@ pub fn value_source_stays<V, T>()
         → (alone rendering t name (context v) s).next.values ≡ s.values }
 {}
 
-/// States that an include with a value never asks the value source below itself: in a rendering over a value source too,
-/// the source's state is afterwards as the include's value left it.
+/// States that an include with a value never asks the value source below itself: in a rendering over a value source
+/// too, the source's state is afterwards as the include's value left it.
 pub fn included_asks_nothing<V, T>()
     ensures { (calls : Calls V) (resolve : Resolver T) (running : RunningTemplate) (left : ℕ) (word : Ident)
         (e : Expression) (env : Environment) (s : States V T) (v : Val) (t : Template) (next : States V T)

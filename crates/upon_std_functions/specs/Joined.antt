@@ -25,7 +25,8 @@ abbrev pub piece_then : List ℕ → Option (List ℕ) → Val → Result (List 
 piece_then before (Some text) v rest = prefixed (before ++ text) rest
 piece_then before None v rest = Err v
 
--- the texts of values, one text before the first and the separator before each other, or the first value that is no text
+-- the texts of values, one text before the first and the separator before each other, or the first value that is no
+-- text
 abbrev pub joined_from : List ℕ → List ℕ → List Val → Result (List ℕ) Val
 joined_from before separator [] = Ok []
 joined_from before separator (v ∷ vs) = piece_then before (text_in v) v (joined_from separator separator vs)

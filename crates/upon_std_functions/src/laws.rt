@@ -10,8 +10,8 @@ ghost use Rattle.upon_std_functions.specs.Items.{reversed};
 ghost use Rattle.upon_std_functions.specs.Order.{order_of, relation_holds};
 ghost use Rattle.upon_std_functions.specs.declared.order.Relation.TheVariants.{Less, LessOrEqual, Greater, GreaterOrEqual};
 
-/// States that two integers, and two texts, are ordered in one direction as in the other, turned: `lt(a, b)` is `gt(b, a)`, and `le(a, b)`
-/// is `ge(b, a)`.
+/// States that two integers, and two texts, are ordered in one direction as in the other, turned: `lt(a, b)` is
+/// `gt(b, a)`, and `le(a, b)` is `ge(b, a)`.
 pub fn order_is_turned()
     ensures integers { (y z : ℤ)
         → order_of (int_val z) (int_val y) ≡ option_map ordering_reverse (order_of (int_val y) (int_val z)) }

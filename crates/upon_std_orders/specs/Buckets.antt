@@ -26,7 +26,8 @@ stored buckets numbers = unwrap_or (option_map (λ bucket. lent_vals bucket.item
 
 -- at the spelling of each value the values are stored of which it is the key
 abbrev pub HoldsMembers : BTreeMap (Vec ℕ Global) (Vec (Bor Value) Global) → (Val → Val) → List Val → Type 0
-HoldsMembers buckets key vs = (numbers : Vec ℕ Global) (k : Val) → numbers.items ≡ spelling k → stored buckets numbers ≡ members key k vs
+HoldsMembers buckets key vs =
+    (numbers : Vec ℕ Global) (k : Val) → numbers.items ≡ spelling k → stored buckets numbers ≡ members key k vs
 
 -- values are those that are stored at the spelling of a key
 abbrev pub IsBucketOf : BTreeMap (Vec ℕ Global) (Vec (Bor Value) Global) → Val → List Val → Type 0

@@ -32,5 +32,6 @@ unique_outcome ws = refusal []
 
 -- the outcome of `group_by`: the items in groups, by what is at a key of them
 abbrev pub group_by_outcome : List Val → Outcome
-group_by_outcome ((list_val vs) ∷ (text_val name) ∷ ws) = value (list_val (vals_of (grouped (at_key name) (val_list vs))))
+group_by_outcome ((list_val vs) ∷ (text_val name) ∷ ws) =
+    value (list_val (vals_of (grouped (at_key name) (val_list vs))))
 group_by_outcome ws = refusal []

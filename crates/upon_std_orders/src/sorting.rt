@@ -32,7 +32,8 @@ pub(crate) fn sorted(
 
 // The refusal to sort items, if the key of one cannot be compared with the key of the first.
 fn refusal(alloc: Global, items: &[Value], key: Key) -> Result<Option<String>, AllocError>
-    ensures { IfOk result (λ text. option_map string_bytes text ≡ keys_refusal (map (key_val key.entry) (map view items.now))) }
+    ensures { IfOk result (λ text. option_map string_bytes text
+        ≡ keys_refusal (map (key_val key.entry) (map view items.now))) }
 {
     let Some((first, others)) = items.split_first() else {
         return Ok(None);

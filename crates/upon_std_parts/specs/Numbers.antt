@@ -24,10 +24,11 @@ most_items = 1000000
 
 -- what is made of a sum, or the refusal of one that 64 bits do not hold
 abbrev pub if_held : {A : Type 0} → ℤ → Result A (List ℕ) → Result A (List ℕ)
-if_held z made = if int_le i64_range.least z && int_le z i64_range.greatest then made else Err (codes "integer overflow")
+if_held z made =
+    if int_le i64_range.least z && int_le z i64_range.greatest then made else Err (codes "integer overflow")
 
--- the sum of integers, on top of what stands to their left, or the text of the refusal: of the first sum that 64 bits do not hold, or of
--- the first value that is no integer, whichever comes first
+-- the sum of integers, on top of what stands to their left, or the text of the refusal: of the first sum that 64 bits
+-- do not hold, or of the first value that is no integer, whichever comes first
 abbrev pub summed : ℤ → List Val → Result ℤ (List ℕ)
 summed total [] = Ok total
 summed total ((int_val z) ∷ vs) = if_held (total +ℤ z) (summed (total +ℤ z) vs)

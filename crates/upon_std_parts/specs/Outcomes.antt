@@ -12,7 +12,8 @@ use Rattle.upon_std_parts.specs.Pieces.{pieces, replaced, indented, limited}
 -- the outcome of `range`: the integers from one up to but not another
 abbrev pub range_outcome : List Val → Outcome
 range_outcome ((int_val y) ∷ (int_val z) ∷ vs) = if nat_lt most_items (range_count y z)
-    then refusal (codes "range has more than 1000000 items") else value (list_val (vals_of (integers_from y (range_count y z))))
+    then refusal (codes "range has more than 1000000 items")
+    else value (list_val (vals_of (integers_from y (range_count y z))))
 range_outcome vs = refusal []
 
 -- the outcome of `slice`: the items from an index up to but not another
@@ -64,10 +65,12 @@ text_or message None = refusal message
 -- the outcome of `replace`: a text with another in place of each that is found
 abbrev pub replace_outcome : List Val → Outcome
 replace_outcome ((text_val s) ∷ (text_val from) ∷ (text_val to) ∷ vs) = if length from == 0
-    then refusal (codes "replace needs a text to replace") else text_or (codes "replace makes more than 1000000 bytes") (limited (replaced from to s))
+    then refusal (codes "replace needs a text to replace")
+    else text_or (codes "replace makes more than 1000000 bytes") (limited (replaced from to s))
 replace_outcome vs = refusal []
 
 -- the outcome of `indent`: a text with blanks before its lines
 abbrev pub indent_outcome : List Val → Outcome
-indent_outcome ((text_val s) ∷ (int_val (pos width)) ∷ vs) = text_or (codes "indent makes more than 1000000 bytes") (limited (indented width s))
+indent_outcome ((text_val s) ∷ (int_val (pos width)) ∷ vs) =
+    text_or (codes "indent makes more than 1000000 bytes") (limited (indented width s))
 indent_outcome vs = refusal []

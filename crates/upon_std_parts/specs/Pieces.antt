@@ -2,8 +2,8 @@
 use Rattle.std.specs.Prelude.{◌≡◌, ℕ, zero, suc, ◌-◌, ◌≤◌, ◌<◌, Bool, true, false, ◌||◌, List, [], ◌∷◌, ◌++◌, Option, Some, None, length, replicate, nat_eq, nat_le, ◌==◌, codes, if◌then◌else◌}
 use Rattle.std.specs.List.{starts_with, onto_first}
 
--- the parts of a text between the places where the separator stands, found from the left; while some bytes are left of one that was found,
--- these are passed
+-- the parts of a text between the places where the separator stands, found from the left; while some bytes are left
+-- of one that was found, these are passed
 abbrev pub pieces_after : ℕ → List ℕ → List ℕ → List (List ℕ)
 pieces_after passed separator [] = [] ∷ []
 pieces_after zero separator (c ∷ cs) = if starts_with nat_eq (c ∷ cs) separator

@@ -14,7 +14,8 @@ pub(crate) fn concatenated(
     mut first: Vec<Value>,
     mut second: Vec<Value>,
 ) -> Result<Vec<Value>, AllocError>
-    ensures { IfOk result (λ made. vals_view made.items ≡ concatenated (vals_view first.items) (vals_view second.items)) }
+    ensures { IfOk result (λ made. vals_view made.items
+        ≡ concatenated (vals_view first.items) (vals_view second.items)) }
 {
     first.append(&mut second)?;
     Ok(first)

@@ -29,16 +29,16 @@ pub enum Parts {
     /// `where(a, key, b)` returns the items of a list that have the value `b` at the key. An item with nothing there
     /// has none.
     Where,
-    /// `sum(a)` returns the sum of a list of integers. It refuses a sum that 64 bits do not hold, and a list with another
-    /// value, with a message that names its kind.
+    /// `sum(a)` returns the sum of a list of integers. It refuses a sum that 64 bits do not hold, and a list with
+    /// another value, with a message that names its kind.
     Sum,
     /// `split(a, separator)` returns the texts that stand between the separators in a text. It refuses an empty
     /// separator.
     Split,
     /// `lines(a)` returns the lines of a text, without what ends them.
     Lines,
-    /// `replace(a, from, to)` returns a text with `to` in place of each `from` in it. It refuses an empty `from`, and to
-    /// make more than 1000000 bytes.
+    /// `replace(a, from, to)` returns a text with `to` in place of each `from` in it. It refuses an empty `from`, and
+    /// to make more than 1000000 bytes.
     Replace,
     /// `indent(a, width)` returns a text with so many blanks before each line, but the first and those that are empty.
     /// It refuses to make more than 1000000 bytes.

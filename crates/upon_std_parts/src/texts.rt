@@ -62,7 +62,8 @@ pub(crate) fn replaced(
 
 // Appends a piece after another text, unless too many bytes come of it, and returns whether it did.
 fn push_piece(made: &mut String, before: &str, piece: &str) -> Result<bool, AllocError>
-    ensures { IfOk result (λ pushed. Appends pushed (string_bytes made.old) (string_bytes made.new) (before.now ++ piece.now)) }
+    ensures { IfOk result (λ pushed. Appends pushed (string_bytes made.old) (string_bytes made.new)
+        (before.now ++ piece.now)) }
 {
     let size = made
         .len()
@@ -102,7 +103,8 @@ fn push_line(
     width: usize,
     line: &str,
 ) -> Result<bool, AllocError>
-    ensures { IfOk result (λ pushed. Appends pushed (string_bytes made.old) (string_bytes made.new) (line_after is_first width line.now)) }
+    ensures { IfOk result (λ pushed. Appends pushed (string_bytes made.old) (string_bytes made.new)
+        (line_after is_first width line.now)) }
 {
     let end = if is_first { "" } else { "\n" };
     let blanks = if is_first || line.is_empty() {

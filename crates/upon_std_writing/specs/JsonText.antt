@@ -46,7 +46,8 @@ abbrev mutual
   -- the texts of entries, the first of which is the first of the map or not
   pub json_entries : Entries → Bool → List ℕ
   json_entries no_entries is_first = []
-  json_entries (entry_then key v es) is_first = before is_first ++ (key_text key ++ (json_text v ++ json_entries es false))
+  json_entries (entry_then key v es) is_first =
+      before is_first ++ (key_text key ++ (json_text v ++ json_entries es false))
 
 -- the text of a list
 abbrev pub list_text : Vals → List ℕ

@@ -17,7 +17,8 @@ padding_outcome pad vs = refusal []
 
 -- the outcome of `truncate`
 abbrev pub truncate_outcome : List Val → Outcome
-truncate_outcome ((text_val text) ∷ (int_val (pos n)) ∷ vs) = value (text_val (encode_utf8_all (truncated n (chars text))))
+truncate_outcome ((text_val text) ∷ (int_val (pos n)) ∷ vs) =
+    value (text_val (encode_utf8_all (truncated n (chars text))))
 truncate_outcome vs = refusal []
 
 -- the outcome of a function that encodes the bytes of a text

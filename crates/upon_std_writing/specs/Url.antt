@@ -6,7 +6,8 @@ use Rattle.std.specs.Str.{byte}
 
 -- letters, digits and `-._~`, which stand for themselves everywhere (section 2.3)
 abbrev pub is_unreserved : ℕ → Bool
-is_unreserved b = is_ascii_alphanumeric b || ((b == byte "-") || ((b == byte ".") || ((b == byte "_") || (b == byte "~"))))
+is_unreserved b =
+    is_ascii_alphanumeric b || ((b == byte "-") || ((b == byte ".") || ((b == byte "_") || (b == byte "~"))))
 
 -- `%` and the two hexadecimal digits of a byte, in upper case
 abbrev pub escaped_byte : ℕ → List ℕ

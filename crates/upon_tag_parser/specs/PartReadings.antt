@@ -47,5 +47,6 @@ pub record BaseTaken (s : List ℕ) (from others : List Part) (all now : List Le
 -- arguments were read up to an argument's start
 pub record ArgsTo (s : List ℕ) (values : List Base) (all now : List Lexeme) : Type 0 where
   pub body : (more : Bases) (rest : List Lexeme) → IsArgs s more now rest → IsArgs s (bases_before values more) all rest
-  pub starts : (from parts : List Part) → TakesComma parts → StartsBase s from parts all → BaseStart s from parts all now
+  pub starts : (from parts : List Part) → TakesComma parts → StartsBase s from parts all
+      → BaseStart s from parts all now
   pub takes : (from parts : List Part) → TakesComma parts → TakesBase from parts → BaseTaken s from parts all now

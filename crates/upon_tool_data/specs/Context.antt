@@ -13,7 +13,8 @@ use Rattle.upon_tool_data.specs.declared.settings.Writing.TheVariants.{Text, Jso
 -- standard input had left and has left, if that is known; with the values of JSON set over them, and then the texts.
 abbrev pub IsContext : Bool → List (Bor (List ℕ)) → Option (Bor (List ℕ)) → List (Bor (List ℕ)) → List (Bor (List ℕ))
     → Option (List ℕ) → Val → Option (List ℕ) → Type 0
-IsContext env files format values texts input v later = (start : Entries) × (es : Entries) × (mid : Entries) × (new : Entries)
+IsContext env files format values texts input v later =
+    (start : Entries) × (es : Entries) × (mid : Entries) × (new : Entries)
     × HasEnvironment env start × AddsFiles (format_asked format) files input start later es
     × (set_each Json values es ≡ Some mid) × (set_each Text texts mid ≡ Some new) × (v ≡ map_val new)
 

@@ -12,7 +12,8 @@ use Rattle.upon_tool_data.specs.declared.fault.ContextFault.{ContextFault}
 use Rattle.upon_tool_data.specs.declared.fault.ContextFault.TheVariants.{LacksText, LacksValue, InputTwice, Unreadable, NotText}
 use Rattle.upon_tool_data.specs.declared.fault.ContextFault.TheVariants.{NotOfFormat, NotObject, NotJson, NotMap, OutOfMemory}
 
--- The value is what the text of a file is in its format, by what standard input had left and has left, if that is known.
+-- The value is what the text of a file is in its format, by what standard input had left and has left, if that is
+-- known.
 abbrev pub IsRead : Format → List ℕ → Option (List ℕ) → Val → Option (List ℕ) → Type 0
 IsRead format name input v later = (text : List ℕ) × IsTextOf name input text × IsValueIn format text v
     × (is_standard name ≡ false → later ≡ input)
@@ -25,10 +26,12 @@ with_value (Some key) v es = Some (put key v es)
 -- the value of a word's file is added to entries
 abbrev pub AddsFile : Option Format → List ℕ → Option (List ℕ) → Entries → Option (List ℕ) → Entries → Type 0
 AddsFile given word input old later new =
-    (v : Val) × IsRead (format_for given (file_of word)) (file_of word) input v later × (with_value (key_of word) v old ≡ Some new)
+    (v : Val) × IsRead (format_for given (file_of word)) (file_of word) input v later
+    × (with_value (key_of word) v old ≡ Some new)
 
 -- the values of the files are added, one after the other
-abbrev pub AddsFiles : Option Format → List (Bor (List ℕ)) → Option (List ℕ) → Entries → Option (List ℕ) → Entries → Type 0
+abbrev pub AddsFiles : Option Format → List (Bor (List ℕ)) → Option (List ℕ) → Entries → Option (List ℕ) → Entries
+    → Type 0
 AddsFiles given [] input old later new = (later ≡ input) × (new ≡ old)
 AddsFiles given (word ∷ words) input old later new = (next : Option (List ℕ)) × (mid : Entries)
     × AddsFile given word.now input old next mid × AddsFiles given words next mid later new

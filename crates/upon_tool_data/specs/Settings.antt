@@ -56,7 +56,8 @@ RefusesValue writing word text (NotOfFormat name refusal) = ⊥
 RefusesValue writing word text (NotObject name) = ⊥
 RefusesValue writing word text (NotMap told) = ⊥
 
--- A word has no `=`; or what follows that is no JSON; or its path goes through a value that is no map; or memory is out.
+-- A word has no `=`; or what follows that is no JSON; or its path goes through a value that is no map; or memory is
+-- out.
 abbrev pub RefusesSetting : Writing → Bor (List ℕ) → Entries → ContextFault → Type 0
 RefusesSetting writing word es (LacksText told) = (told ≡ word) × (writing ≡ Text) × (has_equals word.now ≡ false)
 RefusesSetting writing word es (LacksValue told) = (told ≡ word) × (writing ≡ Json) × (has_equals word.now ≡ false)

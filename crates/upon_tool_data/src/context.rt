@@ -13,10 +13,10 @@ use std::io::Read;
 use std::rt::Files;
 use upon_types::value::Value;
 
-/// Returns the map that the words of a call say: the environment, if it is asked for; over it the files of `--data`, one
-/// after the other, of which the entries of a later one win, and which are put at their keys if these are given; then the
-/// values of `--set-json`, and then those of `--set`, one after the other, each at its path. The files that are read are
-/// closed, and their texts let go.
+/// Returns the map that the words of a call say: the environment, if it is asked for; over it the files of `--data`,
+/// one after the other, of which the entries of a later one win, and which are put at their keys if these are given;
+/// then the values of `--set-json`, and then those of `--set`, one after the other, each at its path. The files that
+/// are read are closed, and their texts let go.
 ///
 /// The error says which file or word gives no context. [`check`](crate::words::check) finds before anything is read
 /// what is wrong with the words alone, but for values that are no JSON.

@@ -24,11 +24,12 @@ pub struct DataWords<'a, 'w> {
 
 /// Checks the words, before anything is read. Standard input can be a template's file too.
 ///
-/// The error is `InputTwice` if standard input is asked for twice, and `LacksValue` or `LacksText` if a word that is to set
-/// a value has no `=`.
+/// The error is `InputTwice` if standard input is asked for twice, and `LacksValue` or `LacksText` if a word that is
+/// to set a value has no `=`.
 pub fn check<'a>(words: &DataWords<'a, '_>, is_input_taken: bool) -> Result<(), ContextFault<'a>>
     ensures right { OnOk result (AreRight is_input_taken words.now.files.now words.now.values.now words.now.texts.now) }
-    ensures refused { IfErr result (IsWrong is_input_taken words.now.files.now words.now.values.now words.now.texts.now) }
+    ensures refused { IfErr result (IsWrong is_input_taken words.now.files.now words.now.values.now
+        words.now.texts.now) }
 {
     if asks_again(is_input_taken, words.files) {
         return Err(ContextFault::InputTwice);

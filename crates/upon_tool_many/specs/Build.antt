@@ -47,8 +47,8 @@ IsPageText e asked context source result = (text : Result (String Global) PageFa
 abbrev pub IsUnread : PageEnd → Type 0
 IsUnread end = (fault : ReadFault) × (end ≡ Failed (Unread fault))
 
--- How the page of a file ends, by whether that is a template: by the text of what was read; or by the bytes; or the file
--- was not read.
+-- How the page of a file ends, by whether that is a template: by the text of what was read; or by the bytes; or the
+-- file was not read.
 abbrev pub EndsOfRead : Bool → Texts → Build → Val → PageEnd → Type 0
 EndsOfRead false e asked context end = IsOfWriting end ⊎ IsUnread end
 EndsOfRead true e asked context end = ((source : List ℕ) × (text : Result (String Global) PageFault)
@@ -78,11 +78,12 @@ abbrev pub RefusesSame : List (List ℕ) → BuildFault → Type 0
 RefusesSame names (FolderUnread fault) = ⊥
 RefusesSame names OutInSource = ⊥
 RefusesSame names (Twice name) =
-    (first : ℕ) × (second : ℕ) × IsFirstAgain names (Some (first, second)) × (string_bytes name ≡ slice_index_or names second [])
+    (first : ℕ) × (second : ℕ) × IsFirstAgain names (Some (first, second))
+    × (string_bytes name ≡ slice_index_or names second [])
 RefusesSame names OutOfMemory = Unit {0}
 
--- why nothing is built: the folder was not read; or that of the pages is in it; or two pages of its files have one name;
--- or memory was out
+-- why nothing is built: the folder was not read; or that of the pages is in it; or two pages of its files have one
+-- name; or memory was out
 abbrev pub RefusesBuild : BuildFault → Type 0
 RefusesBuild (FolderUnread fault) = Unit {0}
 RefusesBuild OutInSource = Unit {0}

@@ -18,7 +18,8 @@ use Rattle.upon_tool_many.specs.declared.pages.PageFault.{PageFault}
 -- this is what is answered on the value of an item, or memory was out
 abbrev pub IsItemAnswer : (Val → Result (String Global) PageFault → Type 0) → Entries → Val
     → Result (String Global) PageFault → Type 0
-IsItemAnswer Answers others item result = ((v : Val) × IsItemValue others item v × Answers v result) ⊎ IsMemoryOut result
+IsItemAnswer Answers others item result =
+    ((v : Val) × IsItemValue others item v × Answers v result) ⊎ IsMemoryOut result
 
 -- this is the name of the page of an item: what the text of a template of names answers for it
 abbrev pub IsItemName : Texts → Each → Entries → Val → Result (String Global) PageFault → Type 0
@@ -43,8 +44,8 @@ DoesItem e asked others page done = (done.name ≡ page.name) × ((text : Result
 abbrev pub NamesItems : Texts → Each → Entries → List Value → List (Page Value) → Type 0
 NamesItems e asked others items pages = EachWith (NamesItem e asked others) items pages
 
--- A template is rendered for each item: the context has a list at the key; each item has a page with a name; no two names
--- are equal; and these pages are done in the order of the items.
+-- A template is rendered for each item: the context has a list at the key; each item has a page with a name; no two
+-- names are equal; and these pages are done in the order of the items.
 pub record DoesEach (e : Texts) (asked : Each) (context : Val) (done : List DonePage) : Type 0 where
   pub others : Entries
   pub items : List Value
@@ -81,7 +82,8 @@ RefusesTwice names OutOfMemory = Unit {0}
 
 -- Why no page is rendered: the context has no list at the key; or the names of the items of that list are refused.
 abbrev pub RefusesEach : Texts → Each → Val → EachFault → Type 0
-RefusesEach e asked context fault = ((fault ≡ NoList) × ((items : Vals) → key_of asked.key.now context ≡ Some (list_val items) → ⊥))
+RefusesEach e asked context fault =
+    ((fault ≡ NoList) × ((items : Vals) → key_of asked.key.now context ≡ Some (list_val items) → ⊥))
     ⊎ ((others : Entries) × (items : List Value) × IsSplit asked.key.now context others (vals_view items)
     × (RefusesNames e asked others items fault
     ⊎ ((pages : List (Page Value)) × NamesItems e asked others items pages × RefusesTwice (page_names pages) fault)))

@@ -32,7 +32,8 @@ has_stem stem = not (length stem == 0) && not (ends_with nat_eq stem (byte "/" �
 
 -- the name of the page that a template's file is rendered to: its path without the extension, if it has that
 abbrev pub page_name : List ℕ → Option (List ℕ)
-page_name path = if ends_with nat_eq path extension && has_stem (without_extension path) then Some (without_extension path) else None
+page_name path =
+    if ends_with nat_eq path extension && has_stem (without_extension path) then Some (without_extension path) else None
 
 -- the names of pages
 abbrev pub page_names : {T : Type 0} → List (Page T) → List (List ℕ)

@@ -25,7 +25,8 @@ as_page (Ok text) = Ok text
 as_page (Err error) = Err (Fault error)
 
 -- what the tree of a text answers on a value, within limits if there are some
-abbrev pub AnswersIn : Option Limits → Texts → Option (List ℕ) → List ℕ → Statements → Val → Result (String Global) Error
+abbrev pub AnswersIn : Option Limits → Texts → Option (List ℕ) → List ℕ → Statements → Val
+    → Result (String Global) Error
     → Type 0
 AnswersIn None e name text tree v answer = Answers e name text tree v answer
 AnswersIn (Some limits) e name text tree v answer = AnswersWithin e limits name text tree v answer
@@ -40,7 +41,8 @@ IsHeldText limits e name v result = (held : Stored) (tree : Statements) → e.te
 -- this is what the tree of a text answers on a value, if it has one; if not, it is a fault of the text
 abbrev pub IsSourceText : Option Limits → Texts → List ℕ → Val → Result (String Global) PageFault → Type 0
 IsSourceText limits e source v result = ((tree : Statements) → HasTree e.syntax source tree
-    → (answer : Result (String Global) Error) × AnswersIn limits e None source tree v answer × (result ≡ as_page answer))
+    → (answer : Result (String Global) Error) × AnswersIn limits e None source tree v answer
+    × (result ≡ as_page answer))
     × (((tree : Statements) → HasTree e.syntax source tree → ⊥)
     → (error : Error) × IsSyntaxError e.syntax source error × (result ≡ Err (Fault error)))
 

@@ -20,8 +20,8 @@ IsMapOfKeys at (int_val n) = ⊥
 IsMapOfKeys at (text_val text) = ⊥
 IsMapOfKeys at (list_val vs) = ⊥
 
--- what is at a key on the page of an item: the item itself at its own key; else what the item has there, if it is a map;
--- else what the context has there beside the list
+-- what is at a key on the page of an item: the item itself at its own key; else what the item has there, if it is a
+-- map; else what the context has there beside the list
 abbrev pub at_item : Entries → Val → List ℕ → Option Val
 at_item others item key = if bytes_eq key item_key then Some item else or_else (key_of key item) (entry_at key others)
 

@@ -83,10 +83,10 @@ impl<T: Drop> From<AllocFailed<T>> for BuildFault {
     }
 }
 
-/// Builds a folder into another: each file with the extension `.upon` is a template, whose text on the context is written
-/// to its path without that extension; each other file is copied to its path. If there is a layout, it is rendered on the
-/// context with the text under `content`, and what comes of that is the page's. Returns the pages that are done, in the
-/// order of the files' paths: if one failed, those after it only if this is asked for.
+/// Builds a folder into another: each file with the extension `.upon` is a template, whose text on the context is
+/// written to its path without that extension; each other file is copied to its path. If there is a layout, it is
+/// rendered on the context with the text under `content`, and what comes of that is the page's. Returns the pages
+/// that are done, in the order of the files' paths: if one failed, those after it only if this is asked for.
 pub fn build_folder<R: Files + AllocGlobal + Clone + Drop, P: Progress>(
     rt: &R,
     engine: &Engine<'_>,
@@ -176,7 +176,8 @@ fn build_all<R: Files + AllocGlobal, P: Progress>(
     progress: &mut P,
 ) -> Result<Vec<DonePage>, AllocError>
     ensures { IfOk result (λ done. DoneInOrder asked.now.keep_going
-        (DoesPage (⟦<AnyEngine as EngineTexts>⟧.texts engine.now) asked.now (view context.now)) pages.items done.items) }
+        (DoesPage (⟦<AnyEngine as EngineTexts>⟧.texts engine.now) asked.now (view context.now)) pages.items
+        done.items) }
 {
     let alloc = rt.alloc();
     let all = pages.len();
@@ -294,7 +295,8 @@ fn page_text(
     context: &Value,
     source: &str,
 ) -> Result<String, PageFault>
-    ensures { IsPageText (⟦<AnyEngine as EngineTexts>⟧.texts engine.now) asked.now (view context.now) source.now result }
+    ensures { IsPageText (⟦<AnyEngine as EngineTexts>⟧.texts engine.now) asked.now (view context.now) source.now
+        result }
 {
     match source_text(engine, asked.limits, source, context) {
         Ok(text) => framed_text(alloc, engine, asked, context, text),

@@ -70,8 +70,8 @@ impl<T: Drop> From<AllocFailed<T>> for EachFault {
 
 /// Renders a template once for each item of a list of the context, on the entries of the item over the others of the
 /// context, to the file of the name that another template has on the same value. If a name is refused, nothing is
-/// written. It tells after each page how many are done. Returns the pages that are done, in the order of the items: if one failed, those after it only if this is
-/// asked for.
+/// written. It tells after each page how many are done. Returns the pages that are done, in the order of the items:
+/// if one failed, those after it only if this is asked for.
 pub fn render_each<R: Files + AllocGlobal, P: Progress>(
     rt: &R,
     engine: &Engine<'_>,
@@ -81,7 +81,8 @@ pub fn render_each<R: Files + AllocGlobal, P: Progress>(
 ) -> Result<Vec<DonePage>, EachFault>
     ensures done { IfOk result
         (λ done. DoesEach (⟦<AnyEngine as EngineTexts>⟧.texts engine.now) asked.now (view context) done.items) }
-    ensures refused { IfErr result (RefusesEach (⟦<AnyEngine as EngineTexts>⟧.texts engine.now) asked.now (view context)) }
+    ensures refused { IfErr result (RefusesEach (⟦<AnyEngine as EngineTexts>⟧.texts engine.now) asked.now
+        (view context)) }
 {
     let alloc = rt.alloc();
     let Some((others, items)) = split(context, asked.key) else {
@@ -192,7 +193,8 @@ fn render_all<R: Files + AllocGlobal, P: Progress>(
     progress: &mut P,
 ) -> Result<Vec<DonePage>, AllocError>
     ensures { IfOk result (λ done. DoneInOrder asked.now.keep_going
-        (DoesItem (⟦<AnyEngine as EngineTexts>⟧.texts engine.now) asked.now (entries_view others.now.entries)) pages.items done.items) }
+        (DoesItem (⟦<AnyEngine as EngineTexts>⟧.texts engine.now) asked.now (entries_view others.now.entries))
+        pages.items done.items) }
 {
     let alloc = rt.alloc();
     let all = pages.len();

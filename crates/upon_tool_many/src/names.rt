@@ -8,8 +8,8 @@ use crate::pages::Page;
 use std::alloc::{AllocError, Global};
 use std::collections::BTreeMap;
 
-/// Returns whether a name is one of a file in a folder or in its subfolders: each part of it, with slashes between them,
-/// is the name of a file.
+/// Returns whether a name is one of a file in a folder or in its subfolders: each part of it, with slashes between
+/// them, is the name of a file.
 pub fn is_inside(name: &str) -> bool
     ensures { result ≡ is_inside name.now }
 {

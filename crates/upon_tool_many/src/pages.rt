@@ -107,7 +107,8 @@ pub fn held_text(
     // If a text is held under the name, it is what that answers on the value.
     ensures text { IsHeldText limits (⟦<AnyEngine as EngineTexts>⟧.texts engine.now) name.now (view value.now) result }
     // If none is, and only then, the fault says so.
-    ensures absent { (result ≡ Err NoTemplate) ↔ ((⟦<AnyEngine as EngineTexts>⟧.texts engine.now).texts name.now ≡ None) }
+    ensures absent { (result ≡ Err NoTemplate) ↔
+        ((⟦<AnyEngine as EngineTexts>⟧.texts engine.now).texts name.now ≡ None) }
 {
     match answer_of_held(engine, limits, name, value) {
         Some(answer) => text_of(answer),
@@ -122,9 +123,11 @@ fn answer_of_held(
     name: &str,
     value: &Value,
 ) -> Option<upon::Result<String>>
-    ensures means { (held : Stored) (tree : Statements) → (⟦<AnyEngine as EngineTexts>⟧.texts engine.now).texts name.now ≡ Some held
+    ensures means { (held : Stored) (tree : Statements)
+        → (⟦<AnyEngine as EngineTexts>⟧.texts engine.now).texts name.now ≡ Some held
         → ∥ HasTree held.syntax held.text tree ∥₁ → IsSomeAnd result
-        (AnswersIn limits (⟦<AnyEngine as EngineTexts>⟧.texts engine.now) (Some name.now) held.text tree (view value.now)) }
+        (AnswersIn limits (⟦<AnyEngine as EngineTexts>⟧.texts engine.now) (Some name.now) held.text tree
+        (view value.now)) }
     ensures absent { IsNone result ↔ ((⟦<AnyEngine as EngineTexts>⟧.texts engine.now).texts name.now ≡ None) }
 {
     match limits {
@@ -154,9 +157,12 @@ fn answer_of_source(
     value: &Value,
 ) -> upon::Result<String>
     ensures means { (tree : Statements) → HasTree (⟦<AnyEngine as EngineTexts>⟧.texts engine.now).syntax source.now tree
-        → AnswersIn limits (⟦<AnyEngine as EngineTexts>⟧.texts engine.now) None source.now tree (view value.now) result }
-    ensures refused { ((tree : Statements) → HasTree (⟦<AnyEngine as EngineTexts>⟧.texts engine.now).syntax source.now tree → ⊥)
-        → IsErr result × IfErr result (IsSyntaxError (⟦<AnyEngine as EngineTexts>⟧.texts engine.now).syntax source.now) }
+        → AnswersIn limits (⟦<AnyEngine as EngineTexts>⟧.texts engine.now) None source.now tree (view value.now)
+        result }
+    ensures refused { ((tree : Statements)
+        → HasTree (⟦<AnyEngine as EngineTexts>⟧.texts engine.now).syntax source.now tree → ⊥)
+        → IsErr result × IfErr result (IsSyntaxError (⟦<AnyEngine as EngineTexts>⟧.texts engine.now).syntax
+        source.now) }
 {
     match limits {
         Some(limits) => engine.render_text_within(&limits, source, value),

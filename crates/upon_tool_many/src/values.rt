@@ -39,8 +39,8 @@ fn own_entries(alloc: Global, value: &Value) -> Result<BTreeMap<String, Value>, 
     }
 }
 
-/// Returns the value that a layout is rendered on: the entries of the context with the text of a page under `content`. It
-/// fails if there is no memory.
+/// Returns the value that a layout is rendered on: the entries of the context with the text of a page under
+/// `content`. It fails if there is no memory.
 pub fn content_value(alloc: Global, context: &Value, text: String) -> Result<Value, AllocError>
     ensures { IfOk result (λ v. IsContentValue (view context.now) (string_bytes text) (view v)) }
 {

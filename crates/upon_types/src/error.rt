@@ -77,8 +77,8 @@ impl Error {
         }
     }
 
-    /// Creates the same error as [`Error::from_parts`], with a reason that is moved in. An error that says its kind alone
-    /// takes no memory.
+    /// Creates the same error as [`Error::from_parts`], with a reason that is moved in. An error that says its kind
+    /// alone takes no memory.
     pub fn from_owned_parts(
         alloc: Global,
         kind: ErrorKind,

@@ -34,7 +34,8 @@ page_text = codes "Hello <% include \"name\" %>"
 abbrev pub name_tree : Statements
 name_tree =
     two
-    (inline_expr (filtered (base (name (codes "name") 3 7)) (word (codes "star") 10 14) no_arguments (at 3 14)) (at 0 17))
+    (inline_expr (filtered (base (name (codes "name") 3 7)) (word (codes "star") 10 14) no_arguments (at 3 14))
+    (at 0 17))
     (inline_expr (base (call (word (codes "bang") 20 24) no_arguments (at 20 26))) (at 17 29))
 
 abbrev pub page_tree : Statements

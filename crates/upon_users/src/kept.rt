@@ -37,7 +37,8 @@ use upon_vm_calls::callables::Callables;
 
 /// Renders a template on a value, with all that a rendering keeps.
 pub fn rendered(engine: &Engine<'_>, template: &Template<'_>, value: &Value) -> Result<String>
-    ensures means { let e = engine_meant (⟦<AnyEngine as EngineTexts>⟧.texts engine.now) (engine_templates engine.now) in
+    ensures means { let e = engine_meant (⟦<AnyEngine as EngineTexts>⟧.texts engine.now)
+        (engine_templates engine.now) in
         AnswersText e.depth (outcome (call_on e (template_of template.now) (view value.now))) result }
     ensures laws { let e = engine_meant (⟦<AnyEngine as EngineTexts>⟧.texts engine.now) (engine_templates engine.now) in
         KeepsLaws (call_on e (template_of template.now) (view value.now)) }

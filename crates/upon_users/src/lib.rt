@@ -1,4 +1,5 @@
-// Callers of the engine, of stores and of pages that escape, which have what the contracts say by the public clauses alone.
+// Callers of the engine, of stores and of pages that escape, which have what the contracts say by the public clauses
+// alone.
 #![tactic(auto)]
 
 pub mod built;

@@ -46,8 +46,8 @@ pub fn safe_page(engine: &Engine<'_>, source: &str, value: &Value) -> Result<Str
     pages::render_text(engine, source, value)
 }
 
-/// Returns the text of a page on a value by an engine that it makes, whose only formatter escapes: whatever the page and
-/// the value are, its markup is that of the page's own text.
+/// Returns the text of a page on a value by an engine that it makes, whose only formatter escapes: whatever the page
+/// and the value are, its markup is that of the page's own text.
 pub fn page_of_its_own(alloc: Global, source: &str, value: &Value) -> Result<String>
     ensures { (tree : Statements) → HasTree default_delimiters source.now tree
         → MarkupIsRaw escaping_alone no_templates None source.now tree (view value.now) result }

@@ -1,4 +1,5 @@
--- The raw parts that a template can show, and the formatters that it can call: its own, and those of the templates that it reaches.
+-- The raw parts that a template can show, and the formatters that it can call: its own, and those of the templates
+-- that it reaches.
 use Rattle.std.specs.Prelude.{◌≡◌, ℕ, List, [], ◌∷◌, ◌⊎◌, Some}
 use Rattle.upon_types.specs.declared.types.Span.{Span}
 use Rattle.upon_types.specs.Answers.{Formatter, formatter}
@@ -99,8 +100,8 @@ abbrev pub Each : (Piece → Type 0) → List Piece → Type 0
 Each P [] = Unit {0}
 Each P (p ∷ ps) = P p × Each P ps
 
--- The text is these pieces joined, in their order. Each is a raw part of the template or of one that it reaches, or what
--- the default formatter, or one that they name, wrote for a value.
+-- The text is these pieces joined, in their order. Each is a raw part of the template or of one that it reaches, or
+-- what the default formatter, or one that they name, wrote for a value.
 pub record WovenOf {V T : Type 0} (calls : Calls V) (resolve : Resolver T) (t : Template) (pieces : List Piece)
     (text : List ℕ) : Type 0 where
   pub joins : text ≡ joined pieces

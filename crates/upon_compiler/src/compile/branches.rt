@@ -38,10 +38,11 @@ impl Compiler {
     ghost use Rattle.upon_compiler.specs.After.{LeavesElseIf};
     ghost use Rattle.upon_compiler.specs.Compiler.{code_of, blocks_of, state_of};
 
-    /// Begins an `if`, whose condition has these instructions and may be negated, and leaves none of them behind. It fails
-    /// if memory is out.
+    /// Begins an `if`, whose condition has these instructions and may be negated, and leaves none of them behind. It
+    /// fails if memory is out.
     pub fn begin_if(&mut self, code: &mut Vec<Instr>, not: bool) -> Result<(), AllocError>
-        ensures state { OnOk result (state_of self.new ≡ after (if_event not (program_view code.old.items)) (state_of self.old)) }
+        ensures state { OnOk result (state_of self.new
+            ≡ after (if_event not (program_view code.old.items)) (state_of self.old)) }
         ensures moved { OnOk result (code.new.items ≡ []) }
     {
         self.append(code)?;
@@ -51,8 +52,8 @@ impl Compiler {
         Ok(())
     }
 
-    /// Goes on with an `else if` after the first branch of the innermost block, which is an `if`. The condition has these
-    /// instructions and may be negated; none of them is left behind. It fails if memory is out.
+    /// Goes on with an `else if` after the first branch of the innermost block, which is an `if`. The condition has
+    /// these instructions and may be negated; none of them is left behind. It fails if memory is out.
     pub fn else_if(&mut self, code: &mut Vec<Instr>, not: bool) -> Result<(), AllocError>
         ensures state { OnOk result (state_of self.new
             ≡ after (else_if_event not (program_view code.old.items)) (state_of self.old)) }
@@ -97,8 +98,8 @@ impl Compiler {
         self.end_else_ifs();
     }
 
-    /// Begins a loop, whose list has these instructions and is at this span, and leaves none of them behind. It fails if
-    /// memory is out.
+    /// Begins a loop, whose list has these instructions and is at this span, and leaves none of them behind. It fails
+    /// if memory is out.
     pub fn begin_for(
         &mut self,
         code: &mut Vec<Instr>,
@@ -156,8 +157,8 @@ impl Compiler {
         Ok(())
     }
 
-    /// Ends the first branch of an `if` with the jump past the other one, and returns that jump's number. The jump of the
-    /// first number goes to the other branch.
+    /// Ends the first branch of an `if` with the jump past the other one, and returns that jump's number. The jump of
+    /// the first number goes to the other branch.
     fn go_past(&mut self, not: bool, start: usize) -> Result<usize, AllocError>
         ensures number { IfOk result (λ past. past ≡ length (code_of self.old)) }
         ensures code { OnOk result (code_of self.new ≡ between not start (code_of self.old)) }

@@ -4,8 +4,9 @@ ghost use Rattle.upon_types.specs.Span.{LiesIn};
 ghost use Rattle.upon_language_spec.specs.DefaultDelimiters.{default_delimiters};
 ghost use Rattle.upon_language_spec.specs.Search.{IsBestDelimiter, NoneAt, NoneFrom};
 ghost use Rattle.upon_lexer.specs.DefaultBest.{begin_with, best_of, end_with, hyphened};
-ghost use Rattle.upon_lexer.specs.Pairs.{is_pair, NoPairWith, IsFirstPairWith};
+ghost use Rattle.upon_lexer.specs.Pairs.{is_pair, NoPairIn, NoPairWith, IsFirstPairWith};
 
+use crate::compile::begins::BLOCK;
 use upon_types::types::Delimiter;
 
 /// Returns the first offset at or after another from which a default delimiter may occur; the text's length if there is
@@ -23,9 +24,36 @@ pub(crate) fn next(source: &str, at: usize) -> usize
         if let Some(pair) = pair_with(bytes, at, brace) {
             return at.max(pair.saturating_sub(1));
         }
-        from = brace + 1;
+        // More braces are often near then, and a search for each would cost more.
+        from = pass_blocks(bytes, brace + 1);
     }
     bytes.len()
+}
+
+// Where blocks end, from an offset on, in which no pair begins.
+fn pass_blocks(bytes: &[u8], at: usize) -> usize
+    requires { at ≤ length bytes.now }
+    ensures after { at ≤ result }
+    ensures within { result ≤ length bytes.now }
+    ensures none { NoPairIn bytes.now at result }
+{
+    let mut from = at;
+    while bytes.len() - from > BLOCK && !has_pair_in(bytes, from) {
+        from += BLOCK;
+    }
+    from
+}
+
+// Whether a pair begins in the block at an offset.
+fn has_pair_in(bytes: &[u8], at: usize) -> bool
+    requires { at + 64 < length bytes.now }
+    ensures { result ≡ false → NoPairIn bytes.now at (at + 64) }
+{
+    let mut has = false;
+    for i in 0..BLOCK {
+        has |= is_pair(bytes[at + i], bytes[at + i + 1]);
+    }
+    has
 }
 
 /// Returns whether a default delimiter may begin at an offset: with one of five bytes.
@@ -131,9 +159,8 @@ fn pair_with(bytes: &[u8], at: usize, brace: usize) -> Option<usize>
 fn is_pair(first: u8, second: u8) -> bool
     ensures { result ≡ is_pair first second }
 {
-    match first {
-        b'{' => matches!(second, b'{' | b'%' | b'#'),
-        b'}' | b'%' | b'#' => second == b'}',
-        _ => false,
-    }
+    // (No branches: a block is looked at all at once.)
+    let begins = (first == b'{') & ((second == b'{') | (second == b'%') | (second == b'#'));
+    let ends = ((first == b'}') | (first == b'%') | (first == b'#')) & (second == b'}');
+    begins | ends
 }

@@ -1,17 +1,20 @@
-// Marks of the first two bytes of delimiters, by which most offsets are seen to begin none.
+// Marks of the first two bytes of delimiters, by which most offsets are seen to begin none, and whole blocks where these
+// bytes are few.
 ghost use Rattle.std.specs.Prelude.{◌≡◌, ℕ, ◌<◌, ◌≤◌, List, length, false};
 ghost use Rattle.upon_language_spec.specs.Search.{DelimiterText, HasTexts, NoneAt, NoneFrom};
 ghost use Rattle.upon_lexer.specs.Marks.{HasMark, MarksText, MarksEach};
 ghost use Rattle.upon_lexer.specs.Syntax.{syntax_delimiters};
 
+use crate::compile::begins::{BLOCK, Begins};
 use crate::types::syntax::Syntax;
 
 /// For each byte, a bit for each delimiter that it is the first byte of, and for each that it may be the second byte
-/// of. A delimiter of one byte may have each byte as its second. Delimiters 16 apart in the list share a bit.
+/// of. A delimiter of one byte may have each byte as its second. Delimiters 16 apart in the list share a bit. And the bytes themselves, if they are few.
 #[derive(Drop)]
 pub(crate) struct Marks {
     first: [u16; 256],
     second: [u16; 256],
+    begins: Option<Begins>,
 }
 
 impl Marks {
@@ -22,6 +25,7 @@ impl Marks {
         let mut marks = Marks {
             first: [0; 256],
             second: [0; 256],
+            begins: Begins::of(syntax),
         };
         for i in 0..syntax.len() {
             let (_, text) = syntax.get(i);
@@ -36,6 +40,7 @@ impl Marks {
         requires bit { bit < 16 }
         ensures marked { MarksText self.new bit text.now }
         ensures kept { (b : ℕ) (t : List ℕ) → MarksText self.old b t → MarksText self.new b t }
+        ensures begins { self.new.begins ≡ self.old.begins }
     {
         mark(&mut self.first, text[0] as usize, bit);
         match text.get(1) {
@@ -54,12 +59,48 @@ impl Marks {
             → NoneFrom delimiters source.now at result }
     {
         let bytes = source.as_bytes();
+        let mut from = at;
+        while from < end {
+            let block_end = from + BLOCK.min(end - from);
+            let offset = self.next_of_each(bytes, from, block_end);
+            if offset < block_end {
+                return offset;
+            }
+            from = self.pass(bytes, block_end, end);
+        }
+        end
+    }
+
+    // The same, by a look at each offset.
+    fn next_of_each(&self, bytes: &[u8], at: usize, end: usize) -> usize
+        requires order { at ≤ end }
+        requires within { end ≤ length bytes.now }
+        ensures after { at ≤ result }
+        ensures before { result ≤ end }
+        ensures none { (delimiters : List DelimiterText) → HasTexts delimiters → MarksEach self.now delimiters
+            → NoneFrom delimiters bytes.now at result }
+    {
         for offset in at..end {
             if self.may_begin(bytes, offset) {
                 return offset;
             }
         }
         end
+    }
+
+    // Where blocks end in which no delimiter begins, if that is seen by a few bytes.
+    fn pass(&self, bytes: &[u8], at: usize, end: usize) -> usize
+        requires order { at ≤ end }
+        requires within { end ≤ length bytes.now }
+        ensures after { at ≤ result }
+        ensures before { result ≤ end }
+        ensures none { (delimiters : List DelimiterText) → HasTexts delimiters → MarksEach self.now delimiters
+            → NoneFrom delimiters bytes.now at result }
+    {
+        match self.begins {
+            Some(begins) => begins.pass(bytes, at, end),
+            None => at,
+        }
     }
 
     /// Returns whether a delimiter may begin at an offset.

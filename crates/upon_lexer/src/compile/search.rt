@@ -206,9 +206,9 @@ fn end_of(source: &str, at: usize, text: &str) -> usize
 // How many bytes are looked at by marks before the next search for few bytes, if one of them is near to where the
 // search began (others are often near then, and a search for each would cost more); else only the one that is found is
 // looked at.
-const WINDOW: usize = 64;
+const WINDOW: usize = 4096;
 
-const NEAR: usize = 8;
+const NEAR: usize = 256;
 
 // The next offset from which a delimiter may occur that has one of a few bytes; the text's length if there is none.
 fn next_of_few(few: FewBytes, marks: &Marks, source: &str, at: usize) -> usize

@@ -52,8 +52,8 @@ impl<'a> Parser<'a> {
         }
     }
 
-    /// Returns the program of the text's tree. A text that has none is refused: the error reports its first fault, at its
-    /// span. If memory is out, the error says that.
+    /// Returns the program of the text's tree. A text that has none is refused: the error reports its first fault, at
+    /// its span. If memory is out, the error says that.
     pub fn compile_template(self) -> Result<Vec<Instr>>
         ensures program { IfOk result (λ code. IsProgramOf (syntax_of self.entry) (source_of self.entry) code.items) }
         ensures only_tree { IfOk result

@@ -1,4 +1,5 @@
-// The parts of a template that its instructions keep: names, paths, literals. Each span says where in the source a part is.
+// The parts of a template that its instructions keep: names, paths, literals. Each span says where in the source a
+// part is.
 pub mod expression;
 pub mod path;
 

@@ -73,8 +73,8 @@ impl<'a> PieceReader<'a> {
         }
     }
 
-    /// Returns the next piece or comment, or the text's end, and appends the instructions of the piece's expression. The
-    /// error reports the text's first fault, or that memory is out; after it the instructions can be any.
+    /// Returns the next piece or comment, or the text's end, and appends the instructions of the piece's expression.
+    /// The error reports the text's first fault, or that memory is out; after it the instructions can be any.
     pub fn next(&mut self, code: &mut Vec<Instr>) -> Result<Next>
         requires so_far { (found : Pieces) × HasFound self.old found }
         ensures found { IfOk result (λ next. (found : Pieces)

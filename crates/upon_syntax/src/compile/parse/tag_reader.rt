@@ -77,9 +77,9 @@ impl<'a> TagReader<'a> {
         }
     }
 
-    /// Returns the tag of a block whose begin was read, and where the whole tag is, and appends the instructions that leave
-    /// the value of its expression, if it has one. The error reports the text's first fault, or that there was no memory;
-    /// after it the instructions can be any.
+    /// Returns the tag of a block whose begin was read, and where the whole tag is, and appends the instructions that
+    /// leave the value of its expression, if it has one. The error reports the text's first fault, or that there was
+    /// no memory; after it the instructions can be any.
     pub fn read_block(
         &mut self,
         lexer: &mut Lexer,

@@ -13,8 +13,8 @@ use upon_compiler::compile::Compiler;
 use upon_instructions::types::program::Instr;
 use upon_tag_parser::compile::parse::tag::Tag;
 
-/// Tells a compiler of a piece, whose expression has these instructions if it has one, and leaves none of them behind. It
-/// fails if memory is out.
+/// Tells a compiler of a piece, whose expression has these instructions if it has one, and leaves none of them
+/// behind. It fails if memory is out.
 pub(crate) fn tell(
     compiler: &mut Compiler,
     piece: Piece,

@@ -72,7 +72,8 @@ impl<'a> TagParser<'a> {
     ) -> Parsed<'t, Step>
         requires tokens { AreTagTokens self.now.source.now tokens.now }
         requires span { LiesIn self.now.source.now span }
-        ensures step { IfOk result (λ r. (whole : Bool) (before : List Lexeme) → Goes Identifier span before (lexemes_of tokens.now)
+        ensures step { IfOk result (λ r. (whole : Bool) (before : List Lexeme)
+            → Goes Identifier span before (lexemes_of tokens.now)
             → IsStep self.now.source.now whole r.0 (place before code.old.items) (place_of r.1.now code.new.items)) }
         ensures rest { IfOk result (λ r. IsRest r.1.now tokens.now) }
         ensures shorter { IfOk result (λ r. length r.1.now ≤ length tokens.now) }

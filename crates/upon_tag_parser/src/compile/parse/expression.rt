@@ -169,7 +169,8 @@ impl<'a> TagParser<'a> {
         self.after_part(receiver.opening, span, tokens, code)
     }
 
-    // The filters after what was read of an expression, up to one that has arguments, or else up to the expression's end.
+    // The filters after what was read of an expression, up to one that has arguments, or else up to the expression's
+    // end.
     fn after_part<'t>(
         &self,
         opening: Option<Span>,

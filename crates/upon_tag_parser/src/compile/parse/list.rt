@@ -58,7 +58,8 @@ impl<'a> TagParser<'a> {
         tokens: &'t [Lexed],
         code: &mut Vec<Instr>,
     ) -> Result<(Step, &'t [Lexed]), AllocError>
-        ensures step { IfOk result (λ r. (whole : Bool) (before : List Lexeme) → Goes OpenBracket opening before (lexemes_of tokens.now)
+        ensures step { IfOk result (λ r. (whole : Bool) (before : List Lexeme)
+            → Goes OpenBracket opening before (lexemes_of tokens.now)
             → IsStep self.now.source.now whole r.0 (place before code.old.items) (place_of r.1.now code.new.items)) }
         ensures rest { IfOk result (λ r. IsRest r.1.now tokens.now) }
         ensures shorter { IfOk result (λ r. length r.1.now ≤ length tokens.now) }
@@ -120,7 +121,8 @@ impl<'a> TagParser<'a> {
         code: &mut Vec<Instr>,
     ) -> Parsed<'t, Step>
         requires tokens { AreTagTokens self.now.source.now tokens.now }
-        ensures step { IfOk result (λ r. (whole : Bool) (before : List Lexeme) → Goes OpenBrace opening before (lexemes_of tokens.now)
+        ensures step { IfOk result (λ r. (whole : Bool) (before : List Lexeme)
+            → Goes OpenBrace opening before (lexemes_of tokens.now)
             → IsStep self.now.source.now whole r.0 (place before code.old.items) (place_of r.1.now code.new.items)) }
         ensures rest { IfOk result (λ r. IsRest r.1.now tokens.now) }
         ensures shorter { IfOk result (λ r. length r.1.now ≤ length tokens.now) }

@@ -51,7 +51,8 @@ impl<'a> TagParser<'a> {
         code: &mut Vec<Instr>,
     ) -> Result<(), Failure<'t>>
         requires tokens { AreTagTokens self.now.source.now tokens.now }
-        ensures tag { OnOk result (HoldsInline self.now.source.now (lexemes_of tokens.now) code.old.items code.new.items) }
+        ensures tag { OnOk result (HoldsInline self.now.source.now (lexemes_of tokens.now) code.old.items
+            code.new.items) }
         ensures leads { OnOk result (LeadsToEnd
             self.now.source.now
             (a_base ∷ filters ∷ end_expr ∷ [])
@@ -65,15 +66,16 @@ impl<'a> TagParser<'a> {
         Ok(show(code)?)
     }
 
-    /// Parses what is in the tag of a block, whose tokens are these, and appends the instructions that leave the value of
-    /// its expression, if it has one. After an error the instructions can be any.
+    /// Parses what is in the tag of a block, whose tokens are these, and appends the instructions that leave the
+    /// value of its expression, if it has one. After an error the instructions can be any.
     pub fn parse_block_tag<'t>(
         &self,
         tokens: &'t [Lexed],
         code: &mut Vec<Instr>,
     ) -> Result<Tag, Failure<'t>>
         requires tokens { AreTagTokens self.now.source.now tokens.now }
-        ensures tag { IfOk result (λ tag. HoldsTag self.now.source.now tag (lexemes_of tokens.now) code.old.items code.new.items) }
+        ensures tag { IfOk result (λ tag. HoldsTag self.now.source.now tag (lexemes_of tokens.now) code.old.items
+            code.new.items) }
         ensures leads { IfOk result (λ _. LeadsToEnd
             self.now.source.now
             (block_word ∷ [])

@@ -1,8 +1,8 @@
 use Rattle.std.proofs.Common.{◌≡◌, ℕ, ◌+◌, ◌-◌, ◌≤◌, List, sym, subst, length, max, take, drop, arith, ap, length-take, length-drop}
 use Rattle.upon_language_spec.specs.DefaultDelimiters.{default_delimiters}
 use Rattle.upon_language_spec.specs.Search.{NoneFrom}
-use Rattle.upon_lexer.specs.Pairs.{NoPairWith, IsFirstPairWith}
-use Rattle.upon_lexer.proofs.Pairing.{NoPairs, none_up_to, none_more, near_pair, no_pair_none}
+use Rattle.upon_lexer.specs.Pairs.{NoPairIn, NoPairWith, IsFirstPairWith}
+use Rattle.upon_lexer.proofs.Pairing.{NoPairs, none_up_to, none_more, none_passed, near_pair, no_pair_none}
 use Rattle.upon_lexer.proofs.compile.braces.next.Goals as goal
 
 pub returns-in-Some-pair_with-clause-none : goal.returns-in-Some-pair_with-clause-none
@@ -35,10 +35,14 @@ loop-found-preserved c =
     let pairs = none_up_to s bytes at from c.in-Some.found same room found.before c.loop-found.invariant.none in
     let brace = from + c.in-Some.found in
     let With : List ℕ → Type 0 = λ x. NoPairWith x at brace in
+    let In : List ℕ → Type 0 = λ x. NoPairIn x (brace + 1) c.pass_blocks-from.result in
     record {
-      after = omega (arith, c.loop-found.invariant.after);
-      within = omega (arith, found.high, total, length-drop from bytes, ap length same, c.loop-found.invariant.within);
-      none = none_more s at brace pairs (subst With same c.in_default-pair_with.ensures);
+      after = omega (arith, c.loop-found.invariant.after, c.pass_blocks-from.ensures.after);
+      within = omega (arith, ap length same, c.pass_blocks-from.ensures.within);
+      none = none_passed s at brace c.pass_blocks-from.result (omega (arith, c.loop-found.invariant.after))
+          (none_more s at brace pairs (subst With same c.in_default-pair_with.ensures))
+          (subst With same c.in_default-pair_with.ensures)
+          (subst In same c.pass_blocks-from.ensures.none);
     }
 
 pub returns-clause-none : goal.returns-clause-none
