@@ -51,8 +51,8 @@ impl<'s> Template<'s> {
         source.as_str()
     }
 
-    /// Its instructions.
-    pub(crate) fn instrs(&self) -> &[Instr]
+    /// Returns its instructions: the program of its text's tree.
+    pub fn instrs(&self) -> &[Instr]
         ensures { program_view result.now ≡ program_of (template_tree self.now) }
     {
         self.instrs.as_slice()

@@ -1,6 +1,8 @@
 // A template of an engine, with its name.
 ghost use Rattle.std.specs.Prelude.{◌≡◌, Some, IfSome, IsSome, option_map};
 ghost use Rattle.upon_types.specs.View.{view};
+ghost use Rattle.upon_machine_spec.specs.Code.{program_of};
+ghost use Rattle.upon_instructions.specs.Program.{program_view};
 ghost use Rattle.upon_engine.specs.Base.{IsContextOf};
 ghost use Rattle.upon_engine.specs.Calls.{engine_in, values_in, templates_in, template_in, name_in, limit_in};
 ghost use Rattle.upon_engine.specs.Engine.{engine_depth, engine_templates};
@@ -15,6 +17,7 @@ use crate::sources::EngineTemplates;
 use crate::template::Template;
 use crate::values::{Context, SerdeContext, SourceValues};
 use serde::Serialize;
+use upon_instructions::types::program::Instr;
 use upon_render::source::ValueSource;
 use upon_types::value::Value;
 
@@ -67,6 +70,13 @@ impl<'r, 'e> TemplateRef<'r, 'e> {
         ensures { result.now ≡ (ref_template self.entry).source }
     {
         self.template.source()
+    }
+
+    /// Returns its instructions: the program of its text's tree. A checker of templates walks along them.
+    pub fn instrs(self) -> &'r [Instr]
+        ensures { program_view result.now ≡ program_of (ref_template self.entry).tree }
+    {
+        self.template.instrs()
     }
 
     /// Returns a rendering on what serde writes of the context, with the engine's callables, templates and depth. It is

@@ -242,6 +242,8 @@ fn templates_come_and_go(rt: HostRuntime) -> std::result::Result<(), Fail> {
     assert_eq!(&rt; named(alloc, &engine, "t")?.as_str(), "a");
     engine.add_template(CowStr::Borrowed("t"), CowStr::Borrowed("c"))?;
     assert_eq!(&rt; engine.template("t").source(), "c");
+    // Its one instruction shows the raw part.
+    assert_eq!(&rt; engine.template("t").instrs().len(), 1);
     assert!(&rt; engine.remove_template("t"));
     assert!(&rt; !engine.remove_template("t"));
     assert!(&rt; engine.get_template("t").is_none());
