@@ -19,8 +19,6 @@ KINDS = (
     kind("for|loop", "loop|block|tag|start|next"),
     kind("with", "block|tag|start|end", r"|\(with \w|\bwith : "),
 )
-
-
 # A copy of the language before `for .. else`, and a page that a script writes, which no statement changes by hand.
 UNTOUCHED = ("crates/upon_before_spec/", "docs/DEFINITIONS.md")
 
@@ -28,14 +26,13 @@ UNTOUCHED = ("crates/upon_before_spec/", "docs/DEFINITIONS.md")
 def name_each_kind(sources):
     """The files that name each kind of statement: a new one, which is a kind more, touches these."""
     for path, text in sources:
-        if not path.startswith(UNTOUCHED) and all(it.search(text) for it in KINDS):
-            code = ASIDE.sub("", text)
-            if all(it.search(code) for it in KINDS):
-                yield path
+        code = ASIDE.sub("", text)
+        if not path.startswith(UNTOUCHED) and all(it.search(code) for it in KINDS):
+            yield path
 
 
 def long_lines(sources, most):
-    """The lines that have more columns than that, and of these the ones that bring in names."""
+    """The lines that have more columns than that: those that bring in no names, and those that do."""
     found, imports = [], []
     for path, text in sources:
         for number, line in enumerate(text.split("\n"), 1):

@@ -128,4 +128,4 @@ def reached(modules, clause=None):
 def crate_order():
     """The crates from the lowest."""
     lines = open(os.path.join(TOP, "crates.txt"), encoding="utf8")
-    return [line.split(":")[0] for line in lines if line.strip() and not line.startswith("#")]
+    return [line.split(":")[0].split()[0] for line in lines if line.strip() and not line.startswith("#")]
