@@ -1,3 +1,6 @@
 pub mod HandedOn
 pub mod Shown
 pub mod Ended
+pub mod Boxed
+pub mod Renderings
+pub mod TemplateSpans

@@ -25,10 +25,15 @@ pub mod LiteralFaults
 pub mod LaterFaults
 pub mod FirstFault
 pub mod CutFaults
+pub mod InTags
+pub mod OpenParts
+pub mod ClosingTags
 pub mod Lexing
 pub mod Given
 pub mod InsideStart
 pub mod LexStep
+pub mod Stages
 pub mod Longest
 pub mod LiesIn
 pub mod SpansLieIn
+pub mod ShortTrees

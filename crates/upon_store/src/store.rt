@@ -52,7 +52,7 @@ struct Folder<'r, 's> {
 
 impl<'r, 's> TemplateSource<'r> for Folder<'r, 's> {
     ghost use Rattle.std.specs.Prelude.{[]};
-    ghost use Rattle.upon.specs.TemplateSpans.{handed_on_lie};
+    ghost use Rattle.upon.proofs.TemplateSpans.{handed_on_lie};
     ghost use Rattle.upon_store.specs.Stored.{answers_in};
 
     ghost State = { Unit {0} };

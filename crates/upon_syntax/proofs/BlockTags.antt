@@ -7,8 +7,9 @@ use Rattle.upon_language_spec.specs.Cut.{Lexeme}
 use Rattle.upon_language_spec.specs.Tokens.{from_to}
 use Rattle.upon_language_spec.specs.Grammar.{BeginsBlock}
 use Rattle.upon_language_spec.specs.Blocks.{Block, if_block, for_block, with_block, OpenBlock, Closer, else_if, plain_else, end_if, end_for, end_with, else_by, closer_by, closer_of, end_from, by_word, takes, after_closer}
-use Rattle.upon_language_spec.proofs.NoTreeWithFault.InsideTag.{is_inside, EachInside}
-use Rattle.upon_language_spec.proofs.NoTreeWithFault.TagBlocks.{begins_block, Closing, Walks, walks_then, walks_plain, walks_begin, else_at}
+use Rattle.upon_language_spec.specs.InTags.{is_inside, EachInside}
+use Rattle.upon_language_spec.specs.ClosingTags.{Closing}
+use Rattle.upon_language_spec.proofs.NoTreeWithFault.TagBlocks.{begins_block, Walks, walks_then, walks_plain, walks_begin, else_at}
 use Rattle.upon_language_spec.proofs.NoTreeWithFault.ReadBefore.{inside_begins_nothing}
 use Rattle.upon_language_spec.proofs.Totality.OpenBlocks.{closer_is}
 use Rattle.upon_syntax.specs.OpenBlocks.{new_block, closed_by, after_tag, IsTaken}

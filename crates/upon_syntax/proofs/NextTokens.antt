@@ -18,8 +18,8 @@ use Rattle.upon_language_spec.specs.Tokens.{is_space}
 use Rattle.upon_language_spec.proofs.NoTreeWithFault.NextToken.{begin_is_no_space}
 use Rattle.upon_language_spec.proofs.OneCut.Token.{step_ends}
 use Rattle.upon_language_spec.proofs.Totality.First.{cut_is_first}
-use Rattle.upon_language_spec.proofs.Totality.FittingClears.{AllClear, NoLaterFault, clear_behind}
-use Rattle.upon_language_spec.proofs.Totality.Stage.{Stage}
+use Rattle.upon_language_spec.specs.Stages.{AllClear, Stage}
+use Rattle.upon_language_spec.proofs.Totality.FittingClears.{NoLaterFault, clear_behind}
 use Rattle.upon_syntax.specs.PieceReading.{ReadTo}
 use Rattle.upon_syntax.specs.TagReading.{IsSyntaxError}
 use Rattle.upon_syntax.proofs.CutParts.{cut_same, cut_rest}

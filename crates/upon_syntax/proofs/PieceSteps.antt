@@ -13,11 +13,11 @@ use Rattle.upon_language_spec.specs.Shown.{shown_span, shown_lexemes, begin_trim
 use Rattle.upon_language_spec.specs.Tokens.{significant}
 use Rattle.upon_language_spec.proofs.GivenTokens.Shown.{next_trims}
 use Rattle.upon_language_spec.proofs.NoTreeWithFault.ReadBefore.{Ended, read_before}
-use Rattle.upon_language_spec.proofs.NoTreeWithFault.TagBlocks.{AllTaken, Walks, walks_nothing, walks_one}
+use Rattle.upon_language_spec.specs.ClosingTags.{AllTaken, Known}
+use Rattle.upon_language_spec.proofs.NoTreeWithFault.TagBlocks.{Walks, walks_nothing, walks_one}
 use Rattle.upon_language_spec.proofs.OneCut.Cut.{cut_ends, cut_joined, takes_some}
 use Rattle.upon_language_spec.proofs.Totality.InsideClear.{last_more}
 use Rattle.upon_language_spec.proofs.Totality.OpenBlocks.{blocks_append, taken_append}
-use Rattle.upon_language_spec.proofs.Totality.Pieces.{Known}
 use Rattle.upon_language_spec.proofs.Totality.Stage.{outside_is_clear}
 use Rattle.upon_instructions.specs.declared.types.program.Instr.{Instr as CodeInstr}
 use Rattle.upon_syntax.specs.declared.compile.parse.piece.Piece.{Piece as CodePiece}

@@ -18,17 +18,18 @@ use Rattle.upon_language_spec.specs.FirstFault.{wrong_number, wrong_index, wrong
 use Rattle.upon_language_spec.specs.Lexing.{LexerState}
 use Rattle.upon_language_spec.specs.Parts.{Part, tag_start, after_symbol, Path, wanted_at}
 use Rattle.upon_language_spec.specs.Wanted.{Wanted, reason_for, wanted_at_end, expected_found}
-use Rattle.upon_language_spec.proofs.NoTreeWithFault.FineAt.{last_or}
-use Rattle.upon_language_spec.proofs.NoTreeWithFault.InsideTag.{EachInside, inside_stays, no_space_step, spaces_append}
+use Rattle.upon_language_spec.specs.InTags.{last_or, EachInside}
+use Rattle.upon_language_spec.proofs.NoTreeWithFault.InsideTag.{inside_stays, no_space_step, spaces_append}
 use Rattle.upon_language_spec.proofs.NoTreeWithFault.NextToken.{begin_is_no_space}
 use Rattle.upon_language_spec.proofs.NoTreeWithFault.SplitInTag.{last_is}
 use Rattle.upon_language_spec.proofs.NoTreeWithFault.BeforeTag.{inner_from}
 use Rattle.upon_language_spec.proofs.OneCut.Cut.{cut_ends}
 use Rattle.upon_language_spec.proofs.OneCut.Token.{step_ends}
-use Rattle.upon_language_spec.proofs.Totality.FittingClears.{StandsAt, AllClear, stuck_end}
+use Rattle.upon_language_spec.specs.OpenParts.{StandsAt}
+use Rattle.upon_language_spec.specs.Stages.{AllClear, Stage}
+use Rattle.upon_language_spec.proofs.Totality.FittingClears.{stuck_end}
 use Rattle.upon_language_spec.proofs.Totality.First.{first_at, cut_is_first, end_is_first}
 use Rattle.upon_language_spec.proofs.Totality.LiteralHere.{begins, least, least_index, least_escape}
-use Rattle.upon_language_spec.proofs.Totality.Stage.{Stage}
 use Rattle.upon_language_spec.proofs.Totality.InsideClear.{LiteralsFine, inside_clear, stuck_is_first, split_spaces}
 use Rattle.upon_syntax.specs.declared.compile.parse.tag_tokens.Ended.{Ended}
 use Rattle.upon_tag_parser.specs.TagTokens.{EachTagToken}

@@ -20,9 +20,8 @@ use Rattle.upon_language_spec.specs.FirstFault.{IsFirstFault}
 use Rattle.upon_language_spec.specs.LiteralWords.{fits_word}
 use Rattle.upon_language_spec.specs.Parts.{Part, after, Path, wanted_at}
 use Rattle.upon_language_spec.specs.Wanted.{Wanted, reason_for, wanted_at_end, expected_found}
-use Rattle.upon_language_spec.proofs.NoTreeWithFault.FineAt.{last_or}
+use Rattle.upon_language_spec.specs.InTags.{last_or, ends_a_tag}
 use Rattle.upon_language_spec.proofs.NoTreeWithFault.InsideTag.{end_is_no_space}
-use Rattle.upon_language_spec.proofs.NoTreeWithFault.TagShapes.{ends_a_tag}
 use Rattle.upon_language_spec.proofs.Wanted.LiteralWords.{Decided, number_decided, string_decided, index_decided}
 use Rattle.upon_tag_parser.specs.declared.compile.parse.literal.Lexed.{Lexed}
 use Rattle.upon_tag_parser.specs.declared.compile.parse.literal_fault.Refusal.{Refusal}

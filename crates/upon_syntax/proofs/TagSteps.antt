@@ -20,15 +20,17 @@ use Rattle.upon_language_spec.specs.Tokens.{is_raw, begins_comment, without_spac
 use Rattle.upon_language_spec.specs.Wanted.{in_quotes}
 use Rattle.upon_language_spec.proofs.NoTreeWithFault.BeforeTag.{open_tag_more, before_tag_more}
 use Rattle.upon_language_spec.proofs.NoTreeWithFault.FineExpression.{passes_expression}
-use Rattle.upon_language_spec.proofs.NoTreeWithFault.InsideTag.{EachInside, end_is_no_comment, end_is_no_space, end_leaves, kept}
+use Rattle.upon_language_spec.specs.InTags.{EachInside}
+use Rattle.upon_language_spec.proofs.NoTreeWithFault.InsideTag.{end_is_no_comment, end_is_no_space, end_leaves, kept}
 use Rattle.upon_language_spec.proofs.NoTreeWithFault.TagBlocks.{Walks, walks_inline}
 use Rattle.upon_language_spec.proofs.Totality.BlockEnd.{taken_end}
 use Rattle.upon_language_spec.proofs.Totality.First.{first_at}
-use Rattle.upon_language_spec.proofs.Totality.FittingClears.{AllClear, fitting_clears}
+use Rattle.upon_language_spec.specs.Stages.{AllClear, Stage, EndsAt}
+use Rattle.upon_language_spec.proofs.Totality.FittingClears.{fitting_clears}
 use Rattle.upon_language_spec.proofs.Totality.LiteralHere.{least_block}
 use Rattle.upon_language_spec.proofs.Totality.Pieces.{Plain, plain_inside, plain_read, shown_read, shown_end}
-use Rattle.upon_language_spec.proofs.Totality.Stage.{Stage, on}
-use Rattle.upon_language_spec.proofs.Totality.WholeTag.{EndsAt, ended_tag}
+use Rattle.upon_language_spec.proofs.Totality.Stage.{on}
+use Rattle.upon_language_spec.proofs.Totality.WholeTag.{ended_tag}
 use Rattle.upon_syntax.specs.OpenBlocks.{kinds_of, closed_by, after_tag, IsTaken}
 use Rattle.upon_syntax.specs.PieceReading.{ReadTo, token_lexeme, TokenGiven, ReadsOn}
 use Rattle.upon_tag_parser.specs.BlockTags.{BlockTag, IsBlockTag}

@@ -14,7 +14,8 @@ use Rattle.upon_language_spec.specs.Tokens.{is_space, without_spaces}
 use Rattle.upon_language_spec.specs.Faults.{lexeme_at}
 use Rattle.upon_language_spec.specs.Lexing.{LexerState, HasRead, IsGiven, IsCutError, LexesAfterSpace, EachIsSpace}
 use Rattle.upon_language_spec.specs.CutFaults.{ClearTo}
-use Rattle.upon_language_spec.proofs.NoTreeWithFault.InsideTag.{is_inside, EachInside, extent_is_inside, inside_stays, spaces_append, space_step, no_space_step}
+use Rattle.upon_language_spec.specs.InTags.{is_inside, EachInside, last_or}
+use Rattle.upon_language_spec.proofs.NoTreeWithFault.InsideTag.{extent_is_inside, inside_stays, spaces_append, space_step, no_space_step}
 use Rattle.upon_tag_parser.specs.declared.compile.parse.literal.Lexed.{Lexed}
 use Rattle.upon_syntax.specs.declared.compile.parse.tag_tokens.Ended.{Ended}
 use Rattle.upon_syntax.specs.declared.compile.parse.tag_tokens.Ended.TheVariants.{End, Fault as CutFault, Literal, Eof}
@@ -22,7 +23,6 @@ use Rattle.upon_tag_parser.specs.declared.compile.parse.literal_fault.Refusal.{R
 use Rattle.upon_tag_parser.specs.Literals.{lexeme_of}
 use Rattle.upon_tag_parser.specs.LiteralReasons.{report_of}
 use Rattle.upon_syntax.specs.TagEnds.{DenotesNothing, StopsAt, ReportsCut, ReadsOn, ReadsUpTo, EndsBy}
-use Rattle.upon_language_spec.proofs.NoTreeWithFault.FineAt.{last_or}
 use Rattle.upon_tag_parser.specs.TagTokens.{IsTagToken, EachTagToken}
 use Rattle.upon_syntax.proofs.CutParts.{cut_rest}
 

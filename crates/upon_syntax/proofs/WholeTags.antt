@@ -22,17 +22,15 @@ use Rattle.upon_language_spec.specs.CutFaults.{ClearTo}
 use Rattle.upon_language_spec.specs.FirstFault.{unclosed_bracket}
 use Rattle.upon_language_spec.specs.Lexing.{LexerState, HasRead}
 use Rattle.upon_language_spec.specs.Parts.{Part, tag_start, after, after_symbol, Path}
-use Rattle.upon_language_spec.proofs.NoTreeWithFault.FineAt.{last_or}
-use Rattle.upon_language_spec.proofs.NoTreeWithFault.InsideTag.{EachInside}
+use Rattle.upon_language_spec.specs.InTags.{last_or, EachInside, ends_a_tag, StandsFor, EachStands}
 use Rattle.upon_language_spec.proofs.NoTreeWithFault.NextToken.{inside_ends_nothing}
-use Rattle.upon_language_spec.proofs.NoTreeWithFault.TagShapes.{ends_a_tag}
 use Rattle.upon_language_spec.proofs.OneCut.Cut.{one_cut_to}
 use Rattle.upon_language_spec.proofs.OneCut.Token.{step_ends}
 use Rattle.upon_language_spec.proofs.Totality.LiteralValues.{number_stands, text_stands}
-use Rattle.upon_language_spec.proofs.Totality.TagTree.{StandsFor, EachStands}
-use Rattle.upon_language_spec.proofs.Totality.WholeTag.{TagAt, EndsAt}
+use Rattle.upon_language_spec.specs.Stages.{TagAt, EndsAt}
 use Rattle.upon_language_spec.proofs.Totality.NextOrFault.{end_fits}
-use Rattle.upon_language_spec.proofs.Wanted.Opened.{is_open, open_on}
+use Rattle.upon_language_spec.specs.OpenParts.{is_open}
+use Rattle.upon_language_spec.proofs.Wanted.Opened.{open_on}
 use Rattle.upon_lexer.specs.declared.compile.lex.Lexer.{Lexer}
 use Rattle.upon_lexer.specs.Lexers.{lexer_text, lexer_delimiters, lexer_state}
 use Rattle.upon_tag_parser.specs.declared.compile.parse.literal.Lexed.{Lexed}

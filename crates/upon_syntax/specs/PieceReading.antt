@@ -13,8 +13,8 @@ use Rattle.upon_language_spec.specs.Raw.{IsRaw}
 use Rattle.upon_language_spec.specs.Reading.{last_of}
 use Rattle.upon_language_spec.specs.Shown.{shown_lexemes}
 use Rattle.upon_language_spec.specs.Tokens.{significant}
-use Rattle.upon_language_spec.proofs.Totality.FittingClears.{AllClear}
-use Rattle.upon_language_spec.proofs.Totality.Pieces.{Known}
+use Rattle.upon_language_spec.specs.Stages.{AllClear}
+use Rattle.upon_language_spec.specs.ClosingTags.{Known}
 use Rattle.upon_lexer.specs.Lexers.{lexer_text, lexer_delimiters, lexer_state}
 use Rattle.upon_syntax.specs.declared.compile.parse.piece.Piece.{Piece as CodePiece}
 use Rattle.upon_syntax.specs.declared.compile.parse.piece_reader.PieceReader.{PieceReader}
@@ -161,8 +161,8 @@ IsGivenTo reader before ls token span = TokenGiven (pieces_delimiters reader) (p
     (pieces_state reader) (pieces_blocks reader) ls token span
 
 -- it goes on over these pieces, from before a token that it was given
-abbrev pub GoesOn : PieceReader → PieceReader → LexerState → List Lexeme → List Piece → Type 0
-GoesOn reader after before ls found = ReadsOn (pieces_delimiters reader) (pieces_text reader) before
+abbrev pub ReaderGoesOn : PieceReader → PieceReader → LexerState → List Lexeme → List Piece → Type 0
+ReaderGoesOn reader after before ls found = ReadsOn (pieces_delimiters reader) (pieces_text reader) before
     (pieces_state after) (pieces_blocks reader) (pieces_blocks after) ls found
 
 -- it goes on over one piece, of which the code keeps this, and the instructions of the piece's expression are appended
@@ -174,7 +174,7 @@ ReadsPiece reader after before ls old new kept = PieceRead (pieces_delimiters re
 -- the same of the piece that was read, if one was; a comment leaves the instructions
 abbrev pub ReadsFound : PieceReader → PieceReader → LexerState → List Lexeme → List CodeInstr → List CodeInstr
     → Option CodePiece → Type 0
-ReadsFound reader after before ls old new None = GoesOn reader after before ls [] × (new ≡ old)
+ReadsFound reader after before ls old new None = ReaderGoesOn reader after before ls [] × (new ≡ old)
 ReadsFound reader after before ls old new (Some kept) = ReadsPiece reader after before ls old new kept
 
 -- it has read the begin of a comment last

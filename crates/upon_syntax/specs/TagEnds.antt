@@ -19,7 +19,7 @@ use Rattle.upon_language_spec.specs.Faults.{span_of, lexeme_at}
 use Rattle.upon_language_spec.specs.LaterFaults.{Report, number_report}
 use Rattle.upon_language_spec.specs.CutFaults.{ClearTo, IsFirstCutFault}
 use Rattle.upon_language_spec.specs.Lexing.{LexerState, HasRead}
-use Rattle.upon_language_spec.proofs.NoTreeWithFault.InsideTag.{is_inside, EachInside}
+use Rattle.upon_language_spec.specs.InTags.{is_inside, EachInside}
 use Rattle.upon_tag_parser.specs.declared.compile.parse.literal.Lexed.{Lexed}
 use Rattle.upon_tag_parser.specs.declared.compile.parse.literal_fault.Refusal.{Refusal}
 use Rattle.upon_tag_parser.specs.LiteralReasons.{report_of}

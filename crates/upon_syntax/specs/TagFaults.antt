@@ -11,10 +11,9 @@ use Rattle.upon_language_spec.specs.Wanted.{Wanted, reason_for}
 use Rattle.upon_language_spec.specs.Parts.{Part, tag_start, after_symbol, wanted_at}
 use Rattle.upon_language_spec.specs.PartLeads.{Leads}
 use Rattle.upon_language_spec.specs.Lexing.{LexerState}
-use Rattle.upon_language_spec.proofs.NoTreeWithFault.FineAt.{last_or}
-use Rattle.upon_language_spec.proofs.NoTreeWithFault.TagShapes.{ends_a_tag}
-use Rattle.upon_language_spec.proofs.Totality.Stage.{Stage}
-use Rattle.upon_language_spec.proofs.Wanted.Opened.{is_open}
+use Rattle.upon_language_spec.specs.InTags.{last_or, ends_a_tag}
+use Rattle.upon_language_spec.specs.Stages.{Stage}
+use Rattle.upon_language_spec.specs.OpenParts.{is_open}
 use Rattle.upon_tag_parser.specs.declared.compile.parse.literal.Lexed.{Lexed}
 use Rattle.upon_syntax.specs.declared.compile.parse.tag_tokens.Ended.{Ended}
 use Rattle.upon_tag_parser.specs.declared.compile.parse.want.Want.{Want}

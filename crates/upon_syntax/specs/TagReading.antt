@@ -12,9 +12,8 @@ use Rattle.upon_language_spec.specs.Reading.{open_tag}
 use Rattle.upon_language_spec.specs.Shown.{shown_lexemes}
 use Rattle.upon_language_spec.specs.Tokens.{without_spaces, significant}
 use Rattle.upon_language_spec.specs.FirstFault.{IsFirstFault}
-use Rattle.upon_language_spec.proofs.NoTreeWithFault.InsideTag.{EachInside}
-use Rattle.upon_language_spec.proofs.Totality.Stage.{Stage}
-use Rattle.upon_language_spec.proofs.Totality.WholeTag.{EndsAt}
+use Rattle.upon_language_spec.specs.InTags.{EachInside}
+use Rattle.upon_language_spec.specs.Stages.{Stage, EndsAt}
 use Rattle.upon_lexer.specs.declared.compile.lex.Lexer.{Lexer}
 use Rattle.upon_lexer.specs.Lexers.{lexer_text, lexer_delimiters, lexer_state, ReadSoFar}
 use Rattle.upon_syntax.specs.Pieces.{Piece, ArePieces}

@@ -10,8 +10,9 @@ use Rattle.upon_language_spec.specs.Keys.{Key, key_not, key_true, key_false, key
 use Rattle.upon_language_spec.specs.Wanted.{a_colon, an_end_expression, an_end_block}
 use Rattle.upon_language_spec.specs.Parts.{Part, filters, after_filter, more_args, condition, end_expr, end_block, base_key, base_goes, after, lesser, wanted_at}
 use Rattle.upon_language_spec.specs.PartTails.{No, Tail, no_tail, member_tail, name_tail, tail_parts, Quiet}
-use Rattle.upon_language_spec.proofs.NoTreeWithFault.InsideTag.{is_inside}
-use Rattle.upon_language_spec.proofs.Wanted.ExpressionsLead.{Ending, base_ending, name_ending, args_ending, ending_parts, ending_left, condition_takes}
+use Rattle.upon_language_spec.specs.InTags.{is_inside}
+use Rattle.upon_language_spec.specs.OpenParts.{Ending, base_ending, name_ending, args_ending, ending_parts}
+use Rattle.upon_language_spec.proofs.Wanted.ExpressionsLead.{ending_left, condition_takes}
 use Rattle.upon_tag_parser.specs.TagParsing.{Refuses, QuietEnding, NoBase, NoWord, StartsBase}
 use Rattle.upon_tag_parser.specs.WholeTags.{IsEnding}
 use Rattle.upon_language_spec.proofs.Wanted.LeadingBegins.{is_key}

@@ -13,7 +13,8 @@ use Rattle.upon_language_spec.specs.Tags.{symbol_of}
 use Rattle.upon_language_spec.specs.Parts.{Part, a_base, filters, filter_name, after_filter, more_args, close_paren, after}
 use Rattle.upon_language_spec.specs.PartTails.{No, no_tail, TakesBase}
 use Rattle.upon_language_spec.specs.PartLeads.{Leads}
-use Rattle.upon_language_spec.proofs.Wanted.ExpressionsLead.{Ending, base_ending, name_ending, args_ending, ending_parts, leads_then, leads_nowhere, leads_token, by_ending, base_takes}
+use Rattle.upon_language_spec.specs.OpenParts.{Ending, base_ending, name_ending, args_ending, ending_parts}
+use Rattle.upon_language_spec.proofs.Wanted.ExpressionsLead.{leads_then, leads_nowhere, leads_token, by_ending, base_takes}
 use Rattle.upon_language_spec.proofs.Wanted.TagsLead.{tail_joins}
 use Rattle.upon_tag_parser.specs.declared.compile.parse.literal.Lexed.{Lexed}
 use Rattle.upon_tag_parser.specs.declared.compile.parse.want.Want.{Want}

@@ -5,7 +5,7 @@ use Rattle.upon_types.specs.declared.types.token.Token.{Token}
 use Rattle.upon_types.specs.declared.types.token.Token.TheVariants.{Minus, Number, String}
 use Rattle.upon_language_spec.specs.Cut.{Lexeme}
 use Rattle.upon_language_spec.specs.LaterFaults.{minus_before}
-use Rattle.upon_language_spec.proofs.NoTreeWithFault.InsideTag.{is_inside}
+use Rattle.upon_language_spec.specs.InTags.{is_inside}
 use Rattle.upon_language_spec.specs.Tokens.{Goes}
 use Rattle.upon_language_spec.specs.Inside.{IsQuoted}
 use Rattle.upon_language_spec.specs.LiteralFaults.{escape_fault}

@@ -15,10 +15,11 @@ use Rattle.upon_language_spec.specs.Wanted.{Wanted, an_end_block, an_as}
 use Rattle.upon_language_spec.specs.Parts.{Part, a_base, filters, end_block, block_word, condition, else_rest, loop_name, loop_rest, loop_value, in_word, as_word, as_name, include_name, include_rest, after}
 use Rattle.upon_language_spec.specs.PartTails.{No}
 use Rattle.upon_language_spec.specs.PartLeads.{Leads}
-use Rattle.upon_language_spec.proofs.NoTreeWithFault.InsideTag.{is_inside}
+use Rattle.upon_language_spec.specs.InTags.{is_inside}
 use Rattle.upon_language_spec.proofs.Totality.ExpressionMore.{expression_more}
 use Rattle.upon_language_spec.proofs.Totality.TagMore.{keyword_more, name_more, condition_more, names_more, context_more, text_more}
-use Rattle.upon_language_spec.proofs.Wanted.ExpressionsLead.{ending_parts, ending_left, base_takes, condition_takes, leads_then, leads_token, leads_key}
+use Rattle.upon_language_spec.specs.OpenParts.{ending_parts}
+use Rattle.upon_language_spec.proofs.Wanted.ExpressionsLead.{ending_left, base_takes, condition_takes, leads_then, leads_token, leads_key}
 use Rattle.upon_tag_parser.specs.BlockTags.{BlockTag, if_tag, else_if_tag, else_tag, endif_tag, for_tag, endfor_tag, with_tag, endwith_tag, include_tag, IsBlockTag}
 use Rattle.upon_tag_parser.specs.TagParsing.{Refuses, StuckAt, IsStuck, NoWord, ReadsExpression}
 use Rattle.upon_tag_parser.specs.WholeTags.{LeadsToEnd, IsInlineTag, IsTagInside, IsTagBody, IsEnding, ReadsTag, ReadsCondition, ReadsLoopVars, IsTooLong, NoOpeningWord}

@@ -17,7 +17,7 @@ use Rattle.upon_language_spec.specs.Wanted.{Wanted, an_expression}
 use Rattle.upon_language_spec.specs.Parts.{Part, base_goes, after, after_symbol, wanted_at, filters, a_base}
 use Rattle.upon_language_spec.specs.PartTails.{No, Tail, tail_parts, Quiet, TakesBase}
 use Rattle.upon_language_spec.specs.PartLeads.{Leads}
-use Rattle.upon_language_spec.proofs.Wanted.ExpressionsLead.{Ending, base_ending, name_ending, args_ending, ending_parts}
+use Rattle.upon_language_spec.specs.OpenParts.{Ending, base_ending, name_ending, args_ending, ending_parts}
 use Rattle.upon_tag_parser.specs.declared.compile.parse.literal.Lexed.{Lexed}
 use Rattle.upon_tag_parser.specs.declared.compile.parse.path.Failure.{Failure}
 use Rattle.upon_tag_parser.specs.declared.compile.parse.path.Failure.TheVariants.{Memory, Stuck}

@@ -7,8 +7,7 @@ use Rattle.upon_language_spec.specs.Cut.{Lexeme}
 use Rattle.upon_language_spec.specs.Inside.{IsQuoted}
 use Rattle.upon_language_spec.specs.Literal.{digits_in}
 use Rattle.upon_language_spec.specs.LaterFaults.{minus_before}
-use Rattle.upon_language_spec.proofs.NoTreeWithFault.InsideTag.{is_inside}
-use Rattle.upon_language_spec.proofs.Totality.InsideClear.{FineLiteral}
+use Rattle.upon_language_spec.specs.InTags.{is_inside, FineLiteral}
 use Rattle.upon_tag_parser.specs.declared.compile.parse.literal.Lexed.{Lexed}
 use Rattle.upon_tag_parser.specs.Literals.{lexeme_of}
 

@@ -17,8 +17,8 @@ use Rattle.upon_language_spec.specs.Parts.{Part, a_base, filters, block_word, co
 use Rattle.upon_language_spec.specs.Parts.{wanted_at}
 use Rattle.upon_language_spec.specs.PartTails.{No}
 use Rattle.upon_language_spec.specs.PartLeads.{Leads}
-use Rattle.upon_language_spec.proofs.NoTreeWithFault.InsideTag.{is_inside}
-use Rattle.upon_language_spec.proofs.Wanted.ExpressionsLead.{Ending, ending_parts}
+use Rattle.upon_language_spec.specs.InTags.{is_inside}
+use Rattle.upon_language_spec.specs.OpenParts.{Ending, ending_parts}
 use Rattle.upon_tag_parser.specs.declared.compile.parse.literal.Lexed.{Lexed}
 use Rattle.upon_tag_parser.specs.declared.compile.parse.want.Want.{Want}
 use Rattle.upon_tag_parser.specs.TagParsing.{Refuses, QuietEnding, NoWord}

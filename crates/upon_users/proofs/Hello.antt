@@ -12,7 +12,8 @@ use Rattle.upon_language_spec.specs.DefaultDelimiters.{default_delimiters}
 use Rattle.upon_language_spec.specs.Grammar.{HasTree}
 use Rattle.upon_language_spec.proofs.Computation.Computing.{computing}
 use Rattle.upon_language_spec.proofs.Computation.HasTreeTests.{has_tree_tested}
-use Rattle.upon_language_spec.proofs.Examples.ShortTrees.{at, lex, name, three, shows}
+use Rattle.upon_language_spec.specs.ShortTrees.{at, name}
+use Rattle.upon_language_spec.proofs.Examples.ShortTrees.{lex, three, shows}
 use Rattle.upon_meaning_spec.specs.Engine.{Table}
 use Rattle.upon_meaning_spec.specs.Outcome.{good}
 use Rattle.upon_engine.specs.Changes.{empty_engine, with_text}

@@ -9,7 +9,8 @@ use Rattle.upon_language_spec.specs.Grammar.{HasTree}
 use Rattle.upon_language_spec.specs.Search.{DelimiterText}
 use Rattle.upon_language_spec.proofs.Computation.Computing.{computing}
 use Rattle.upon_language_spec.proofs.Computation.HasTreeTests.{has_tree_tested}
-use Rattle.upon_language_spec.proofs.Examples.ShortTrees.{at, lex, name, three, shows}
+use Rattle.upon_language_spec.specs.ShortTrees.{at, name}
+use Rattle.upon_language_spec.proofs.Examples.ShortTrees.{lex, three, shows}
 use Rattle.upon_render.specs.Asked.{never}
 use Rattle.upon_render.specs.Environment.{context}
 use Rattle.upon_meaning_spec.specs.Alone.{alone}

@@ -20,7 +20,7 @@ struct Pages<'r> {
 impl<'r> TemplateSource<'r> for Pages<'r> {
     ghost use Rattle.std.specs.Prelude.{[]};
     ghost use Rattle.std.specs.BTreeMap.{get_by_text};
-    ghost use Rattle.upon.specs.TemplateSpans.{handed_on_lie};
+    ghost use Rattle.upon.proofs.TemplateSpans.{handed_on_lie};
     ghost use Rattle.upon_engine.specs.HandsOn.{hands_on};
     ghost use Rattle.upon_large_tests.specs.Pages.{answers_of};
 

@@ -20,8 +20,10 @@ use Rattle.upon_language_spec.specs.Lexing.{brackets_in}
 use Rattle.upon_language_spec.specs.Parts.{Part, tag_start, Path, after_symbol}
 use Rattle.upon_language_spec.proofs.OneCut.Token.{step_ends}
 use Rattle.upon_language_spec.proofs.Computation.Tests.{left_true, right_true, same_number}
-use Rattle.upon_language_spec.proofs.Totality.FittingClears.{StandsAt, NoLaterFault, alike, in_mode, fitting_clears}
-use Rattle.upon_language_spec.proofs.Totality.Stage.{Stage, start, on, outside_is_clear}
+use Rattle.upon_language_spec.specs.OpenParts.{StandsAt}
+use Rattle.upon_language_spec.proofs.Totality.FittingClears.{NoLaterFault, alike, in_mode, fitting_clears}
+use Rattle.upon_language_spec.specs.Stages.{Stage}
+use Rattle.upon_language_spec.proofs.Totality.Stage.{start, on, outside_is_clear}
 use Rattle.upon_language_spec.proofs.Computation.WholeCut.{step_test, step_tested}
 use Rattle.upon_language_spec.proofs.Computation.NoCut.{last_mode}
 

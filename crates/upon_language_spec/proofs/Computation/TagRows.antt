@@ -17,7 +17,8 @@ use Rattle.upon_language_spec.specs.Tags.{IsTag, an_inline, an_include, an_if, a
 use Rattle.upon_language_spec.specs.Wanted.{plain_symbol}
 use Rattle.upon_language_spec.proofs.Computation.ReadStatements.{read_statements, statements_read}
 use Rattle.upon_language_spec.proofs.Computation.NoTree.{first_goes, first_is, by_block}
-use Rattle.upon_language_spec.proofs.Examples.ShortTrees.{at, bare, step, quote, lex, number, one}
+use Rattle.upon_language_spec.specs.ShortTrees.{at, bare, one}
+use Rattle.upon_language_spec.proofs.Examples.ShortTrees.{step, quote, lex, number}
 
 -- a row begins a tag, where an expression's tag in some text begins with it
 shown_by : (row more : List Symbol) (s : List ℕ) (ls : List Lexeme) (e : Expression) (span : Span) → read_statements s (one (inline_expr e span)) ls ≡ Some [] → symbols_of s ls ≡ row ++ more → BeginsTag row

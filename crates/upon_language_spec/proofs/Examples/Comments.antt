@@ -6,7 +6,8 @@ use Rattle.upon_types.specs.Tree.{raw, no_statements}
 use Rattle.upon_language_spec.specs.DefaultDelimiters.{default_delimiters}
 use Rattle.upon_language_spec.specs.Grammar.{HasTree}
 use Rattle.upon_language_spec.proofs.Computation.HasTreeTests.{has_tree_tested}
-use Rattle.upon_language_spec.proofs.Examples.ShortTrees.{at, lex, trimming, two}
+use Rattle.upon_language_spec.specs.ShortTrees.{at, two}
+use Rattle.upon_language_spec.proofs.Examples.ShortTrees.{lex, trimming}
 
 -- `{# a #}`
 comment_alone : HasTree default_delimiters (codes "{# a #}") no_statements

@@ -7,7 +7,8 @@ use Rattle.upon_types.specs.Tree.{raw}
 use Rattle.upon_language_spec.specs.Search.{DelimiterText}
 use Rattle.upon_language_spec.specs.Grammar.{HasTree}
 use Rattle.upon_language_spec.proofs.Computation.HasTreeTests.{has_tree_tested}
-use Rattle.upon_language_spec.proofs.Examples.ShortTrees.{at, lex, trimming, name, number, two, three, shows, only}
+use Rattle.upon_language_spec.specs.ShortTrees.{at, name, two}
+use Rattle.upon_language_spec.proofs.Examples.ShortTrees.{lex, trimming, number, three, shows, only}
 
 -- the delimiters of expressions alone, in the order of a syntax: begin, end, and both with a hyphen
 abbrev braces : List ℕ → List ℕ → List ℕ → List ℕ → List DelimiterText

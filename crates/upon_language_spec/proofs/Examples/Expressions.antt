@@ -9,7 +9,8 @@ use Rattle.upon_types.specs.Tree.{raw}
 use Rattle.upon_language_spec.specs.DefaultDelimiters.{default_delimiters}
 use Rattle.upon_language_spec.specs.Grammar.{HasTree}
 use Rattle.upon_language_spec.proofs.Computation.HasTreeTests.{has_tree_tested}
-use Rattle.upon_language_spec.proofs.Examples.ShortTrees.{at, lex, braced, word, bare, step, name, number, quote, one_base, two_bases, two, shows, only, only_expression}
+use Rattle.upon_language_spec.specs.ShortTrees.{at, word, bare, name, two}
+use Rattle.upon_language_spec.proofs.Examples.ShortTrees.{lex, braced, step, number, quote, one_base, two_bases, shows, only, only_expression}
 
 -- `{{ a }}}`: a tag, and a raw `}`
 name_and_brace : HasTree default_delimiters (codes "{{ a }}}") (two (shows (name (codes "a") 3 4) 0 7) (raw (at 7 8)))

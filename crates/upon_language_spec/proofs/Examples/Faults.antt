@@ -13,7 +13,8 @@ use Rattle.upon_language_spec.proofs.Computation.WholeCut.{begins_tested, ends_t
 use Rattle.upon_language_spec.proofs.Computation.NoCut.{reads_to}
 use Rattle.upon_language_spec.proofs.Computation.ReadStatements.{word_tag_read}
 use Rattle.upon_language_spec.specs.Tags.{an_endif}
-use Rattle.upon_language_spec.proofs.Examples.ShortTrees.{at, lex}
+use Rattle.upon_language_spec.specs.ShortTrees.{at}
+use Rattle.upon_language_spec.proofs.Examples.ShortTrees.{lex}
 
 -- `}}`: an end outside tags
 pub end_outside : Holds default_delimiters (codes "}}") unexpected_end 0 (at 0 2) (codes "unexpected end expression")

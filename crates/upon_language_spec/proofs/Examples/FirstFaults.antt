@@ -15,7 +15,8 @@ use Rattle.upon_language_spec.proofs.Computation.Computing.{computing}
 use Rattle.upon_language_spec.proofs.Computation.InnerTests.{inner_tested}
 use Rattle.upon_language_spec.proofs.Computation.WholeCut.{step_tested}
 use Rattle.upon_language_spec.proofs.Computation.FirstFaultTests.{stands_tested, walked}
-use Rattle.upon_language_spec.proofs.Examples.ShortTrees.{at, lex}
+use Rattle.upon_language_spec.specs.ShortTrees.{at}
+use Rattle.upon_language_spec.proofs.Examples.ShortTrees.{lex}
 use Rattle.upon_language_spec.proofs.Examples.Faults.{end_outside, nothing_in_comment, tag_in_tag, open_bracket, stray_close, open_block, strange_character, stray_endif}
 use Rattle.upon_language_spec.proofs.Examples.TokenFaults.{wrong_digit, large_index, strange_escape, colon_first, end_in_tag, open_text}
 

@@ -7,7 +7,8 @@ use Rattle.upon_types.specs.Expression.{literal}
 use Rattle.upon_language_spec.specs.DefaultDelimiters.{default_delimiters}
 use Rattle.upon_language_spec.specs.Grammar.{HasTree}
 use Rattle.upon_language_spec.proofs.Computation.HasTreeTests.{has_tree_tested}
-use Rattle.upon_language_spec.proofs.Examples.ShortTrees.{at, lex, braced, number, quote, only}
+use Rattle.upon_language_spec.specs.ShortTrees.{at}
+use Rattle.upon_language_spec.proofs.Examples.ShortTrees.{lex, braced, number, quote, only}
 
 -- `{{ true }}`
 yes : HasTree default_delimiters (codes "{{ true }}") (only (literal (bool_val true) (at 3 7)) 10)

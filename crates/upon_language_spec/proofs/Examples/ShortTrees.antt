@@ -1,18 +1,14 @@
 -- Short names that let the tokens and the trees of the examples read well.
 use Rattle.std.specs.Prelude.{ℕ, ◌+◌, ℤ, List, [], ◌∷◌, ◌++◌, true, false}
-use Rattle.upon_types.specs.declared.types.Span.{Span}
 use Rattle.upon_types.specs.declared.types.token.Token.{Token}
 use Rattle.upon_types.specs.declared.types.token.Token.TheVariants.{BeginExpr, EndExpr, Whitespace}
 use Rattle.upon_types.specs.declared.types.ast.path.AccessOp.{AccessOp}
-use Rattle.upon_types.specs.declared.types.ast.path.AccessOp.TheVariants.{Direct}
 use Rattle.upon_types.specs.Val.{int_val, text_val}
-use Rattle.upon_types.specs.Path.{Ident, Access, by_key, Member}
-use Rattle.upon_types.specs.Expression.{Expression, base, Base, var, literal, Bases, no_bases, base_then}
-use Rattle.upon_types.specs.Tree.{Statement, inline_expr, Statements, no_statements, statement_then}
+use Rattle.upon_types.specs.Path.{Access, Member}
+use Rattle.upon_types.specs.Expression.{Expression, base, Base, literal, Bases, no_bases, base_then}
+use Rattle.upon_types.specs.Tree.{Statement, inline_expr, Statements, statement_then}
 use Rattle.upon_language_spec.specs.Cut.{Lexeme}
-
-abbrev pub at : ℕ → ℕ → Span
-at m n = record { m = m; n = n }
+use Rattle.upon_language_spec.specs.ShortTrees.{at, one, two}
 
 -- a token, and a delimiter with the hyphen
 abbrev pub lex : Token → ℕ → ℕ → Lexeme
@@ -25,18 +21,9 @@ trimming t m n = record { token = t; hyphen = true; span = at m n }
 abbrev pub braced : List Lexeme → ℕ → List Lexeme
 braced lexemes n = lex BeginExpr 0 2 ∷ lex Whitespace 2 3 ∷ (lexemes ++ (lex Whitespace n (n + 1) ∷ lex EndExpr (n + 1) (n + 3) ∷ []))
 
--- a word, a bare first name, and a path of that name alone
-abbrev pub word : List ℕ → ℕ → ℕ → Ident
-word text m n = record { text = text; span = at m n }
-
-abbrev pub bare : List ℕ → ℕ → ℕ → Member
-bare text m n = record { op = Direct; access = by_key (word text m n); span = at m n }
-
+-- a member, after its operator
 abbrev pub step : AccessOp → Access → ℕ → ℕ → Member
 step op selector m n = record { op = op; access = selector; span = at m n }
-
-abbrev pub name : List ℕ → ℕ → ℕ → Base
-name text m n = var (bare text m n) []
 
 abbrev pub number : ℤ → ℕ → ℕ → Base
 number z m n = literal (int_val z) (at m n)
@@ -50,12 +37,6 @@ one_base a = base_then a no_bases
 
 abbrev pub two_bases : Base → Base → Bases
 two_bases a b = base_then a (one_base b)
-
-abbrev pub one : Statement → Statements
-one t = statement_then t no_statements
-
-abbrev pub two : Statement → Statement → Statements
-two t u = statement_then t (one u)
 
 abbrev pub three : Statement → Statement → Statement → Statements
 three t u v = statement_then t (two u v)

@@ -9,7 +9,8 @@ use Rattle.upon_types.specs.Tree.{raw, include, if_else, for_loop, with, no_stat
 use Rattle.upon_language_spec.specs.DefaultDelimiters.{default_delimiters}
 use Rattle.upon_language_spec.specs.Grammar.{HasTree}
 use Rattle.upon_language_spec.proofs.Computation.HasTreeTests.{has_tree_tested}
-use Rattle.upon_language_spec.proofs.Examples.ShortTrees.{at, lex, word, bare, step, name, number, two_bases, one, shows}
+use Rattle.upon_language_spec.specs.ShortTrees.{at, word, bare, name, one}
+use Rattle.upon_language_spec.proofs.Examples.ShortTrees.{lex, step, number, two_bases, shows}
 
 -- the empty text: it has no statement
 nothing : HasTree default_delimiters (codes "") no_statements

@@ -13,7 +13,8 @@ use Rattle.upon_language_spec.proofs.Computation.InnerTests.{inner_tested, each_
 use Rattle.upon_language_spec.specs.Inside.{escape, string_text}
 use Rattle.upon_language_spec.proofs.Computation.WholeCut.{step_tested}
 use Rattle.upon_language_spec.proofs.Computation.TagRows.{number_may_stand, bracket_may_stand, colon_may_not_stand, text_may_stand, index_may_stand}
-use Rattle.upon_language_spec.proofs.Examples.ShortTrees.{at, lex}
+use Rattle.upon_language_spec.specs.ShortTrees.{at}
+use Rattle.upon_language_spec.proofs.Examples.ShortTrees.{lex}
 use Rattle.std.proofs.Common.{◌+◌, ◌<◌, ◌≤◌, ◌++◌, zero, suc, length, length-append, slice_index, encode_utf8}
 use Rattle.upon_language_spec.specs.Search.{Occurs}
 use Rattle.upon_language_spec.proofs.SpansLieIn.Offsets.{occurs_within}

@@ -7,7 +7,8 @@ use Rattle.upon_types.specs.Tree.{raw, if_else, no_else}
 use Rattle.upon_language_spec.specs.DefaultDelimiters.{default_delimiters}
 use Rattle.upon_language_spec.specs.Grammar.{HasTree}
 use Rattle.upon_language_spec.proofs.Computation.HasTreeTests.{has_tree_tested}
-use Rattle.upon_language_spec.proofs.Examples.ShortTrees.{at, lex, trimming, name, number, one, two, three, shows}
+use Rattle.upon_language_spec.specs.ShortTrees.{at, name, one, two}
+use Rattle.upon_language_spec.proofs.Examples.ShortTrees.{lex, trimming, number, three, shows}
 
 -- `a  {{- 1 -}}  b`
 both_sides : HasTree default_delimiters (codes "a  {{- 1 -}}  b") (three (raw (at 0 1)) (shows (number (pos 1) 7 8) 3 12) (raw (at 14 15)))

@@ -7,7 +7,8 @@ use Rattle.upon_language_spec.specs.Inside.{in_path_after}
 use Rattle.upon_language_spec.specs.Cut.{Lexeme, Mode, outside, in_tag, in_comment, IsToken, mode_after, Cut}
 use Rattle.upon_language_spec.specs.Tokens.{begins_comment}
 use Rattle.upon_language_spec.specs.Reading.{opens_tag, from_begin, open_tag, closed_part, before_tag}
-use Rattle.upon_language_spec.proofs.NoTreeWithFault.InsideTag.{is_inside, EachInside, extent_is_inside, inside_is_no_begin, inside_stays, end_leaves, begin_step, other_step}
+use Rattle.upon_language_spec.specs.InTags.{is_inside, EachInside}
+use Rattle.upon_language_spec.proofs.NoTreeWithFault.InsideTag.{extent_is_inside, inside_is_no_begin, inside_stays, end_leaves, begin_step, other_step}
 
 abbrev is_outside : Mode → Bool
 is_outside outside = true

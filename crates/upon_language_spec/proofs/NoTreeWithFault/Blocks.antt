@@ -9,7 +9,8 @@ use Rattle.upon_language_spec.specs.Expressions.{IsExpression}
 use Rattle.upon_language_spec.specs.Grammar.{IsStatement, AreStatements, IsElse, IsForElse, IsElseIf, IsIfAfterElse}
 use Rattle.upon_language_spec.proofs.NoTreeWithFault.Fine.{Passes}
 use Rattle.upon_language_spec.specs.Blocks.{if_block, for_block, with_block, OpenBlock, blocks_from}
-use Rattle.upon_language_spec.proofs.NoTreeWithFault.TagBlocks.{AllTaken, Walks, walks_then, walks_nothing, walks_one, opening, walks_endif, walks_endfor, walks_endwith, walks_plain_else, walks_if, walks_for, walks_with, walks_else_if, walks_include, walks_inline}
+use Rattle.upon_language_spec.specs.ClosingTags.{AllTaken}
+use Rattle.upon_language_spec.proofs.NoTreeWithFault.TagBlocks.{Walks, walks_then, walks_nothing, walks_one, opening, walks_endif, walks_endfor, walks_endwith, walks_plain_else, walks_if, walks_for, walks_with, walks_else_if, walks_include, walks_inline}
 
 -- with what is known of expressions: none of their tokens begins a block
 module _ (s : List ℕ) (passes : (e : Expression) (ts rest : List Lexeme) → IsExpression s e ts rest → Passes s ts rest) where

@@ -2,12 +2,8 @@
 use Rattle.std.proofs.Common.{◌≡◌, ℕ, List, [], ◌∷◌, ◌++◌, Option, Some}
 use Rattle.upon_language_spec.specs.Cut.{Lexeme}
 use Rattle.upon_language_spec.specs.Reading.{brackets_after, brackets_from}
+use Rattle.upon_language_spec.specs.InTags.{last_or}
 use Rattle.upon_language_spec.proofs.NoTreeWithFault.Fine.{TokenFine, Fine}
-
--- the last of the tokens, or what is before them
-abbrev pub last_or : Option Lexeme → List Lexeme → Option Lexeme
-last_or before [] = before
-last_or before (l ∷ ls) = last_or (Some l) ls
 
 pub fine_at : (s : List ℕ) (stack stack' : List Lexeme) (before before' : Option Lexeme) (fs : List Lexeme) (b : Lexeme) (ms : List Lexeme) → Fine s stack before (fs ++ (b ∷ ms)) stack' before' → TokenFine s (brackets_from stack fs) (last_or before fs) b.token b
 fine_at s stack stack' before before' [] b ms h = h.0

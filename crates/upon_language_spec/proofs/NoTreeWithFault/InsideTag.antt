@@ -11,21 +11,7 @@ use Rattle.upon_language_spec.specs.Cut.{Lexeme, Mode, outside, in_tag, mode_aft
 use Rattle.upon_language_spec.specs.Shown.{shown_lexeme, shown_lexemes, begin_trims, is_end}
 use Rattle.upon_language_spec.specs.Tokens.{is_space, begins_comment, is_raw, without_spaces, without_comments, comment_from, after_comment_end, significant}
 use Rattle.upon_language_spec.specs.Reading.{opens_tag, from_begin}
-
--- what may be inside a tag
-abbrev pub is_inside : Token → Bool
-is_inside Raw = false
-is_inside BeginExpr = false
-is_inside EndExpr = false
-is_inside BeginBlock = false
-is_inside EndBlock = false
-is_inside BeginComment = false
-is_inside EndComment = false
-is_inside t = true
-
-abbrev pub EachInside : List Lexeme → Type 0
-EachInside [] = Unit {0}
-EachInside (l ∷ ls) = (is_inside l.token ≡ true) × EachInside ls
+use Rattle.upon_language_spec.specs.InTags.{is_inside, EachInside}
 
 pub each_more : (ls : List Lexeme) (l : Lexeme) → EachInside ls → is_inside l.token ≡ true → EachInside (ls ++ l ∷ [])
 each_more [] l each h = (h, tt)

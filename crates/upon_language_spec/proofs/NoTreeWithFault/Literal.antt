@@ -15,7 +15,7 @@ use Rattle.upon_language_spec.specs.Reading.{last_of}
 use Rattle.upon_language_spec.specs.Grammar.{AreStatements, HasTree}
 use Rattle.upon_language_spec.specs.Faults.{span_of, tag_tokens, lexeme_at}
 use Rattle.upon_language_spec.specs.LaterFaults.{Report, minus_before, start_from, number_report_of, number_report, WrongNumber, WrongIndex, WrongEscape, EmptyComment}
-use Rattle.upon_language_spec.proofs.NoTreeWithFault.FineAt.{last_or}
+use Rattle.upon_language_spec.specs.InTags.{last_or}
 use Rattle.upon_language_spec.proofs.NoTreeWithFault.TagShapes.{begins_a_tag}
 use Rattle.upon_language_spec.proofs.NoTreeWithFault.NextToken.{Next, next_fine, the_next}
 use Rattle.upon_language_spec.proofs.OneCut.Token.{one_step, step_ends}

@@ -13,9 +13,9 @@ use Rattle.upon_language_spec.specs.Grammar.{AreStatements, HasTree}
 use Rattle.upon_language_spec.specs.Tags.{symbol_of, symbols_of, BeginsTag}
 use Rattle.upon_language_spec.specs.Faults.{tag_tokens, tag_row, lexeme_at}
 use Rattle.upon_language_spec.proofs.NoTreeWithFault.Fine.{TokenFine, Fine}
-use Rattle.upon_language_spec.proofs.NoTreeWithFault.FineAt.{last_or}
-use Rattle.upon_language_spec.proofs.NoTreeWithFault.TagShapes.{begins_a_tag, ends_a_tag}
-use Rattle.upon_language_spec.proofs.NoTreeWithFault.InsideTag.{is_inside, EachInside, shown_same}
+use Rattle.upon_language_spec.specs.InTags.{last_or, ends_a_tag, is_inside, EachInside}
+use Rattle.upon_language_spec.proofs.NoTreeWithFault.TagShapes.{begins_a_tag}
+use Rattle.upon_language_spec.proofs.NoTreeWithFault.InsideTag.{shown_same}
 use Rattle.upon_language_spec.proofs.NoTreeWithFault.SplitInTag.{InTag, split_in_tag}
 use Rattle.upon_language_spec.proofs.OneCut.Token.{one_step, step_ends}
 use Rattle.upon_language_spec.proofs.OneCut.Cut.{cut_on}

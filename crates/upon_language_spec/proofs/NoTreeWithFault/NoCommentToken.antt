@@ -9,9 +9,10 @@ use Rattle.upon_language_spec.specs.Tokens.{begins_comment}
 use Rattle.upon_language_spec.specs.Grammar.{IsStatement, AreStatements, IsElse, IsForElse, IsElseIf, IsIfAfterElse}
 use Rattle.upon_language_spec.specs.Tags.{IsTag, an_inline, an_include, an_if, an_else_if, an_else, an_endif, a_for, an_endfor, a_with, an_endwith}
 use Rattle.upon_language_spec.proofs.NoTreeWithFault.Fine.{TokenFine, Fine}
-use Rattle.upon_language_spec.proofs.NoTreeWithFault.FineAt.{last_or, fine_at}
+use Rattle.upon_language_spec.specs.InTags.{last_or, ends_a_tag}
+use Rattle.upon_language_spec.proofs.NoTreeWithFault.FineAt.{fine_at}
 use Rattle.upon_language_spec.proofs.NoTreeWithFault.Tails.{Tail, longer_or_tail, among_or_behind, rows_rest, only_one}
-use Rattle.upon_language_spec.proofs.NoTreeWithFault.TagShapes.{begins_a_tag, ends_a_tag, TagShape, tag_shape}
+use Rattle.upon_language_spec.proofs.NoTreeWithFault.TagShapes.{begins_a_tag, TagShape, tag_shape}
 use Rattle.upon_language_spec.proofs.NoTreeWithFault.TagsWithin.{shape_tail}
 use Rattle.upon_language_spec.proofs.NoTreeWithFault.TagsInStatements.{statement_tail, statements_tail}
 

@@ -8,9 +8,10 @@ use Rattle.upon_language_spec.specs.Grammar.{AreStatements}
 use Rattle.upon_language_spec.specs.Tags.{IsTag, Symbol, symbol_of, symbols_of, BeginsTag}
 use Rattle.upon_language_spec.proofs.NoTreeWithFault.Fine.{TokenFine, Fine, FineFrom}
 use Rattle.upon_language_spec.specs.LaterFaults.{minus_before}
-use Rattle.upon_language_spec.proofs.NoTreeWithFault.FineAt.{last_or, fine_at}
+use Rattle.upon_language_spec.specs.InTags.{last_or, ends_a_tag}
+use Rattle.upon_language_spec.proofs.NoTreeWithFault.FineAt.{fine_at}
 use Rattle.upon_language_spec.proofs.NoTreeWithFault.Tails.{Meets, sooner, later, together, meets, rows_rest}
-use Rattle.upon_language_spec.proofs.NoTreeWithFault.TagShapes.{begins_a_tag, ends_a_tag, TagShape, tag_shape}
+use Rattle.upon_language_spec.proofs.NoTreeWithFault.TagShapes.{begins_a_tag, TagShape, tag_shape}
 use Rattle.upon_language_spec.proofs.NoTreeWithFault.TagsInStatements.{found_statements}
 
 -- none of the tokens ends a tag

@@ -8,7 +8,8 @@ use Rattle.upon_language_spec.specs.Delimiters.{Sort, expression, block, comment
 use Rattle.upon_language_spec.specs.Inside.{in_path_after}
 use Rattle.upon_language_spec.specs.Cut.{Lexeme, Mode, outside, in_tag, in_comment, mode_after, Cut}
 use Rattle.upon_language_spec.specs.Tokens.{is_space, begins_comment, is_raw, without_spaces, without_comments, comment_from, after_comment_end, significant}
-use Rattle.upon_language_spec.proofs.NoTreeWithFault.InsideTag.{is_inside, extent_is_inside, inside_is_no_comment, inside_stays, end_leaves, end_is_no_comment, end_is_no_space, no_space_step, space_step, comment_step, raw_step, no_raw_step, kept, raw_then_raw}
+use Rattle.upon_language_spec.specs.InTags.{is_inside}
+use Rattle.upon_language_spec.proofs.NoTreeWithFault.InsideTag.{extent_is_inside, inside_is_no_comment, inside_stays, end_leaves, end_is_no_comment, end_is_no_space, no_space_step, space_step, comment_step, raw_step, no_raw_step, kept, raw_then_raw}
 use Rattle.upon_language_spec.proofs.NoTreeWithFault.TagBlocks.{begins_block}
 
 abbrev pub ends_block : Token → Bool

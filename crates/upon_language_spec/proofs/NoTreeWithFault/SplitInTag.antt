@@ -9,9 +9,9 @@ use Rattle.upon_language_spec.specs.Shown.{shown_lexemes}
 use Rattle.upon_language_spec.specs.Tokens.{begins_comment, without_spaces, comment_from, after_comment_end, significant}
 use Rattle.upon_language_spec.specs.Reading.{open_tag, last_of}
 use Rattle.upon_language_spec.specs.LaterFaults.{is_comment_begin}
-use Rattle.upon_language_spec.proofs.NoTreeWithFault.InsideTag.{EachInside, significant_behind, at_empty_comment}
+use Rattle.upon_language_spec.specs.InTags.{EachInside, last_or}
+use Rattle.upon_language_spec.proofs.NoTreeWithFault.InsideTag.{significant_behind, at_empty_comment}
 use Rattle.upon_language_spec.proofs.NoTreeWithFault.TagWalk.{Arrives, walk}
-use Rattle.upon_language_spec.proofs.NoTreeWithFault.FineAt.{last_or}
 
 -- the open tag is a begin and what may be inside a tag, and its tokens are read as they are, between some others and the rest
 pub record InTag (s : List ℕ) (sort : Sort) (rest tag read : List Lexeme) : Type 0 where

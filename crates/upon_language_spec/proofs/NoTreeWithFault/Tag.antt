@@ -13,8 +13,8 @@ use Rattle.upon_language_spec.specs.Reading.{open_brackets, brackets_from}
 use Rattle.upon_language_spec.specs.Grammar.{HasTree}
 use Rattle.upon_language_spec.specs.Faults.{UnclosedBracket, UnexpectedClose, UnexpectedToken, closes_first, is_close, lexeme_at}
 use Rattle.upon_language_spec.proofs.NoTreeWithFault.Fine.{TokenFine, Fine}
-use Rattle.upon_language_spec.proofs.NoTreeWithFault.FineAt.{last_or, fine_stack}
-use Rattle.upon_language_spec.proofs.NoTreeWithFault.TagShapes.{ends_a_tag}
+use Rattle.upon_language_spec.specs.InTags.{last_or, ends_a_tag}
+use Rattle.upon_language_spec.proofs.NoTreeWithFault.FineAt.{fine_stack}
 use Rattle.upon_language_spec.proofs.NoTreeWithFault.InsideTag.{end_is_no_space, end_is_no_comment}
 use Rattle.upon_language_spec.proofs.NoTreeWithFault.NextToken.{Next, next_fine, the_next}
 

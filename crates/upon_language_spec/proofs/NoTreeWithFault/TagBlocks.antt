@@ -13,46 +13,18 @@ use Rattle.upon_language_spec.specs.Expressions.{IsExpression}
 use Rattle.upon_language_spec.specs.Grammar.{BeginsBlock, IsWordTag, IsCondition, IsIfTag, IsElseIfTag, AreLoopVars, IsForTag, IsWithTag, AreGlobals, IsStatement}
 use Rattle.upon_language_spec.specs.Reading.{brackets_after}
 use Rattle.upon_language_spec.proofs.NoTreeWithFault.Fine.{TokenFine, Fine, Passes}
-use Rattle.upon_language_spec.specs.Blocks.{Block, if_block, for_block, with_block, OpenBlock, Closer, else_if, plain_else, else_by, closer_by, block_takes, takes, end_from, at_begin, by_word, by_closer, blocks_from}
+use Rattle.upon_language_spec.specs.Blocks.{Block, if_block, for_block, with_block, OpenBlock, Closer, else_if, plain_else, else_by, closer_by, block_takes, takes, end_from, by_word, by_closer, blocks_from}
+use Rattle.upon_language_spec.specs.ClosingTags.{is_word, blocks_past, Closing, TokenTaken, AllTaken}
 
 abbrev pub begins_block : Token → Bool
 begins_block BeginBlock = true
 begins_block t = false
 
-abbrev pub is_word : Token → Bool
-is_word Keyword = true
-is_word t = false
-
--- the open blocks after a token
-abbrev pub stepped : List ℕ → List OpenBlock → Token → Span → List Lexeme → List OpenBlock
-stepped s stack t span ls = elim t [ BeginBlock ↦ at_begin s span ls stack | _ ↦ stack ]
-
-abbrev pub word_next : List Lexeme → Bool
-word_next [] = false
-word_next (k ∷ ls) = is_word k.token
-
-abbrev pub closer_in : List ℕ → List Lexeme → Option Closer
-closer_in s [] = None
-closer_in s (k ∷ ls) = closer_by s (slice s k.span) ls
-
-abbrev pub Closing : List OpenBlock → Option Closer → Type 0
-Closing stack None = Unit {0}
-Closing stack (Some closer) = takes stack closer ≡ true
-
--- after a begin of block a keyword follows, and a closing tag is taken
-abbrev pub TokenTaken : List ℕ → List OpenBlock → Token → List Lexeme → Type 0
-TokenTaken s stack BeginBlock ls = (word_next ls ≡ true) × Closing stack (closer_in s ls)
-TokenTaken s stack t ls = Unit {0}
-
-abbrev pub AllTaken : List ℕ → List OpenBlock → List Lexeme → Type 0
-AllTaken s stack [] = Unit {0}
-AllTaken s stack (l ∷ ls) = TokenTaken s stack l.token ls × AllTaken s (stepped s stack l.token l.span ls) ls
-
 -- what is read up to the rest leads from these open blocks to those, and takes each closing tag
 abbrev pub Walks : List ℕ → List OpenBlock → List Lexeme → List OpenBlock → List Lexeme → Type 0
 Walks s a ts b rest = (blocks_from s a ts ≡ blocks_from s b rest) × (AllTaken s b rest → AllTaken s a ts)
 
-plain_stepped : (s : List ℕ) (a : List OpenBlock) (t : Token) (span : Span) (ls : List Lexeme) → begins_block t ≡ false → stepped s a t span ls ≡ a
+plain_stepped : (s : List ℕ) (a : List OpenBlock) (t : Token) (span : Span) (ls : List Lexeme) → begins_block t ≡ false → blocks_past s a t span ls ≡ a
 plain_stepped s a BeginBlock span ls h = absurd cc
 plain_stepped s a t span ls h = refl
 
@@ -104,7 +76,7 @@ module _ (s : List ℕ) where
       let G : Token → Type 0 = λ x. TokenTaken s a x (k ∷ ls) in
       let taken : TokenTaken s a l.token (k ∷ ls) = subst G (sym t) (ap is_word u, subst F (sym e) c) in
       let b = by_word s l.span word ls a in
-      let same : stepped s a l.token l.span (k ∷ ls) ≡ b = ap (λ (x : Token). stepped s a x l.span (k ∷ ls)) t ∙ ap (λ (x : List ℕ). by_word s l.span x ls a) e in
+      let same : blocks_past s a l.token l.span (k ∷ ls) ≡ b = ap (λ (x : Token). blocks_past s a x l.span (k ∷ ls)) t ∙ ap (λ (x : List ℕ). by_word s l.span x ls a) e in
       let word_walks = walks_plain b k ls (ap begins_block u) in
       let H : List OpenBlock → Type 0 = λ x. AllTaken s x (k ∷ ls) in
       (ap (λ (x : List OpenBlock). blocks_from s x (k ∷ ls)) same ∙ word_walks.0, λ h. (taken, subst H (sym same) (word_walks.1 h)))

@@ -8,6 +8,7 @@ use Rattle.upon_language_spec.specs.Cut.{Lexeme}
 use Rattle.upon_language_spec.specs.Tokens.{GoesBy}
 use Rattle.upon_language_spec.specs.Grammar.{BeginsBlock, IsWordTag, IsCondition, AreLoopVars, AreGlobals}
 use Rattle.upon_language_spec.specs.Tags.{IsTag, an_inline, an_include, an_if, an_else_if, an_else, an_endif, a_for, an_endfor, a_with, an_endwith}
+use Rattle.upon_language_spec.specs.InTags.{ends_a_tag}
 use Rattle.upon_language_spec.proofs.NoTreeWithFault.Fine.{Passes, passes_then, passes_nothing}
 use Rattle.upon_language_spec.proofs.NoTreeWithFault.FineExpression.{passes_by, passes_name, passes_text, passes_keyword, passes_expression}
 
@@ -15,11 +16,6 @@ abbrev pub begins_a_tag : Token → Bool
 begins_a_tag BeginExpr = true
 begins_a_tag BeginBlock = true
 begins_a_tag t = false
-
-abbrev pub ends_a_tag : Token → Bool
-ends_a_tag EndExpr = true
-ends_a_tag EndBlock = true
-ends_a_tag t = false
 
 pub record TagShape (s : List ℕ) (ts rest : List Lexeme) : Type 0 where
   pub begin : Lexeme

@@ -9,8 +9,8 @@ use Rattle.upon_language_spec.specs.Cut.{Lexeme, Mode, outside, in_tag, in_comme
 use Rattle.upon_language_spec.specs.Shown.{shown_lexeme, shown_lexemes, begin_trims, is_end}
 use Rattle.upon_language_spec.specs.Tokens.{is_space, begins_comment, is_raw, without_spaces, without_comments, comment_from, after_comment_end, significant}
 use Rattle.upon_language_spec.specs.Reading.{opens_tag, from_begin}
-use Rattle.upon_language_spec.proofs.NoTreeWithFault.FineAt.{last_or}
-use Rattle.upon_language_spec.proofs.NoTreeWithFault.InsideTag.{EachInside, each_more, extent_is_inside, inside_is_no_begin, inside_is_no_comment, inside_is_no_raw, inside_stays, end_leaves, end_is_no_begin, end_is_no_comment, end_is_no_space, shown_token, shown_same, begin_step, other_step, no_space_step, comment_step, raw_step, no_raw_step, kept, one_read, one_pushed, raw_then_raw}
+use Rattle.upon_language_spec.specs.InTags.{last_or, EachInside}
+use Rattle.upon_language_spec.proofs.NoTreeWithFault.InsideTag.{each_more, extent_is_inside, inside_is_no_begin, inside_is_no_comment, inside_is_no_raw, inside_stays, end_leaves, end_is_no_begin, end_is_no_comment, end_is_no_space, shown_token, shown_same, begin_step, other_step, no_space_step, comment_step, raw_step, no_raw_step, kept, one_read, one_pushed, raw_then_raw}
 
 -- What is shown where the walk ends in the mode `final`, of the last token, the open tag and the tokens that are read.
 pub record Arrives (s : List ℕ) (rest : List Lexeme) (final : Mode) (Goal : Option Lexeme → List Lexeme → List Lexeme → Type 0) : Type 0 where

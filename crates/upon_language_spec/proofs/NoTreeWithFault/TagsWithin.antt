@@ -6,9 +6,10 @@ use Rattle.upon_language_spec.specs.Cut.{Lexeme}
 use Rattle.upon_language_spec.specs.Reading.{brackets_from}
 use Rattle.upon_language_spec.specs.Tags.{IsTag}
 use Rattle.upon_language_spec.proofs.NoTreeWithFault.Fine.{TokenFine, Fine}
-use Rattle.upon_language_spec.proofs.NoTreeWithFault.FineAt.{last_or, fine_at}
+use Rattle.upon_language_spec.specs.InTags.{last_or, ends_a_tag}
+use Rattle.upon_language_spec.proofs.NoTreeWithFault.FineAt.{fine_at}
 use Rattle.upon_language_spec.proofs.NoTreeWithFault.Tails.{Tail, tail_one, tail_then, among_or_behind, rows_rest}
-use Rattle.upon_language_spec.proofs.NoTreeWithFault.TagShapes.{begins_a_tag, ends_a_tag, TagShape, tag_shape}
+use Rattle.upon_language_spec.proofs.NoTreeWithFault.TagShapes.{begins_a_tag, TagShape, tag_shape}
 
 module _ (s : List ℕ) where
   begin_is_not_fine : (stack : List Lexeme) (before : Option Lexeme) (t : Token) (l : Lexeme) → begins_a_tag t ≡ true → TokenFine s stack before t l → ⊥

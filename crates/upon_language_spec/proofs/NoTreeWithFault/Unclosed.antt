@@ -18,7 +18,8 @@ use Rattle.upon_language_spec.proofs.OneCut.Cut.{one_cut_to}
 use Rattle.upon_language_spec.specs.LaterFaults.{UnclosedBlock}
 use Rattle.upon_language_spec.proofs.NoTreeWithFault.InsideTag.{shown_token}
 use Rattle.upon_language_spec.specs.Blocks.{if_block, for_block, with_block, OpenBlock, Closer, else_if, plain_else, end_if, end_for, end_with, else_by, closer_by, end_from, by_word, by_closer, blocks_from, outermost}
-use Rattle.upon_language_spec.proofs.NoTreeWithFault.TagBlocks.{begins_block, is_word, stepped, word_next, closer_in, Closing, TokenTaken, AllTaken}
+use Rattle.upon_language_spec.specs.ClosingTags.{is_word, blocks_past, word_next, closer_in, Closing, TokenTaken, AllTaken}
+use Rattle.upon_language_spec.proofs.NoTreeWithFault.TagBlocks.{begins_block}
 use Rattle.upon_language_spec.proofs.NoTreeWithFault.Blocks.{blocks_of_statements, taken_of_statements}
 
 -- a raw part without its span
@@ -134,17 +135,17 @@ module _ (s : List ℕ) where
   closer_erased [] h = refl
   closer_erased (k ∷ ls) h = ap (λ (x : Lexeme). closer_by s (slice s x.span) (all_erased ls)) (word_stays k.token k h) ∙ same_closer_by s (slice s k.span) (all_erased ls) ls (else_erased s ls)
 
-  begin_erased : (begin : Span) (a : List OpenBlock) (ls : List Lexeme) → word_next ls ≡ true → stepped s a BeginBlock begin (all_erased ls) ≡ stepped s a BeginBlock begin ls
+  begin_erased : (begin : Span) (a : List OpenBlock) (ls : List Lexeme) → word_next ls ≡ true → blocks_past s a BeginBlock begin (all_erased ls) ≡ blocks_past s a BeginBlock begin ls
   begin_erased begin a [] h = refl
   begin_erased begin a (k ∷ ls) h =
       ap (λ (x : Lexeme). by_word s begin (slice s x.span) (all_erased ls) a) (word_stays k.token k h) ∙ same_by_word s begin (slice s k.span) (all_erased ls) ls a (end_erased_from begin ls) (else_erased s ls)
 
-  step_erased_as : (a : List OpenBlock) (t : Token) (l : Lexeme) (ls : List Lexeme) → (begins_block t ≡ true → word_next ls ≡ true) → stepped s a t (erased t l).span (all_erased ls) ≡ stepped s a t l.span ls
+  step_erased_as : (a : List OpenBlock) (t : Token) (l : Lexeme) (ls : List Lexeme) → (begins_block t ≡ true → word_next ls ≡ true) → blocks_past s a t (erased t l).span (all_erased ls) ≡ blocks_past s a t l.span ls
   step_erased_as a BeginBlock l ls h = begin_erased l.span a ls (h refl)
   step_erased_as a t l ls h = refl
 
-  step_erased : (a : List OpenBlock) (l : Lexeme) (ls : List Lexeme) → (begins_block l.token ≡ true → word_next ls ≡ true) → stepped s a (erase l).token (erase l).span (all_erased ls) ≡ stepped s a l.token l.span ls
-  step_erased a l ls h = ap (λ (t : Token). stepped s a t (erase l).span (all_erased ls)) (erase_token l) ∙ step_erased_as a l.token l ls h
+  step_erased : (a : List OpenBlock) (l : Lexeme) (ls : List Lexeme) → (begins_block l.token ≡ true → word_next ls ≡ true) → blocks_past s a (erase l).token (erase l).span (all_erased ls) ≡ blocks_past s a l.token l.span ls
+  step_erased a l ls h = ap (λ (t : Token). blocks_past s a t (erase l).span (all_erased ls)) (erase_token l) ∙ step_erased_as a l.token l ls h
 
   taken_word : (a : List OpenBlock) (t : Token) (ls : List Lexeme) → TokenTaken s a t ls → begins_block t ≡ true → word_next ls ≡ true
   taken_word a BeginBlock ls h e = h.0
@@ -163,7 +164,7 @@ module _ (s : List ℕ) where
   taken_erased a (l ∷ ls) h =
       let F : Token → Type 0 = λ t. TokenTaken s a t (all_erased ls) in
       let G : List OpenBlock → Type 0 = λ x. AllTaken s x (all_erased ls) in
-      (subst F (sym (erase_token l)) (token_erased a l.token ls h.0), subst G (sym (step_erased a l ls (taken_word a l.token ls h.0))) (taken_erased (stepped s a l.token l.span ls) ls h.1))
+      (subst F (sym (erase_token l)) (token_erased a l.token ls h.0), subst G (sym (step_erased a l ls (taken_word a l.token ls h.0))) (taken_erased (blocks_past s a l.token l.span ls) ls h.1))
 
   pub taken_back : (a : List OpenBlock) (ls : List Lexeme) → AllTaken s a (all_erased ls) → AllTaken s a ls
   taken_back a [] h = tt
@@ -171,11 +172,11 @@ module _ (s : List ℕ) where
       let F : Token → Type 0 = λ t. TokenTaken s a t (all_erased ls) in
       let G : List OpenBlock → Type 0 = λ x. AllTaken s x (all_erased ls) in
       let here : TokenTaken s a l.token ls = token_back a l.token ls (subst F (erase_token l) h.0) in
-      (here, taken_back (stepped s a l.token l.span ls) ls (subst G (step_erased a l ls (taken_word a l.token ls here)) h.1))
+      (here, taken_back (blocks_past s a l.token l.span ls) ls (subst G (step_erased a l ls (taken_word a l.token ls here)) h.1))
 
   pub blocks_erased : (a : List OpenBlock) (ls : List Lexeme) → AllTaken s a ls → blocks_from s a (all_erased ls) ≡ blocks_from s a ls
   blocks_erased a [] h = refl
-  blocks_erased a (l ∷ ls) h = ap (λ (x : List OpenBlock). blocks_from s x (all_erased ls)) (step_erased a l ls (taken_word a l.token ls h.0)) ∙ blocks_erased (stepped s a l.token l.span ls) ls h.1
+  blocks_erased a (l ∷ ls) h = ap (λ (x : List OpenBlock). blocks_from s x (all_erased ls)) (step_erased a l ls (taken_word a l.token ls h.0)) ∙ blocks_erased (blocks_past s a l.token l.span ls) ls h.1
 
   -- tokens that are read alike take closing tags alike, and leave the same blocks open
   pub alike_taken : (a : List OpenBlock) (xs ys : List Lexeme) → all_erased xs ≡ all_erased ys → AllTaken s a xs → AllTaken s a ys

@@ -18,9 +18,11 @@ use Rattle.upon_language_spec.proofs.OneCut.Token.{one_step}
 use Rattle.upon_language_spec.proofs.OneCut.Cut.{cut_on, cut_ends}
 use Rattle.upon_language_spec.specs.Faults.{tag_tokens, lexeme_at}
 use Rattle.upon_language_spec.specs.LaterFaults.{UnexpectedBlock}
-use Rattle.upon_language_spec.proofs.NoTreeWithFault.InsideTag.{EachInside, inside_is_no_comment, one_read, kept, spaces_append}
+use Rattle.upon_language_spec.specs.InTags.{EachInside}
+use Rattle.upon_language_spec.proofs.NoTreeWithFault.InsideTag.{inside_is_no_comment, one_read, kept, spaces_append}
 use Rattle.upon_language_spec.specs.Blocks.{OpenBlock, Closer, else_if, plain_else, else_by, closer_by, closer_of, takes, end_from, blocks_from}
-use Rattle.upon_language_spec.proofs.NoTreeWithFault.TagBlocks.{begins_block, is_word, stepped, word_next, closer_in, Closing, TokenTaken, AllTaken}
+use Rattle.upon_language_spec.specs.ClosingTags.{is_word, blocks_past, word_next, closer_in, Closing, TokenTaken, AllTaken}
+use Rattle.upon_language_spec.proofs.NoTreeWithFault.TagBlocks.{begins_block}
 use Rattle.upon_language_spec.proofs.NoTreeWithFault.Unclosed.{same_by_word, same_closer_by, tree_taken}
 use Rattle.upon_language_spec.proofs.NoTreeWithFault.BeforeTag.{split_before, open_tag_is, before_tag_is}
 use Rattle.upon_language_spec.proofs.NoTreeWithFault.ReadBefore.{ends_block, has_end, Ended, read_before}
@@ -43,13 +45,13 @@ word_ends_nothing Keyword h = refl
 word_ends_nothing _ h = absurd cc
 
 module _ (s : List ℕ) where
-  begin_within : (begin : Span) (a : List OpenBlock) (ls ys : List Lexeme) → has_end ls ≡ true → word_next (ls ++ ys) ≡ true → stepped s a BeginBlock begin (ls ++ ys) ≡ stepped s a BeginBlock begin ls
+  begin_within : (begin : Span) (a : List OpenBlock) (ls ys : List Lexeme) → has_end ls ≡ true → word_next (ls ++ ys) ≡ true → blocks_past s a BeginBlock begin (ls ++ ys) ≡ blocks_past s a BeginBlock begin ls
   begin_within begin a [] ys h w = absurd cc
   begin_within begin a (k ∷ ls) ys h w =
       let ended : has_end ls ≡ true = sym (ap (λ (x : Bool). if x then true else has_end ls) (word_ends_nothing k.token w)) ∙ h in
       same_by_word s begin (slice s k.span) (ls ++ ys) ls a (end_within begin ls ys ended) (else_within s ls ys ended)
 
-  step_within : (a : List OpenBlock) (t : Token) (span : Span) (ls ys : List Lexeme) → (begins_block t ≡ true → has_end ls ≡ true) → TokenTaken s a t (ls ++ ys) → stepped s a t span (ls ++ ys) ≡ stepped s a t span ls
+  step_within : (a : List OpenBlock) (t : Token) (span : Span) (ls ys : List Lexeme) → (begins_block t ≡ true → has_end ls ≡ true) → TokenTaken s a t (ls ++ ys) → blocks_past s a t span (ls ++ ys) ≡ blocks_past s a t span ls
   step_within a BeginBlock span ls ys e h = begin_within span a ls ys (e refl) h.0
   step_within a t span ls ys e h = refl
 
@@ -58,7 +60,7 @@ module _ (s : List ℕ) where
   taken_behind a [] ys e h = h
   taken_behind a (l ∷ ls) ys e h =
       let F : List OpenBlock → Type 0 = λ x. AllTaken s x (ls ++ ys) in
-      taken_behind (stepped s a l.token l.span ls) ls ys e.1 (subst F (step_within a l.token l.span ls ys e.0 h.0) h.1)
+      taken_behind (blocks_past s a l.token l.span ls) ls ys e.1 (subst F (step_within a l.token l.span ls ys e.0 h.0) h.1)
 
   -- a tag's tokens and its end
   abbrev closer_as : Token → Option Closer → Option Closer

@@ -16,9 +16,10 @@ use Rattle.upon_language_spec.specs.LaterFaults.{UnexpectedBlock}
 use Rattle.upon_language_spec.specs.FirstFault.{unexpected_block}
 use Rattle.upon_language_spec.proofs.Totality.FittingClears.{fitting_clears, alike, in_mode}
 use Rattle.upon_language_spec.proofs.Totality.First.{first_at}
-use Rattle.upon_language_spec.proofs.Totality.Stage.{Stage, on}
+use Rattle.upon_language_spec.specs.Stages.{Stage, EndsAt}
+use Rattle.upon_language_spec.proofs.Totality.Stage.{on}
 use Rattle.upon_language_spec.proofs.Totality.LiteralHere.{Fault, least_block}
-use Rattle.upon_language_spec.proofs.Totality.WholeTag.{EndsAt, ended_tag}
+use Rattle.upon_language_spec.proofs.Totality.WholeTag.{ended_tag}
 
 module _ (delimiters : List DelimiterText) (s : List ℕ) (texts : HasTexts delimiters) (utf8 : HasUtf8 delimiters) (text : IsUtf8 s) (ls : List Lexeme) (path : Bool) (p : ℕ) (e : EndsAt delimiters s block ls path p) where
   abbrev all : List Lexeme

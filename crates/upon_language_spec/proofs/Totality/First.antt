@@ -12,7 +12,8 @@ use Rattle.upon_language_spec.proofs.OneCut.Token.{step_ends}
 use Rattle.upon_language_spec.specs.Lexing.{LexerState, HasRead, begin_in, brackets_in, is_trimming_end}
 use Rattle.upon_language_spec.proofs.Offsets.Clear.{fault_within}
 use Rattle.upon_language_spec.proofs.OneFirstFault.CutFault.{first_cut}
-use Rattle.upon_language_spec.proofs.Totality.FittingClears.{AllClear, late}
+use Rattle.upon_language_spec.specs.Stages.{AllClear}
+use Rattle.upon_language_spec.proofs.Totality.FittingClears.{late}
 
 early : (row : SyntaxFault) → ends_cutting row ≡ true → fault_rank row < 6
 early unexpected_end e = omega arith

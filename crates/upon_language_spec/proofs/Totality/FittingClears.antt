@@ -21,7 +21,9 @@ use Rattle.upon_language_spec.specs.FirstFault.{SyntaxFault, unexpected_end, unc
 use Rattle.upon_language_spec.specs.CutFaults.{ends_cutting, ClearTo}
 use Rattle.upon_language_spec.proofs.OneCut.Cut.{one_cut_to}
 use Rattle.upon_language_spec.proofs.OneCut.Token.{one_step, step_ends}
-use Rattle.upon_language_spec.specs.Parts.{Part, tag_start, after_symbol, Path, wanted_at}
+use Rattle.upon_language_spec.specs.Parts.{Part, after_symbol, wanted_at}
+use Rattle.upon_language_spec.specs.OpenParts.{StandsAt}
+use Rattle.upon_language_spec.specs.Stages.{AllClear}
 use Rattle.upon_language_spec.proofs.Wanted.LeadingBegins.{IsPlain, ArePlain}
 use Rattle.upon_language_spec.proofs.Wanted.WantedAt.{may_follow, may_not_follow, wants}
 use Rattle.upon_language_spec.proofs.Offsets.Clear.{no_read_inside}
@@ -35,10 +37,6 @@ word_plain s t at = refl
 pub symbols_plain : (s : List ℕ) (ls : List Lexeme) → ArePlain (symbols_of s ls)
 symbols_plain s [] = tt
 symbols_plain s (l ∷ ls) = (word_plain s l.token l.span, symbols_plain s ls)
-
--- the tokens of the open tag lead to these parts
-abbrev pub StandsAt : List ℕ → List Lexeme → List Part → Type 0
-StandsAt s ls ps = Path (tag_start ∷ []) (tag_row s ls) ps
 
 module _ (delimiters : List DelimiterText) (s : List ℕ) (p : ℕ) (ls : List Lexeme) (sort : Sort) (in_path : Bool) (reads : ReadsTo delimiters s ls (in_tag sort in_path) p) (ps : List Part) (stands : StandsAt s ls ps) where
   -- a token that may not be there is reported, with the word that is wanted
@@ -86,10 +84,6 @@ module _ (delimiters : List DelimiterText) (s : List ℕ) (p : ℕ) (ls : List L
     at = refl;
     words = refl;
   }
-
--- no fault of any kind holds at a point before this one
-abbrev pub AllClear : List DelimiterText → List ℕ → ℕ → Type 0
-AllClear delimiters s p = (row : SyntaxFault) (q : ℕ) (place : Span) (reason : List ℕ) → q < p → Holds delimiters s row q place reason → ⊥
 
 -- no fault of the later kinds holds there
 abbrev pub NoLaterFault : List DelimiterText → List ℕ → ℕ → Type 0

@@ -18,18 +18,15 @@ use Rattle.upon_language_spec.specs.LaterFaults.{number_report}
 use Rattle.upon_language_spec.specs.CutFaults.{ClearTo}
 use Rattle.upon_language_spec.proofs.OneCut.Cut.{cut_more, cut_ends, cut_joined}
 use Rattle.upon_language_spec.proofs.OneCut.Token.{step_ends}
-use Rattle.upon_language_spec.proofs.NoTreeWithFault.InsideTag.{is_inside, EachInside, inside_stays, inside_is_no_begin, space_step, no_space_step, spaces_append}
+use Rattle.upon_language_spec.specs.InTags.{is_inside, EachInside, FineLiteral}
+use Rattle.upon_language_spec.proofs.NoTreeWithFault.InsideTag.{inside_stays, inside_is_no_begin, space_step, no_space_step, spaces_append}
 use Rattle.upon_language_spec.specs.Parts.{Part, tag_start, after_symbol, Path, wanted_at}
 use Rattle.upon_language_spec.specs.Wanted.{Wanted, reason_for}
 use Rattle.upon_language_spec.specs.FirstFault.{IsFirstFault}
 use Rattle.upon_language_spec.proofs.Wanted.WantedAt.{path_one}
-use Rattle.upon_language_spec.proofs.Totality.FittingClears.{StandsAt, AllClear, Fits, fitting_clears, clear_behind, first_stuck, stuck_token}
-
--- a literal after this token denotes something
-pub record FineLiteral (s : List ℕ) (before : Option Lexeme) (l : Lexeme) : Type 0 where
-  pub number : l.token ≡ Number → number_report (slice s l.span) before l.span.m l.span.n ≡ None
-  pub index : l.token ≡ Index → nat_lt (index_value (digits_in 10 (slice s l.span))) (2 ^ 64) ≡ true
-  pub string : l.token ≡ String → (q : IsQuoted s l.span.m l.span.n) → escape_fault (l.span.m + 1) q.pieces ≡ None
+use Rattle.upon_language_spec.specs.OpenParts.{StandsAt}
+use Rattle.upon_language_spec.specs.Stages.{AllClear}
+use Rattle.upon_language_spec.proofs.Totality.FittingClears.{Fits, fitting_clears, clear_behind, first_stuck, stuck_token}
 
 abbrev pub LiteralsFine : List ℕ → Option Lexeme → List Lexeme → Type 0
 LiteralsFine s before [] = Unit {0}

@@ -21,10 +21,12 @@ use Rattle.upon_language_spec.specs.LexStep.{Fits as BracketsFit}
 use Rattle.upon_language_spec.specs.Lexing.{brackets_in}
 use Rattle.upon_language_spec.specs.Parts.{Part, after_symbol}
 use Rattle.upon_language_spec.proofs.Wanted.WantedAt.{may_follow}
-use Rattle.upon_language_spec.proofs.Totality.FittingClears.{StandsAt, symbols_plain, word_plain, alike, in_mode, not_comment, not_at_end}
+use Rattle.upon_language_spec.specs.OpenParts.{StandsAt}
+use Rattle.upon_language_spec.proofs.Totality.FittingClears.{symbols_plain, word_plain, alike, in_mode, not_comment, not_at_end}
 use Rattle.upon_language_spec.proofs.Totality.First.{first_at}
-use Rattle.upon_language_spec.proofs.Totality.Stage.{Stage, clear_to}
-use Rattle.upon_language_spec.proofs.Totality.TagTree.{StandsFor}
+use Rattle.upon_language_spec.specs.Stages.{Stage}
+use Rattle.upon_language_spec.proofs.Totality.Stage.{clear_to}
+use Rattle.upon_language_spec.specs.InTags.{StandsFor}
 use Rattle.upon_language_spec.proofs.Totality.LiteralValues.{number_stands, index_stands, text_stands}
 
 abbrev pub Fault : List DelimiterText → List ℕ → Type 0

@@ -16,7 +16,8 @@ use Rattle.upon_language_spec.specs.Cut.{Lexeme, Mode, outside, in_tag, in_comme
 use Rattle.upon_language_spec.proofs.SpansLieIn.Cut.{cut_lies_from}
 use Rattle.upon_language_spec.specs.Inside.{IsInside}
 use Rattle.upon_language_spec.specs.InsideStart.{BeginsInside, NoInside}
-use Rattle.upon_language_spec.proofs.NoTreeWithFault.InsideTag.{is_inside, extent_is_inside}
+use Rattle.upon_language_spec.specs.InTags.{is_inside}
+use Rattle.upon_language_spec.proofs.NoTreeWithFault.InsideTag.{extent_is_inside}
 use Rattle.upon_language_spec.specs.Reading.{ReadsTo, open_brackets}
 use Rattle.upon_language_spec.specs.Faults.{span_of, awaited_sort, is_close, closes_first}
 use Rattle.upon_language_spec.specs.FirstFault.{IsFirstFault}
@@ -24,7 +25,8 @@ use Rattle.upon_language_spec.specs.Lexing.{begin_in, brackets_in}
 use Rattle.upon_language_spec.specs.LexStep.{Fits as BracketsFit, IsWrong}
 use Rattle.upon_language_spec.proofs.Offsets.LexFaults.{wrong_end, wrong_begin, wrong_bracket, wrong_close, wrong_inside}
 use Rattle.upon_language_spec.proofs.Totality.First.{left_at, has_read, cut_fault_is_first}
-use Rattle.upon_language_spec.proofs.Totality.Stage.{Stage, clear_so_far}
+use Rattle.upon_language_spec.specs.Stages.{Stage}
+use Rattle.upon_language_spec.proofs.Totality.Stage.{clear_so_far}
 use Rattle.upon_language_spec.proofs.Totality.SomethingOccurs.{delimiter_at, inner_at, Spelled}
 
 pub record Next (delimiters : List DelimiterText) (s : List ℕ) (ls : List Lexeme) (mode : Mode) (p : ℕ) : Type 0 where

@@ -17,10 +17,12 @@ use Rattle.upon_language_spec.proofs.NoTreeWithFault.Fault.{no_tree_with_fault}
 use Rattle.upon_language_spec.specs.Wanted.{in_quotes}
 use Rattle.upon_language_spec.proofs.OneCut.Cut.{cut_ends, cut_joined}
 use Rattle.upon_language_spec.specs.Blocks.{OpenBlock, open_blocks, outermost, block_word}
-use Rattle.upon_language_spec.proofs.Totality.Stage.{Stage, start, unclosed_is_first}
+use Rattle.upon_language_spec.specs.Stages.{Stage}
+use Rattle.upon_language_spec.proofs.Totality.Stage.{start, unclosed_is_first}
 use Rattle.upon_language_spec.proofs.Totality.LiteralHere.{Fault}
 use Rattle.upon_language_spec.proofs.Totality.BlockTrees.{EndsBlocks, text_ends}
-use Rattle.upon_language_spec.proofs.Totality.Pieces.{Known, Piece, one_piece}
+use Rattle.upon_language_spec.specs.ClosingTags.{Known}
+use Rattle.upon_language_spec.proofs.Totality.Pieces.{Piece, one_piece}
 
 outer_of : (o : OpenBlock) (stack : List OpenBlock) → (outer : OpenBlock) × (outermost (o ∷ stack) ≡ Some outer)
 outer_of o [] = (o, refl)

@@ -13,7 +13,8 @@ use Rattle.upon_language_spec.proofs.NoTreeWithFault.FineExpression.{passes_expr
 use Rattle.upon_language_spec.proofs.NoTreeWithFault.ReadBefore.{has_end, Ended}
 use Rattle.upon_language_spec.specs.Blocks.{Block, if_block, for_block, with_block, OpenBlock, Closer, else_if, plain_else, end_if, end_for, end_with, closer_by, closer_of, block_takes, takes, by_word, blocks_from}
 use Rattle.upon_language_spec.proofs.NoTreeWithFault.Unclosed.{same_by_word, same_closer_by}
-use Rattle.upon_language_spec.proofs.NoTreeWithFault.TagBlocks.{else_at, walks_begin, begins_block, is_word, stepped, word_next, closer_in, Closing, TokenTaken, AllTaken, Walks, walks_then, walks_one, walks_if, walks_for, walks_with, walks_else_if, walks_include, walks_inline, walks_endif, walks_endfor, walks_plain_else}
+use Rattle.upon_language_spec.specs.ClosingTags.{is_word, blocks_past, word_next, closer_in, Closing, TokenTaken, AllTaken}
+use Rattle.upon_language_spec.proofs.NoTreeWithFault.TagBlocks.{else_at, walks_begin, begins_block, Walks, walks_then, walks_one, walks_if, walks_for, walks_with, walks_else_if, walks_include, walks_inline, walks_endif, walks_endfor, walks_plain_else}
 use Rattle.upon_language_spec.proofs.Totality.TagMore.{inline_more, include_more, word_tag_more, if_tag_more, else_if_tag_more, for_tag_more, with_tag_more}
 use Rattle.upon_language_spec.proofs.Totality.BlockTrees.{EndsBlocks, opening, statement_first, if_first, for_first, with_first, else_first, for_else_first, else_if_first, endif_first, endfor_first, endwith_first}
 use Rattle.upon_language_spec.proofs.NoTreeWithFault.Unexpected.{end_within, else_within, word_ends_nothing}
@@ -23,7 +24,7 @@ module _ (s : List ℕ) where
   behind_word : (k : Lexeme) (ls : List Lexeme) → has_end (k ∷ ls) ≡ true → is_word k.token ≡ true → has_end ls ≡ true
   behind_word k ls h w = sym (ap (λ (x : Bool). if x then true else has_end ls) (word_ends_nothing k.token w)) ∙ h
 
-  begin_within : (begin : Span) (a : List OpenBlock) (ls ys : List Lexeme) → has_end ls ≡ true → word_next ls ≡ true → stepped s a BeginBlock begin (ls ++ ys) ≡ stepped s a BeginBlock begin ls
+  begin_within : (begin : Span) (a : List OpenBlock) (ls ys : List Lexeme) → has_end ls ≡ true → word_next ls ≡ true → blocks_past s a BeginBlock begin (ls ++ ys) ≡ blocks_past s a BeginBlock begin ls
   begin_within begin a [] ys h w = absurd cc
   begin_within begin a (k ∷ ls) ys h w =
       let ended = behind_word k ls h w in
@@ -35,7 +36,7 @@ module _ (s : List ℕ) where
       let F : Option Closer → Type 0 = λ x. Closing a x in
       (w, subst F (sym (same_closer_by s (slice s k.span) (ls ++ ys) ls (else_within s ls ys (behind_word k ls h w)))) c)
 
-  step_within : (a : List OpenBlock) (t : Token) (span : Span) (ls ys : List Lexeme) → (begins_block t ≡ true → has_end ls ≡ true) → TokenTaken s a t ls → stepped s a t span (ls ++ ys) ≡ stepped s a t span ls
+  step_within : (a : List OpenBlock) (t : Token) (span : Span) (ls ys : List Lexeme) → (begins_block t ≡ true → has_end ls ≡ true) → TokenTaken s a t ls → blocks_past s a t span (ls ++ ys) ≡ blocks_past s a t span ls
   step_within a BeginBlock span ls ys e h = begin_within span a ls ys (e refl) h.0
   step_within a t span ls ys e h = refl
 
@@ -47,13 +48,13 @@ module _ (s : List ℕ) where
   pub blocks_append : (a : List OpenBlock) (xs ys : List Lexeme) → Ended xs → AllTaken s a xs → blocks_from s a (xs ++ ys) ≡ blocks_from s (blocks_from s a xs) ys
   blocks_append a [] ys e h = refl
   blocks_append a (l ∷ ls) ys e h =
-      ap (λ (x : List OpenBlock). blocks_from s x (ls ++ ys)) (step_within a l.token l.span ls ys e.0 h.0) ∙ blocks_append (stepped s a l.token l.span ls) ls ys e.1 h.1
+      ap (λ (x : List OpenBlock). blocks_from s x (ls ++ ys)) (step_within a l.token l.span ls ys e.0 h.0) ∙ blocks_append (blocks_past s a l.token l.span ls) ls ys e.1 h.1
 
   pub taken_append : (a : List OpenBlock) (xs ys : List Lexeme) → Ended xs → AllTaken s a xs → AllTaken s (blocks_from s a xs) ys → AllTaken s a (xs ++ ys)
   taken_append a [] ys e h k = k
   taken_append a (l ∷ ls) ys e h k =
       let F : List OpenBlock → Type 0 = λ x. AllTaken s x (ls ++ ys) in
-      (token_within a l.token ls ys e.0 h.0, subst F (sym (step_within a l.token l.span ls ys e.0 h.0)) (taken_append (stepped s a l.token l.span ls) ls ys e.1 h.1 k))
+      (token_within a l.token ls ys e.0 h.0, subst F (sym (step_within a l.token l.span ls ys e.0 h.0)) (taken_append (blocks_past s a l.token l.span ls) ls ys e.1 h.1 k))
 
   -- ---- closing tags
   pub closer_is : (word : List ℕ) (ts rest : List Lexeme) (g : BeginsBlock s word ts rest) → closer_of s ts ≡ closer_by s word rest

@@ -11,10 +11,10 @@ use Rattle.upon_language_spec.specs.LiesIn.{HasUtf8}
 use Rattle.upon_language_spec.specs.Delimiters.{Sort, expression, block, comment, begin_token, end_token}
 use Rattle.upon_language_spec.specs.Raw.{IsRaw}
 use Rattle.upon_language_spec.specs.Cut.{Lexeme, Mode, outside, in_tag, in_comment, IsToken, Begins, Ends, Cut, mode_after}
-use Rattle.upon_language_spec.proofs.NoTreeWithFault.InsideTag.{EachInside, inside_is_no_comment, inside_is_no_raw, end_leaves, end_is_no_comment, end_is_no_space, shown_same, one_read, kept, no_space_step, spaces_append, raw_then_raw}
+use Rattle.upon_language_spec.specs.InTags.{EachInside, ends_a_tag, StandsFor, EachStands}
+use Rattle.upon_language_spec.proofs.NoTreeWithFault.InsideTag.{inside_is_no_comment, inside_is_no_raw, end_leaves, end_is_no_comment, end_is_no_space, shown_same, one_read, kept, no_space_step, spaces_append, raw_then_raw}
 use Rattle.upon_language_spec.specs.Shown.{shown_span, shown_lexeme, shown_lexemes, begin_trims, is_end}
 use Rattle.upon_language_spec.specs.Tokens.{is_space, is_raw, begins_comment, without_spaces, significant}
-use Rattle.upon_language_spec.proofs.NoTreeWithFault.TagShapes.{ends_a_tag}
 use Rattle.upon_language_spec.specs.Reading.{last_of, opens_tag, open_tag, first_span, before_tag}
 use Rattle.upon_language_spec.specs.Tags.{IsTag, symbols_of, symbol_of}
 use Rattle.upon_language_spec.specs.Faults.{span_of, lexeme_at, tag_tokens}
@@ -28,16 +28,17 @@ use Rattle.upon_language_spec.specs.LexStep.{Fits as BracketsFit}
 use Rattle.upon_language_spec.proofs.NoTreeWithFault.BeforeTag.{open_tag_is, open_tag_more, before_tag_more}
 use Rattle.upon_language_spec.proofs.NoTreeWithFault.ReadBefore.{Ended, read_before}
 use Rattle.upon_language_spec.specs.Blocks.{OpenBlock, Closer, closer_of, takes, open_blocks}
-use Rattle.upon_language_spec.proofs.NoTreeWithFault.TagBlocks.{AllTaken, Walks, walks_nothing, walks_one}
+use Rattle.upon_language_spec.specs.ClosingTags.{AllTaken, Known}
+use Rattle.upon_language_spec.proofs.NoTreeWithFault.TagBlocks.{Walks, walks_nothing, walks_one}
 use Rattle.upon_language_spec.specs.Parts.{Part, tag_start, a_base, filters, end_expr, block_word, after_symbol, Path}
 use Rattle.upon_language_spec.proofs.Totality.FittingClears.{fitting_clears}
 use Rattle.upon_language_spec.proofs.Totality.InsideClear.{from_more, last_more}
-use Rattle.upon_language_spec.proofs.Totality.Stage.{Stage, on, outside_is_clear, comment_is_clear, empty_is_first, comment_eof_is_first}
+use Rattle.upon_language_spec.specs.Stages.{Stage, TagAt}
+use Rattle.upon_language_spec.proofs.Totality.Stage.{on, outside_is_clear, comment_is_clear, empty_is_first, comment_eof_is_first}
 use Rattle.upon_language_spec.proofs.Totality.NextOrFault.{Next, next_or_fault}
-use Rattle.upon_language_spec.proofs.Totality.TagTree.{StandsFor, EachStands}
-use Rattle.upon_language_spec.proofs.Wanted.Opened.{is_open}
+use Rattle.upon_language_spec.specs.OpenParts.{is_open}
 use Rattle.upon_language_spec.proofs.Totality.LiteralHere.{Fault}
-use Rattle.upon_language_spec.proofs.Totality.WholeTag.{first_stays, TagAt, ThroughTag, through_tag, ended_tag}
+use Rattle.upon_language_spec.proofs.Totality.WholeTag.{first_stays, ThroughTag, through_tag, ended_tag}
 use Rattle.upon_language_spec.proofs.Totality.BlockEnd.{block_end}
 use Rattle.upon_language_spec.proofs.Totality.BlockTrees.{EndsBlocks, statement_first}
 use Rattle.upon_language_spec.proofs.Totality.OpenBlocks.{blocks_append, taken_append, tag_step}
@@ -74,10 +75,6 @@ shown_end s later end sort rest t =
     let left = shown_lexemes s (is_end end.token && end.hyphen) rest in
     ap (λ (z : Lexeme). significant (z ∷ left)) (shown_same s later (begin_trims rest) end.token end (ap is_raw t ∙ end_is_no_raw sort))
     ∙ kept end left (ap is_space t ∙ end_is_no_space sort) (ap begins_comment t ∙ end_is_no_comment sort)
-
--- the closing tags of what was read are taken
-abbrev pub Known : List ℕ → List Lexeme → Type 0
-Known s ls = AllTaken s [] (significant ls)
 
 -- one piece further
 pub record Piece (delimiters : List DelimiterText) (s : List ℕ) (ls : List Lexeme) (p : ℕ) : Type 0 where

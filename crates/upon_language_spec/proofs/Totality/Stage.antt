@@ -17,13 +17,9 @@ use Rattle.upon_language_spec.specs.LexStep.{Fits as BracketsFit}
 use Rattle.upon_language_spec.specs.Lexing.{brackets_in}
 use Rattle.upon_language_spec.proofs.Offsets.Clear as lexer
 use Rattle.upon_language_spec.proofs.Offsets.Clear.{fault_within}
-use Rattle.upon_language_spec.proofs.Totality.FittingClears.{AllClear, NoLaterFault, clear_behind}
+use Rattle.upon_language_spec.specs.Stages.{Stage}
+use Rattle.upon_language_spec.proofs.Totality.FittingClears.{NoLaterFault, clear_behind}
 use Rattle.upon_language_spec.proofs.Totality.First.{left_at, has_read, first_at}
-
--- the text reads to p, and no fault holds before p
-pub record Stage (delimiters : List DelimiterText) (s : List ℕ) (ls : List Lexeme) (mode : Mode) (p : ℕ) : Type 0 where
-  pub reads : ReadsTo delimiters s ls mode p
-  pub before : AllClear delimiters s p
 
 module _ (delimiters : List DelimiterText) (s : List ℕ) where
   pub start : Stage delimiters s [] outside 0

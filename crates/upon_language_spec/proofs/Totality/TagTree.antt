@@ -1,28 +1,18 @@
 -- A row of fine tokens that leads from a tag's start to its end is a whole tag.
-use Rattle.std.proofs.Common.{◌≡◌, ℕ, ℤ, List, [], ◌∷◌, ◌++◌, Bool, true, false, Option, Some, None, refl, sym, ap, ◌∙◌, subst}
+use Rattle.std.proofs.Common.{◌≡◌, ℕ, List, [], ◌∷◌, ◌++◌, Bool, true, false, Option, Some, None, refl, sym, ap, ◌∙◌, subst}
 use Rattle.std.proofs.lemmas.Bool.{false_from_ne_true}
 use Rattle.upon_types.specs.declared.types.token.Token.{Token}
 use Rattle.upon_types.specs.declared.types.token.Token.TheVariants.{Raw, BeginExpr, EndExpr, BeginBlock, EndBlock, BeginComment, EndComment, OpenBracket, CloseBracket, OpenBrace, CloseBrace, OpenParen, CloseParen, Dot, QuestionDot, Pipe, Comma, Colon, Plus, Minus, Whitespace, Keyword, Ident, Index, Number, String}
 use Rattle.upon_types.specs.Span.{slice}
 use Rattle.upon_language_spec.specs.Cut.{Lexeme}
-use Rattle.upon_language_spec.specs.Literal.{IsInteger, IsIndex, IsText}
+use Rattle.upon_language_spec.specs.Literal.{IsInteger}
 use Rattle.upon_language_spec.specs.LaterFaults.{minus_before}
 use Rattle.upon_language_spec.specs.Tags.{IsTag, symbol_of, symbols_of, word_of}
 use Rattle.upon_language_spec.specs.Keys.{Key, key_of}
 use Rattle.upon_language_spec.specs.Parts.{Part, a_base, after_name, after_member, a_member, a_magnitude, filters, filter_name, after_filter, more_args, list_start, list_rest, map_start, map_colon, map_rest, call_start, call_rest, close_paren, tag_start, end_expr, end_block, block_word, condition, else_rest, loop_name, loop_rest, loop_value, in_word, as_word, as_name, include_name, include_rest, is_optional, goes, left_of, after, after_symbol, Path}
+use Rattle.upon_language_spec.specs.InTags.{StandsFor, EachStands}
 use Rattle.upon_language_spec.proofs.Wanted.LeadingBegins.{known}
 use Rattle.upon_language_spec.proofs.Totality.ExpressionTree.{is_magnitude, first_is_magnitude, Value, NumberBehind, Means, Reads, reads_on}
-
--- a literal after this token denotes something
-abbrev pub StandsFor : List ℕ → Option Lexeme → Token → Lexeme → Type 0
-StandsFor s before Number l = (z : ℤ) × IsInteger (minus_before before) (slice s l.span) z
-StandsFor s before Index l = (i : ℕ) × IsIndex (slice s l.span) i
-StandsFor s before String l = (text : List ℕ) × IsText s l.span.m l.span.n text
-StandsFor s before t l = Unit {0}
-
-abbrev pub EachStands : List ℕ → Option Lexeme → List Lexeme → Type 0
-EachStands s before [] = Unit {0}
-EachStands s before (l ∷ ls) = StandsFor s before l.token l × EachStands s (Some l) ls
 
 -- after a minus its number is to come
 minus_goes_on : (p : Part) (k : Key) (first : List Part) → goes p Minus k ≡ Some first → (others : List Part) → first_is_magnitude (first ++ others) ≡ true

@@ -11,14 +11,13 @@ use Rattle.upon_language_spec.specs.LiesIn.{HasUtf8}
 use Rattle.upon_language_spec.specs.Delimiters.{Sort, expression, block, comment, end_token}
 use Rattle.upon_language_spec.specs.Cut.{Lexeme, Mode, outside, in_tag, IsToken, Ends, Cut}
 use Rattle.upon_language_spec.specs.Inside.{IsInside, in_path_after}
-use Rattle.upon_language_spec.proofs.NoTreeWithFault.InsideTag.{is_inside, EachInside, extent_is_inside, end_is_no_space, inside_stays, inside_is_no_begin, space_step, no_space_step}
+use Rattle.upon_language_spec.specs.InTags.{is_inside, EachInside, ends_a_tag, last_or, StandsFor, EachStands}
+use Rattle.upon_language_spec.proofs.NoTreeWithFault.InsideTag.{extent_is_inside, end_is_no_space, inside_stays, inside_is_no_begin, space_step, no_space_step}
 use Rattle.upon_language_spec.specs.Tokens.{is_space}
-use Rattle.upon_language_spec.proofs.NoTreeWithFault.TagShapes.{ends_a_tag}
 use Rattle.upon_language_spec.specs.Reading.{open_tag, first_span}
 use Rattle.upon_language_spec.specs.Tags.{IsTag, Symbol, symbol_of, symbols_of, word_of}
 use Rattle.upon_language_spec.specs.Faults.{span_of, lexeme_at, tag_tokens, tag_row}
 use Rattle.upon_language_spec.specs.Wanted.{reason_for, wanted_at_end, expected_found}
-use Rattle.upon_language_spec.proofs.NoTreeWithFault.FineAt.{last_or}
 use Rattle.upon_language_spec.proofs.NoTreeWithFault.SplitInTag.{last_or_none}
 use Rattle.upon_language_spec.proofs.OneCut.Token.{step_ends}
 use Rattle.upon_language_spec.proofs.OneCut.Cut.{cut_ends}
@@ -27,13 +26,14 @@ use Rattle.upon_language_spec.specs.Lexing.{brackets_in}
 use Rattle.upon_language_spec.specs.Keys.{key_of}
 use Rattle.upon_language_spec.specs.Parts.{Part, tag_start, after_symbol, Path}
 use Rattle.upon_language_spec.proofs.Wanted.WantedAt.{path_one}
-use Rattle.upon_language_spec.proofs.Totality.FittingClears.{StandsAt, fitting_clears, stuck_token, stuck_end, first_stuck}
+use Rattle.upon_language_spec.proofs.Totality.FittingClears.{fitting_clears, stuck_token, stuck_end, first_stuck}
 use Rattle.upon_language_spec.proofs.Totality.InsideClear.{tokens_more, from_more}
 use Rattle.upon_language_spec.proofs.Totality.First.{end_is_first}
-use Rattle.upon_language_spec.proofs.Totality.Stage.{Stage, on, clear_to}
+use Rattle.upon_language_spec.specs.Stages.{Stage, TagAt, EndsAt}
+use Rattle.upon_language_spec.proofs.Totality.Stage.{on, clear_to}
 use Rattle.upon_language_spec.proofs.Totality.NextOrFault.{Next, next_or_fault}
-use Rattle.upon_language_spec.proofs.Totality.TagTree.{StandsFor, EachStands, whole_tag}
-use Rattle.upon_language_spec.proofs.Wanted.Opened.{is_open, some_wanted, open_on, end_leaves_nothing}
+use Rattle.upon_language_spec.proofs.Totality.TagTree.{whole_tag}
+use Rattle.upon_language_spec.proofs.Wanted.Opened.{some_wanted, open_on, end_leaves_nothing}
 use Rattle.upon_language_spec.proofs.Totality.LiteralHere.{Fault, FineHere, literal_here}
 use Rattle.upon_language_spec.proofs.NoTreeWithFault.NextToken.{inside_ends_nothing}
 
@@ -44,26 +44,6 @@ each_snoc s before (x ∷ xs) l each h = (each.0, each_snoc s (Some x) xs l each
 pub first_stays : (xs ys : List Lexeme) (at : Span) → first_span xs ≡ Some at → first_span (xs ++ ys) ≡ Some at
 first_stays [] ys at h = absurd cc
 first_stays (x ∷ xs) ys at h = h
-
--- after some tokens of a tag that lead on and are fine
-pub record TagAt (delimiters : List DelimiterText) (s : List ℕ) (sort : Sort) (ls : List Lexeme) (path : Bool) (p : ℕ) : Type 0 where
-  pub stage : Stage delimiters s ls (in_tag sort path) p
-  pub ps : List Part
-  pub occurs : StandsAt s ls ps
-  pub still : is_open ps ≡ true
-  pub each : EachStands s None (tag_tokens ls)
-  pub begin : Span
-  pub opening : first_span (open_tag ls) ≡ Some begin
-
--- the tag's end may be there
-pub record EndsAt (delimiters : List DelimiterText) (s : List ℕ) (sort : Sort) (ls : List Lexeme) (path : Bool) (p : ℕ) : Type 0 where
-  pub tag : TagAt delimiters s sort ls path p
-  pub hyphen : Bool
-  pub to : ℕ
-  pub ends : Ends delimiters s sort hyphen p to
-  pub brackets : BracketsFit (brackets_in (in_tag sort path) ls) (end_token sort)
-  pub next : List Part
-  pub leads : after_symbol tag.ps (symbol_of s (lexeme_at (end_token sort) hyphen p to)) ≡ Some next
 
 -- one more token inside
 pub record GoesOn (delimiters : List DelimiterText) (s : List ℕ) (sort : Sort) (ls : List Lexeme) (path : Bool) (p : ℕ) : Type 0 where

@@ -16,6 +16,7 @@ use Rattle.upon_language_spec.specs.Keys.{Key, key_true, key_false, key_of}
 use Rattle.upon_language_spec.specs.Parts.{Part, a_base, after_name, after_member, a_member, a_magnitude, filters, after_filter, more_args, list_start, list_rest, call_start, call_rest, condition, base_key, goes, after, after_symbol, Path}
 use Rattle.upon_language_spec.specs.PartTails.{Tail, no_tail, member_tail, name_tail, tail_parts, Begun, TakesBase}
 use Rattle.upon_language_spec.specs.PartLeads.{Leads}
+use Rattle.upon_language_spec.specs.OpenParts.{Ending, base_ending, name_ending, args_ending, ending_parts}
 
 -- where a Base may come, a path may begin with a member
 pub op_takes : (from ps : List Part) → TakesBase from ps → (op : AccessOp) (k : Key) → after from (op_token op) k ≡ Some (a_member ∷ ps)
@@ -47,17 +48,6 @@ module _ (s : List ℕ) where
 
   pub leads_key : {a b : List Part} (word : List ℕ) {span : Span} {ts us : List Lexeme} → GoesWord s word span ts us → after a Keyword (key_of word) ≡ Some b → Leads s a ts b us
   leads_key {a} {b} word {span} g h = leads_by g.0 (ap (λ w. after a Keyword (key_of w)) g.1 ∙ h)
-
--- and with an expression, before its further filters
-pub data Ending : Type 0 where
-  base_ending : Tail → Ending
-  name_ending : Ending
-  args_ending : Tail → Ending
-
-abbrev pub ending_parts : Ending → List Part
-ending_parts (base_ending tail) = tail_parts tail
-ending_parts name_ending = after_filter ∷ []
-ending_parts (args_ending tail) = tail_parts tail ++ more_args ∷ []
 
 -- a token that goes on with no Base, and none that goes on with an expression's last part
 abbrev pub leaves_base : Token → Bool

@@ -2,26 +2,11 @@
 use Rattle.std.proofs.Common.{◌≡◌, List, [], ◌∷◌, ◌++◌, Bool, true, false, Option, Some, None, nat_lt, if◌then◌else◌, refl, sym, ap, ◌∙◌, subst}
 use Rattle.upon_types.specs.declared.types.token.Token.{Token}
 use Rattle.upon_types.specs.declared.types.token.Token.TheVariants.{EndExpr, EndBlock, OpenBracket, CloseBracket, OpenBrace, CloseBrace, OpenParen, CloseParen, Dot, QuestionDot, Pipe, Comma, Colon, Plus, Minus, Keyword, Ident, Index, Number, String}
-use Rattle.upon_language_spec.proofs.NoTreeWithFault.TagShapes.{ends_a_tag}
+use Rattle.upon_language_spec.specs.InTags.{ends_a_tag}
 use Rattle.upon_language_spec.specs.Wanted.{Wanted, rank}
 use Rattle.upon_language_spec.specs.Keys.{Key, key_if, key_not, key_else, key_endif, key_for, key_in, key_endfor, key_with, key_as, key_endwith, key_include, key_true, key_false}
 use Rattle.upon_language_spec.specs.Parts.{Part, a_base, after_name, after_member, a_member, a_magnitude, filters, filter_name, after_filter, more_args, list_start, list_rest, map_start, map_colon, map_rest, call_start, call_rest, close_paren, tag_start, end_expr, end_block, block_word, condition, else_rest, loop_name, loop_rest, loop_value, in_word, as_word, as_name, include_name, include_rest, is_optional, base_key, base_goes, condition_key, goes, left_of, after, lesser, wanted_at}
-
-abbrev pub is_nil : List Part → Bool
-is_nil [] = true
-is_nil (p ∷ ps) = false
-
--- the last part, and no other, is one that only a tag's end ends
-abbrev pub is_open : List Part → Bool
-is_open [] = false
-is_open (end_expr ∷ ps) = is_nil ps
-is_open (end_block ∷ ps) = is_nil ps
-is_open (block_word ∷ ps) = is_nil ps
-is_open (else_rest ∷ ps) = is_nil ps
-is_open (include_name ∷ ps) = is_nil ps
-is_open (include_rest ∷ ps) = is_nil ps
-is_open (tag_start ∷ ps) = false
-is_open (p ∷ ps) = is_open ps
+use Rattle.upon_language_spec.specs.OpenParts.{is_nil, is_open}
 
 lesser_some : (w : Wanted) (o : Option Wanted) → (v : Wanted) × (lesser w o ≡ Some v)
 lesser_some w None = (w, refl)

@@ -14,7 +14,8 @@ use Rattle.upon_language_spec.specs.Keys.{Key, key_of}
 use Rattle.upon_language_spec.specs.Parts.{Part, a_base, after_name, filters, filter_name, after_filter, more_args, list_start, list_rest, map_start, map_colon, map_rest, call_start, call_rest, close_paren, tag_start, end_expr, end_block, block_word, condition, else_rest, loop_name, loop_rest, loop_value, in_word, as_word, as_name, include_name, include_rest, after, after_symbol, Path}
 use Rattle.upon_language_spec.specs.PartTails.{Tail, no_tail, member_tail, name_tail, tail_parts, TakesBase}
 use Rattle.upon_language_spec.specs.PartLeads.{Leads}
-use Rattle.upon_language_spec.proofs.Wanted.ExpressionsLead.{leads_then, leads_nowhere, leads_key, leads_token, Ending, base_ending, name_ending, args_ending, ending_parts, ending_left, by_tail, by_ending, base_takes, list_takes, call_takes, condition_takes, BaseLeads, var_leads, literal_leads}
+use Rattle.upon_language_spec.specs.OpenParts.{Ending, base_ending, name_ending, args_ending, ending_parts}
+use Rattle.upon_language_spec.proofs.Wanted.ExpressionsLead.{leads_then, leads_nowhere, leads_key, leads_token, ending_left, by_tail, by_ending, base_takes, list_takes, call_takes, condition_takes, BaseLeads, var_leads, literal_leads}
 
 -- after a comma a Base must come
 abbrev TakesComma : List Part → Type 0

@@ -3,7 +3,7 @@ use Rattle.upon_meaning_spec.specs.Outcome.{Outcome, States}
 use Rattle.upon_vm.specs.Reports.{IsAnyIo, Writes}
 use Rattle.upon_engine.specs.Sources.{value_in}
 use Rattle.upon_engine.specs.Template.{template_of}
-use Rattle.upon.specs.Renderings.{by_source}
+use Rattle.upon.proofs.Renderings.{by_source}
 use Rattle.upon_store.specs.Paths.{is_path}
 use Rattle.upon_store.specs.Stored.{from_store}
 use Rattle.upon_store.specs.declared.store.Folder.{Folder}

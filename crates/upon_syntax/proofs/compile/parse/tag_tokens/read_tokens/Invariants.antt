@@ -1,7 +1,7 @@
 use Rattle.std.proofs.Common.{◌≡◌, ◌-◌, List, length, Bool, None}
 use Rattle.upon_language_spec.specs.Cut.{Lexeme, in_tag}
 use Rattle.upon_language_spec.specs.Delimiters.{Sort}
-use Rattle.upon_language_spec.proofs.NoTreeWithFault.FineAt.{last_or}
+use Rattle.upon_language_spec.specs.InTags.{last_or}
 use Rattle.upon_lexer.specs.Lexers.{lexer_text, lexer_delimiters, lexer_state, ReadSoFar}
 use Rattle.upon_tag_parser.specs.Literals.{before_of}
 use Rattle.upon_tag_parser.specs.TagTokens.{lexemes_of, EachTagToken}

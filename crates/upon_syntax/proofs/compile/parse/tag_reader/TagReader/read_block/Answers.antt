@@ -3,7 +3,7 @@ use Rattle.upon_types.specs.declared.types.token.Token.TheVariants.{EndBlock}
 use Rattle.upon_language_spec.specs.Delimiters.{block}
 use Rattle.upon_language_spec.specs.Parts.{Part, block_word}
 use Rattle.upon_language_spec.specs.Wanted.{an_end_block}
-use Rattle.upon_language_spec.proofs.NoTreeWithFault.FineAt.{last_or}
+use Rattle.upon_language_spec.specs.InTags.{last_or}
 use Rattle.upon_lexer.specs.Lexers.{lexer_text, lexer_delimiters, lexer_state}
 use Rattle.upon_tag_parser.specs.declared.compile.parse.literal.Lexed.{Lexed}
 use Rattle.upon_tag_parser.specs.declared.compile.parse.want.Want.TheVariants as want
