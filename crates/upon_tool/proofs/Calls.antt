@@ -12,13 +12,13 @@ use Rattle.upon_tool_data.specs.Sources.{is_standard}
 use Rattle.upon_tool_data.specs.Words.{IsWrong}
 use Rattle.upon_tool_data.specs.declared.fault.ContextFault.{ContextFault}
 use Rattle.upon_tool_data.specs.declared.words.DataWords.{DataWords}
+use Rattle.upon_tool_messages.specs.Status.{status_of, IsMemory}
+use Rattle.upon_tool_messages.specs.declared.failure.Failure.{Failure}
+use Rattle.upon_tool_messages.specs.declared.failure.Failure.TheVariants.{Data}
 use Rattle.upon_tool.specs.Calls.{AreWordsOf, IsContextOf, IsFaultOf, IsNoContext, RefusesCall}
 use Rattle.upon_tool.specs.Refusals.{Refuses}
 use Rattle.upon_tool.specs.Sources.{IsUnread}
-use Rattle.upon_tool.specs.Status.{status_of, IsMemory}
 use Rattle.upon_tool.specs.Work.{checked_files, IsUnreadOf, RefusesWork}
-use Rattle.upon_tool.specs.declared.failure.Failure.{Failure}
-use Rattle.upon_tool.specs.declared.failure.Failure.TheVariants.{Data}
 use Rattle.upon_tool.specs.declared.work.Templates.{Templates}
 use Rattle.upon_tool.specs.declared.work.Work.{Work}
 use Rattle.upon_tool.proofs.Refusals.{data_handed_on, handed_on, memory_handed_on, of_part, of_unread_at}

@@ -5,9 +5,9 @@ use Rattle.upon_language_spec.specs.Search.{DelimiterText}
 use Rattle.upon_meaning_spec.specs.Engine.{Table, Template}
 use Rattle.upon_engine.specs.Texts.{Stored, Texts}
 use Rattle.upon_engine.specs.Theorem.{IsTable, IsTemplateOf}
-use Rattle.upon_tool.specs.Library.{library_names, refusal_of}
+use Rattle.upon_tool_messages.specs.Library.{library_names, refusal_of}
+use Rattle.upon_tool_messages.specs.declared.library.Library.{Library}
 use Rattle.upon_tool.specs.Missing.{EachName, HeldIsRight, IsRight, LibraryIsRight}
-use Rattle.upon_tool.specs.declared.library.Library.{Library}
 use Rattle.upon_tool.proofs.Kept.{first_true, second_true}
 
 -- the template of a table under a name

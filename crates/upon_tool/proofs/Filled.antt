@@ -23,18 +23,18 @@ use Rattle.upon_engine.specs.Theorem.{IsTable}
 use Rattle.upon_engine.specs.declared.needs.Needs.{Needs}
 use Rattle.upon_tool_io.specs.declared.files.ReadFault.{ReadFault}
 use Rattle.upon_tool_io.specs.declared.arguments.Escape.{Escape}
+use Rattle.upon_tool_messages.specs.Library.{IsOfAdded}
+use Rattle.upon_tool_messages.specs.Status.{end_status}
+use Rattle.upon_tool_messages.specs.declared.failure.Failure.{Failure}
+use Rattle.upon_tool_messages.specs.declared.failure.Failure.TheVariants.{Fault}
+use Rattle.upon_tool_messages.specs.declared.library.Refusal.{Refusal}
 use Rattle.upon_tool.specs.Escaping.{format_for}
 use Rattle.upon_std.specs.Table.{standard_answer, standard_name}
 use Rattle.upon_std.specs.declared.table.StandardFunction.{StandardFunction}
-use Rattle.upon_tool.specs.Library.{IsOfAdded}
 use Rattle.upon_tool.specs.Names.{needs_text, NeededBy}
 use Rattle.upon_tool.specs.Rendering.{Renders, SendsPage, StaysWithin}
-use Rattle.upon_tool.specs.Status.{end_status}
 use Rattle.upon_tool.specs.Filled.{engine_for, escaping_engine, with_functions, with_page, EachHasTree, TakesFiles, TakesRead, TakesText}
 use Rattle.upon_tool.specs.Work.{IsCheck, ListsNames, RefusesWork, Works}
-use Rattle.upon_tool.specs.declared.failure.Failure.{Failure}
-use Rattle.upon_tool.specs.declared.failure.Failure.TheVariants.{Fault}
-use Rattle.upon_tool.specs.declared.library.Refusal.{Refusal}
 use Rattle.upon_tool.specs.declared.sources.FolderFile.{FolderFile}
 use Rattle.upon_tool.specs.declared.work.Templates.{Templates}
 use Rattle.upon_tool.specs.declared.work.Work.{Work}

@@ -9,12 +9,12 @@ use Rattle.upon_types.specs.Conversions.{or_else}
 use Rattle.upon_types.specs.declared.error.Error.{Error}
 use Rattle.upon_engine.specs.Changes.{unless_refused, with_text}
 use Rattle.upon_engine.specs.Texts.{Texts}
+use Rattle.upon_tool_messages.specs.Library.{library_names, refusal_of, IsOfAdded}
+use Rattle.upon_tool_messages.specs.declared.library.Library.{Library}
+use Rattle.upon_tool_messages.specs.declared.library.Refusal.{Refusal}
 use Rattle.upon_tool.specs.Filled.{with_page}
-use Rattle.upon_tool.specs.Library.{library_names, refusal_of, IsOfAdded}
 use Rattle.upon_tool.specs.Missing.{EachName, HeldIsRight, LibraryIsRight}
 use Rattle.upon_tool.specs.Work.{EachFileIsRight}
-use Rattle.upon_tool.specs.declared.library.Library.{Library}
-use Rattle.upon_tool.specs.declared.library.Refusal.{Refusal}
 use Rattle.upon_tool.specs.declared.sources.FolderFile.{FolderFile}
 use Rattle.upon_tool.proofs.CheckedFiles.{each_name, name_more}
 

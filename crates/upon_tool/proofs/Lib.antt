@@ -1,4 +1,3 @@
-pub mod Added
 pub mod Calls
 pub mod Checked
 pub mod CheckedFiles

@@ -14,14 +14,14 @@ use Rattle.upon_tool_io.specs.declared.arguments.Call.TheVariants.{Build as Buil
 use Rattle.upon_tool_data.specs.declared.fault.ContextFault.{ContextFault}
 use Rattle.upon_tool_many.specs.declared.build.Build.{Build}
 use Rattle.upon_tool_many.specs.declared.each.Each.{Each}
+use Rattle.upon_tool_messages.specs.declared.failure.Failure.{Failure}
+use Rattle.upon_tool_messages.specs.declared.failure.Failure.TheVariants.{Data}
 use Rattle.upon_tool.specs.Calls.{is_input, IsFaultOfLayout, IsLayout, IsNoContext, RefusesCall}
 use Rattle.upon_tool.specs.ManyPages.{limits_set, BuildIsWell, EachIsWell}
 use Rattle.upon_tool.specs.Rendering.{is_limited}
 use Rattle.upon_tool.specs.Refusals.{Refuses}
 use Rattle.upon_tool.specs.Sources.{IsUnread}
 use Rattle.upon_tool.specs.Work.{Works}
-use Rattle.upon_tool.specs.declared.failure.Failure.{Failure}
-use Rattle.upon_tool.specs.declared.failure.Failure.TheVariants.{Data}
 use Rattle.upon_tool.specs.declared.work.Work.{Work}
 use Rattle.upon_tool.specs.declared.work.Work.TheVariants.{Each as EachWork, Build as BuildWork}
 use Rattle.upon_tool.proofs.Refusals.{data_handed_on, handed_on, of_part, of_unread_at}

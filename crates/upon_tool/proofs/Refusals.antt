@@ -4,11 +4,11 @@ use Rattle.upon_types.specs.declared.error.Error.{Error}
 use Rattle.upon_tool_data.specs.declared.fault.ContextFault.{ContextFault}
 use Rattle.upon_tool_io.specs.declared.files.ReadFault.{ReadFault}
 use Rattle.upon_tool_io.specs.declared.files.ReadFault.TheVariants.{Unreadable as FileUnreadable, NotText as FileNotText, Outside as FileOutside, OutOfMemory}
+use Rattle.upon_tool_messages.specs.Status.{status_of, IsMemory}
+use Rattle.upon_tool_messages.specs.declared.failure.Failure.{Failure}
+use Rattle.upon_tool_messages.specs.declared.failure.Failure.TheVariants.{Unreadable, NotText, Data, Unwritable, Fault}
 use Rattle.upon_tool.specs.Refusals.{Refuses}
 use Rattle.upon_tool.specs.Sources.{IsUnread, Unread}
-use Rattle.upon_tool.specs.Status.{status_of, IsMemory}
-use Rattle.upon_tool.specs.declared.failure.Failure.{Failure}
-use Rattle.upon_tool.specs.declared.failure.Failure.TheVariants.{Unreadable, NotText, Data, Unwritable, Fault}
 
 -- a failure that is handed on
 pub handed_on : {A : Type 0} (P : Failure → Type 0) (f : Failure) (r : Result A Failure) → IsErrAnd r (λ x. x ≡ f) → P f → IfErr r P

@@ -13,11 +13,11 @@ use Rattle.upon_engine.specs.Changes.{unless_refused, with_text}
 use Rattle.upon_engine.specs.Faults.{IsSyntaxErrorOf}
 use Rattle.upon_engine.specs.Names.{texts}
 use Rattle.upon_engine.specs.Texts.{Texts}
-use Rattle.upon_tool.specs.Library.{IsOfAdded}
+use Rattle.upon_tool_messages.specs.Library.{IsOfAdded}
+use Rattle.upon_tool_messages.specs.Status.{is_memory, is_memory_kind}
+use Rattle.upon_tool_messages.specs.declared.library.Refusal.{Refusal}
 use Rattle.upon_tool.specs.Missing.{is_missing, IsRight}
-use Rattle.upon_tool.specs.Status.{is_memory, is_memory_kind}
 use Rattle.upon_tool.specs.Filled.{TakesText}
-use Rattle.upon_tool.specs.declared.library.Refusal.{Refusal}
 use Rattle.upon_tool.proofs.Statuses.{no_success}
 
 not_memory : (e : Error) → is_memory e ≡ false → fault_of e ≡ out_of_memory → ⊥

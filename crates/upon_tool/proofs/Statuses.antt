@@ -1,10 +1,10 @@
 -- The statuses of failures.
 use Rattle.std.proofs.Common.{◌≡◌, ℕ, ◌≤◌, arith}
-use Rattle.upon_tool.specs.Status.{data_status, status_of}
-use Rattle.upon_tool.specs.declared.failure.Failure.{Failure}
+use Rattle.upon_tool_messages.specs.Status.{data_status, status_of}
+use Rattle.upon_tool_messages.specs.declared.failure.Failure.{Failure}
 use Rattle.upon_tool_data.specs.declared.fault.ContextFault.{ContextFault}
 use Rattle.upon_tool_data.specs.declared.fault.ContextFault.TheVariants.{LacksText, LacksValue, InputTwice, Unreadable as DataUnreadable, NotText as DataNotText, NotOfFormat, NotObject, NotJson, NotMap, OutOfMemory}
-use Rattle.upon_tool.specs.declared.failure.Failure.TheVariants.{Unreadable, NotText, Data, Unwritable, Fault}
+use Rattle.upon_tool_messages.specs.declared.failure.Failure.TheVariants.{Unreadable, NotText, Data, Unwritable, Fault}
 
 -- what gives no context has a status of its own
 least_data : (fault : ContextFault) → 1 ≤ data_status fault

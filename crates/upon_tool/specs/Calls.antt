@@ -25,13 +25,13 @@ use Rattle.upon_tool_data.specs.declared.fault.ContextFault.{ContextFault}
 use Rattle.upon_tool_data.specs.declared.words.DataWords.{DataWords}
 use Rattle.upon_tool_many.specs.declared.build.Build.{Build}
 use Rattle.upon_tool_many.specs.declared.each.Each.{Each}
+use Rattle.upon_tool_messages.specs.Status.{end_status, status_of}
+use Rattle.upon_tool_messages.specs.declared.failure.Failure.{Failure}
 use Rattle.upon_tool.specs.Filled.{engine_for, standard_functions, with_page, TakesFiles}
 use Rattle.upon_tool.specs.ManyPages.{limits_set, BuildIsWell, EachIsWell}
 use Rattle.upon_tool.specs.Refusals.{Refuses}
 use Rattle.upon_tool.specs.Rendering.{Renders, SendsPage, StaysWithin}
-use Rattle.upon_tool.specs.Status.{end_status, status_of}
 use Rattle.upon_tool.specs.Work.{to_standard, ChecksFiles, EachFileIsRight, ListsNames}
-use Rattle.upon_tool.specs.declared.failure.Failure.{Failure}
 use Rattle.upon_tool.specs.declared.sources.FolderFile.{FolderFile}
 
 -- the limits that a call asks for

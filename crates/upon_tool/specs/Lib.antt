@@ -1,6 +1,4 @@
-pub mod Status
 pub mod Rendering
-pub mod Library
 pub mod Missing
 pub mod Names
 pub mod Sources
@@ -10,4 +8,3 @@ pub mod Filled
 pub mod ManyPages
 pub mod Work
 pub mod Calls
-pub mod Colors

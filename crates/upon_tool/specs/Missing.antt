@@ -8,8 +8,8 @@ use Rattle.upon_meaning_spec.specs.Includes.{Includes}
 use Rattle.upon_meaning_spec.specs.Engine.{Table}
 use Rattle.upon_engine.specs.Texts.{Stored, Texts}
 use Rattle.upon_engine.specs.Theorem.{IsTable}
-use Rattle.upon_tool.specs.Library.{library_names, refusal_of}
-use Rattle.upon_tool.specs.declared.library.Library.{Library}
+use Rattle.upon_tool_messages.specs.Library.{library_names, refusal_of}
+use Rattle.upon_tool_messages.specs.declared.library.Library.{Library}
 
 -- the name is not the template's own, and the table has no template of it
 abbrev pub is_missing : List ℕ → Table → List ℕ → Bool

@@ -5,8 +5,8 @@ use Rattle.upon_types.specs.Error.{fault_of}
 use Rattle.upon_types.specs.Fault.{out_of_memory}
 use Rattle.upon_types.specs.declared.error.Error.{Error}
 use Rattle.upon_tool_data.specs.declared.fault.ContextFault.{ContextFault}
-use Rattle.upon_tool.specs.declared.failure.Failure.{Failure}
-use Rattle.upon_tool.specs.declared.failure.Failure.TheVariants.{Unreadable, NotText, Data, Unwritable, Fault}
+use Rattle.upon_tool_messages.specs.declared.failure.Failure.{Failure}
+use Rattle.upon_tool_messages.specs.declared.failure.Failure.TheVariants.{Unreadable, NotText, Data, Unwritable, Fault}
 
 -- There is no context; or a file that is named was not read, or is not UTF-8; or there is a fault, or memory was out.
 abbrev pub Refuses : (ContextFault → Type 0) → (Bor (List ℕ) → Type 0) → (Error → Type 0) → Failure → Type 0

@@ -10,10 +10,10 @@ use Rattle.upon_vm.specs.declared.limits.Limits.{Limits}
 use Rattle.upon_engine.specs.Texts.{Stored, Texts}
 use Rattle.upon_engine.specs.Theorem.{Sends}
 use Rattle.upon_engine.specs.Within.{SendsWithin}
-use Rattle.upon_tool.specs.Status.{end_status}
+use Rattle.upon_tool_messages.specs.Status.{end_status}
+use Rattle.upon_tool_messages.specs.declared.failure.Failure.{Failure}
+use Rattle.upon_tool_messages.specs.declared.failure.Failure.TheVariants.{Unreadable, NotText, Data, Unwritable, Fault}
 use Rattle.upon_tool.specs.declared.rendering.Page.{Page}
-use Rattle.upon_tool.specs.declared.failure.Failure.{Failure}
-use Rattle.upon_tool.specs.declared.failure.Failure.TheVariants.{Unreadable, NotText, Data, Unwritable, Fault}
 
 -- whether a limit is set
 abbrev pub is_limited : Limits → Bool

@@ -5,9 +5,9 @@ use Rattle.std.specs.declared.io.Error.{Error as IoError}
 use Rattle.upon_tool_io.specs.declared.files.ReadFault.{ReadFault}
 use Rattle.upon_tool_io.specs.declared.files.ReadFault.TheVariants.{Unreadable as FileUnreadable, NotText as FileNotText, Outside as FileOutside, OutOfMemory}
 use Rattle.upon_tool_data.specs.Sources.{is_standard, IsTextOf}
-use Rattle.upon_tool.specs.Status.{IsMemory}
-use Rattle.upon_tool.specs.declared.failure.Failure.{Failure}
-use Rattle.upon_tool.specs.declared.failure.Failure.TheVariants.{Unreadable, NotText}
+use Rattle.upon_tool_messages.specs.Status.{IsMemory}
+use Rattle.upon_tool_messages.specs.declared.failure.Failure.{Failure}
+use Rattle.upon_tool_messages.specs.declared.failure.Failure.TheVariants.{Unreadable, NotText}
 
 -- the failure that a fault of reading is
 abbrev pub Unread : Bor (List ℕ) → ReadFault → Failure → Type 0

@@ -10,6 +10,7 @@ use Rattle.upon_engine.specs.Texts.{Texts}
 use Rattle.upon_engine.specs.Theorem.{IsTable}
 use Rattle.upon_engine.specs.declared.needs.Needs.{Needs}
 use Rattle.upon_tool_data.specs.Sources.{is_standard}
+use Rattle.upon_tool_messages.specs.declared.failure.Failure.{Failure}
 use Rattle.upon_tool.specs.Filled.{EachHasTree, Fills}
 use Rattle.upon_tool.specs.ManyPages.{BuildIsWell, EachIsWell}
 use Rattle.upon_tool.specs.Missing.{EachIsRight, EachName, HeldIsRight}
@@ -17,7 +18,6 @@ use Rattle.upon_tool.specs.Names.{needs_text, NeededBy}
 use Rattle.upon_tool.specs.Refusals.{Refuses}
 use Rattle.upon_tool.specs.Rendering.{ShowsPage}
 use Rattle.upon_tool.specs.Sources.{AreTexts}
-use Rattle.upon_tool.specs.declared.failure.Failure.{Failure}
 use Rattle.upon_tool.specs.declared.sources.FolderFile.{FolderFile}
 use Rattle.upon_tool.specs.declared.work.Templates.{Templates}
 use Rattle.upon_tool.specs.declared.work.Work.{Work}

@@ -6,18 +6,17 @@ ghost use Rattle.std.specs.Cow.{cow_str_bytes};
 ghost use Rattle.upon_engine.specs.Engine.{engine_syntax, engine_templates};
 ghost use Rattle.upon_engine.specs.Names.{texts};
 ghost use Rattle.upon_engine.specs.Template.{template_tree};
-ghost use Rattle.upon_tool.specs.Library.{refusal_of};
+ghost use Rattle.upon_tool_messages.specs.Library.{refusal_of};
 ghost use Rattle.upon_tool.specs.Missing.{is_missing, IsRight};
 
-use crate::call_check::CallCheck;
-use crate::failure::{is_memory, report_fault};
-use crate::includes::show_includes;
-use crate::library::Library;
-use crate::rendering::report_refusal;
 use std::alloc::{AllocError, Global};
 use std::borrow::CowStr;
 use std::io;
 use upon::{Engine, Template};
+use upon_tool_messages::call_check::CallCheck;
+use upon_tool_messages::failure::{is_memory, report_fault};
+use upon_tool_messages::includes::show_includes;
+use upon_tool_messages::library::{Library, report_refusal};
 
 /// Returns the names that a template includes and that are neither its own nor of a template that the engine holds, in
 /// ascending order. It fails if there is no memory.

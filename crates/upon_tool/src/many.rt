@@ -3,11 +3,8 @@ ghost use Rattle.std.specs.Prelude.{◌≡◌, ◌≤◌};
 ghost use Rattle.upon_types.specs.View.{view};
 ghost use Rattle.upon_tool.specs.ManyPages.{AreWell, BuildIsWell, EachIsWell};
 
-use crate::failure::{Failure, report};
-use crate::known::Known;
-use crate::library::{Library, Refusal};
 use crate::progress::Waiting;
-use crate::rendering::{explain, report_refusal};
+use crate::rendering::explain;
 use std::alloc::{AllocError, Global};
 use std::io::Write;
 use std::rt::Files;
@@ -17,6 +14,9 @@ use upon_tool_io::files::joined;
 use upon_tool_many::build::{Build, BuildFault, build_folder};
 use upon_tool_many::each::{Each, EachFault, render_each};
 use upon_tool_many::pages::{DonePage, PageEnd, PageFault, is_any_failed};
+use upon_tool_messages::failure::{Failure, report};
+use upon_tool_messages::known::Known;
+use upon_tool_messages::library::{Library, Refusal, report_refusal};
 
 /// Renders a template for each item of a list of a value, says what is wrong, and returns the status.
 pub(crate) fn show_each<R: Files + Clock + AllocGlobal, E: Write>(

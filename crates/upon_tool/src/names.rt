@@ -4,16 +4,15 @@ ghost use Rattle.std.specs.Io.KnownBytes.{Appends};
 ghost use Rattle.upon_meaning_spec.specs.Engine.{Template as TemplateMeant};
 ghost use Rattle.upon_engine.specs.Engine.{engine_templates};
 ghost use Rattle.upon_engine.specs.declared.needs.Needs.{Needs as Listed};
+ghost use Rattle.upon_tool_messages.specs.Status.{status_of};
 ghost use Rattle.upon_tool.specs.Names.{needs_text, NeededBy};
-ghost use Rattle.upon_tool.specs.Status.{status_of};
 
-use crate::failure::{Failure, report};
-use crate::library::Library;
 use crate::names_text::needs_text;
-use crate::rendering::report_refusal;
 use std::alloc::Global;
 use std::io;
 use upon::{Engine, Needs};
+use upon_tool_messages::failure::{Failure, report};
+use upon_tool_messages::library::{Library, report_refusal};
 
 /// Returns what the template of a name needs. It fails if the engine has none, and if there is no memory.
 pub fn needed<'n, 'a>(engine: &'n Engine<'_>, name: &'a str) -> Result<Needs<'n>, Failure<'a>>

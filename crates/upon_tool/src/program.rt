@@ -7,10 +7,8 @@ ghost use Rattle.upon_tool.specs.Calls.{is_input, limits_asked, AreWordsOf, Buil
 ghost use Rattle.upon_tool_io.specs.declared.arguments.Color.TheVariants.{Auto, Always, Never};
 ghost use Rattle.upon_tool_io.specs.declared.arguments.Call.TheVariants.{Render as RenderAsked, Check as CheckAsked, Names as NamesAsked, Each as EachAsked, Build as BuildAsked};
 
-use crate::failure::{Failure, report};
 use crate::rendering::{Page, is_limited};
 use crate::sources::{files_in, text_of};
-use crate::terminal::Terminal;
 use crate::work::{Templates, Work, carry_out};
 use std::alloc::Global;
 use std::env::{self, Env, VarError};
@@ -24,13 +22,12 @@ use upon_tool_data::context::context;
 use upon_tool_data::sources::STANDARD;
 use upon_tool_data::words::{DataWords, check};
 use upon_tool_io::arguments::{
-    self, BuildCall, Call, CheckCall, Color, EachCall, Escape, NamesCall, RenderCall,
+    self, BuildCall, Call, CheckCall, Color, EachCall, NamesCall, RenderCall,
 };
 use upon_tool_many::build::Build;
 use upon_tool_many::each::Each;
-
-// The formatters that there are if values are escaped.
-const FORMATTERS: [&str; 1] = ["verbatim"];
+use upon_tool_messages::failure::{Failure, report};
+use upon_tool_messages::terminal::Terminal;
 
 /// Does what the words ask for, of which the first is the program's name, and returns the status. Templates and
 /// contexts come from files, and from `input` if their name is `-`. What goes to `err` has its control characters
@@ -226,15 +223,9 @@ fn run_check<'a, R: Files + Env + Clock + AllocGlobal + Clone + Drop, I: Read, O
 fn callables<'w>(call: &'w CheckCall<'_>) -> Declared<'w> {
     Declared {
         functions: standard(call.standard),
-        formatters: formatters(call.escape),
+        has_verbatim: call.escape.is_some(),
         others: call.functions.as_slice(),
     }
-}
-
-// The names of the formatters that there are, if values are escaped.
-fn formatters(escape: Option<Escape>) -> &'static [&'static str] {
-    let count = if escape.is_some() { 1 } else { 0 };
-    FORMATTERS.get(..count).unwrap_or_default()
 }
 
 // Lists what a template needs, and answers the status.

@@ -1,19 +1,19 @@
 // A template rendered on a value.
-ghost use Rattle.std.specs.Prelude.{◌≡◌, ◌≤◌, ◌↔◌, None, Some, IsErr, IsNone, IsSomeAnd, Ok};
+ghost use Rattle.std.specs.Prelude.{◌≡◌, ◌≤◌, ◌↔◌, None, Some, IsErr, IsNone, IsSomeAnd, Ok, option_map};
 ghost use Rattle.upon_types.specs.Tree.{Statements};
 ghost use Rattle.upon_types.specs.View.{view};
 ghost use Rattle.upon_language_spec.specs.Grammar.{HasTree};
 ghost use Rattle.upon_engine.specs.Texts.{Stored};
+ghost use Rattle.upon_tool_messages.specs.Status.{status_of};
 ghost use Rattle.upon_tool.specs.Rendering.{is_limited, Renders, SendsPage, ShowsPage, StaysWithin};
-ghost use Rattle.upon_tool.specs.Status.{status_of};
 
-use crate::failure::{Failure, report, report_fault};
-use crate::known::Known;
-use crate::library::{Library, Refusal};
-use crate::near::report_near;
 use std::alloc::Global;
 use std::io;
 use upon::{AnyEngine, Engine, EngineTexts, Limits, Value};
+use upon_tool_messages::failure::{Failure, report};
+use upon_tool_messages::known::Known;
+use upon_tool_messages::library::{Library, report_refusal};
+use upon_tool_messages::near::report_near;
 
 /// A template of an engine, with what it is rendered on.
 #[derive(Clone, Copy)]
@@ -139,7 +139,20 @@ pub fn show<O: io::Write, E: io::Write>(
         Err(failure) => failure,
     };
     let _ = out.flush();
-    explain(alloc, engine, &Known::of_page(library, page), &failure, err)
+    explain(alloc, engine, &known_of(library, page), &failure, err)
+}
+
+/// Returns what there is for a page.
+pub(crate) fn known_of<'k>(library: &'k Library, page: &Page<'k, 'k>) -> Known<'k>
+    ensures library { result.library.now ≡ library.now }
+    ensures value { option_map (λ value. value.now) result.value ≡ Some page.now.value.now }
+    ensures page { option_map (λ name. name.now) result.page ≡ Some page.now.name.now }
+{
+    Known {
+        library,
+        value: Some(page.value),
+        page: Some(page.name),
+    }
 }
 
 /// Says why a run failed, and returns its status. Of a file that it reached and that is no template, it says what is
@@ -164,23 +177,4 @@ pub fn explain<E: io::Write>(
         }
     }
     1
-}
-
-/// Says why a file is no template.
-pub fn report_refusal<E: io::Write>(alloc: Global, name: &str, refusal: &Refusal, err: &mut E) {
-    match refusal {
-        Refusal::Fault(error) => report_fault(alloc, error, err),
-        Refusal::Unreadable(error) => {
-            let _ = writeln!(err, "upon-tool: cannot read {name}: {error}");
-        }
-        Refusal::NotText => {
-            let _ = writeln!(err, "upon-tool: {name} is not UTF-8");
-        }
-        Refusal::Outside => {
-            let _ = writeln!(
-                err,
-                "upon-tool: {name} is a link out of the folder (--follow follows it)"
-            );
-        }
-    }
 }

@@ -3,13 +3,13 @@ ghost use Rattle.std.specs.Prelude.{◌≡◌, [], false, IfErr, IfOk, IsNone, I
 ghost use Rattle.upon_tool_data.specs.Sources.{is_standard, IsTextOf};
 ghost use Rattle.upon_tool.specs.Sources.{IsUnread, Unread};
 
-use crate::failure::Failure;
 use std::alloc::AllocError;
 use std::io::{ErrorKind, Read};
 use std::rt::Files;
 use upon_tool_data::sources::read_source;
 use upon_tool_io::files::{ReadFault, joined, read_file};
 use upon_tool_io::folder::files_of;
+use upon_tool_messages::failure::Failure;
 
 /// A file of a folder, by its path there, with what was read of it.
 #[derive(Drop)]

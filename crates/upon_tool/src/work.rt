@@ -3,21 +3,17 @@
 ghost use Rattle.std.specs.Prelude.{◌≡◌, ◌≤◌, ◌↔◌, ℕ, List, IfErr, IfOk, None, OnErr, Some, is_some, not, true};
 ghost use Rattle.upon_engine.specs.Engine.{engine_syntax, engine_templates};
 ghost use Rattle.upon_meaning_spec.specs.Engine.{Template as TemplateMeant};
-ghost use Rattle.upon_tool.specs.Library.{library_names, refusal_of};
+ghost use Rattle.upon_tool_messages.specs.Library.{library_names, refusal_of};
 ghost use Rattle.upon_tool.specs.Missing.{EachIsRight, EachName, IsRight, LibraryIsRight};
 ghost use Rattle.upon_tool.specs.Rendering.{ShowsPage};
 ghost use Rattle.upon_tool.specs.Sources.{AreTexts};
 ghost use Rattle.upon_tool.specs.Work.{checked_files, to_standard, CarriesOut, ChecksFiles, IsCheck, IsUnreadOf, ListsNames, RefusesWork, Works};
 
-use crate::call_check::CallCheck;
 use crate::check::{check_file, check_text};
 use crate::escaping::Escaping;
-use crate::failure::Failure;
-use crate::known::Known;
-use crate::library::{Callables, Library, Refusal};
 use crate::many::{show_build, show_each};
 use crate::names;
-use crate::rendering::{Page, explain, send, show};
+use crate::rendering::{Page, explain, known_of, send, show};
 use crate::sources::{FolderFile, text_of};
 use std::alloc::{AllocError, Global};
 use std::borrow::CowStr;
@@ -34,6 +30,9 @@ use upon_tool_io::arguments::Escape;
 use upon_tool_io::output::{Replacement, WriteFault};
 use upon_tool_many::build::Build;
 use upon_tool_many::each::Each;
+use upon_tool_messages::call_check::CallCheck;
+use upon_tool_messages::failure::Failure;
+use upon_tool_messages::library::{Library, Refusal};
 
 /// What an engine is to hold.
 #[derive(Drop)]
@@ -106,9 +105,10 @@ pub(crate) fn carry_out<
         let boxed = Box::new(alloc, *function)?;
         engine.add_function(CowStr::Borrowed(function.name()), boxed)?;
     }
-    let callables = Callables {
+    let callables = Declared {
         functions,
         has_verbatim: escape.is_some(),
+        others: Default::default(),
     };
     let mut library = Library::new(alloc, callables);
     for file in files {
@@ -216,7 +216,7 @@ fn run_page<R: Files + AllocGlobal, O: Write, E: Write>(
     };
     match write_file(rt, engine, page, path) {
         Ok(()) => 0,
-        Err(failure) => explain(alloc, engine, &Known::of_page(library, page), &failure, err),
+        Err(failure) => explain(alloc, engine, &known_of(library, page), &failure, err),
     }
 }
 

@@ -4,15 +4,32 @@ use upon_functions::function::{CallError, Function};
 use upon_std::table::StandardFunction;
 use upon_types::value::{Value, ValueCow};
 
-/// What templates can call.
+/// What templates may call.
 #[derive(Clone, Copy)]
 pub struct Declared<'k> {
     /// The functions.
     pub functions: &'k [StandardFunction],
-    /// The names of formatters, which take one argument.
-    pub formatters: &'k [&'k str],
+    /// Whether there is the formatter `verbatim`, which takes one argument.
+    pub has_verbatim: bool,
     /// The names of what else there is, which may take any arguments.
     pub others: &'k [&'k str],
+}
+
+// The name of the formatter.
+const VERBATIM: &str = "verbatim";
+
+impl<'k> Declared<'k> {
+    /// Returns the names of all that templates may call. It fails if there is no memory.
+    pub fn names(&self, alloc: Global) -> Result<Vec<&'k str>, AllocError> {
+        let mut names = Vec::from_slice(alloc, self.others)?;
+        if self.has_verbatim {
+            names.push(VERBATIM)?;
+        }
+        for function in self.functions {
+            names.push(function.name())?;
+        }
+        Ok(names)
+    }
 }
 
 /// What is wrong with a call.
@@ -37,7 +54,7 @@ pub fn fault_of(
     if has_name(declared.others, name) {
         return Ok(None);
     }
-    if has_name(declared.formatters, name) {
+    if declared.has_verbatim && name == VERBATIM {
         return Ok(if arguments == 1 {
             None
         } else {

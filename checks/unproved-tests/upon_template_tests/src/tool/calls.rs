@@ -6,9 +6,9 @@ use std::borrow::CowStr;
 use std::test::Fail;
 use upon::Engine;
 use upon_std::table::ALL;
-use upon_tool::call_check::CallCheck;
 use upon_tool::check::check_text;
 use upon_tool_calls::judge::Declared;
+use upon_tool_messages::call_check::CallCheck;
 
 // What is said of the calls of a text, by their places and reasons.
 fn said(alloc: Global, source: &str, callables: Declared<'_>) -> Result<String, AllocError> {
@@ -56,7 +56,7 @@ fn wrong_rows(
 fn with_standard_functions(rt: HostRuntime) -> Result<(), Fail> {
     let callables = Declared {
         functions: ALL.as_slice(),
-        formatters: ["verbatim"].as_slice(),
+        has_verbatim: true,
         others: ["own"].as_slice(),
     };
     let wrong = wrong_rows(
@@ -99,7 +99,7 @@ fn without_functions(rt: HostRuntime) -> Result<(), Fail> {
     let alloc = rt.alloc();
     let callables = Declared {
         functions: [].as_slice(),
-        formatters: [].as_slice(),
+        has_verbatim: false,
         others: [].as_slice(),
     };
     let rows = [("{{ a | upper }}", "1:8 unknown function"), ("{{ a | verbatim }}", "1:8 unknown function"), ("{{ a }}", "")];

@@ -5,10 +5,10 @@ use std::borrow::CowStr;
 use std::test::Fail;
 use upon::Engine;
 use upon_std::table::ALL;
-use upon_tool::call_check::CallCheck;
 use upon_tool::check::{check_file, check_text};
-use upon_tool::library::Library;
 use upon_tool_calls::judge::Declared;
+use upon_tool_messages::call_check::CallCheck;
+use upon_tool_messages::library::Library;
 
 // The places and the files that are said to be wrong, in their order.
 fn places(alloc: Global, said: &str) -> Result<String, AllocError> {
@@ -26,7 +26,7 @@ fn places(alloc: Global, said: &str) -> Result<String, AllocError> {
 pub fn all_known() -> Declared<'static> {
     Declared {
         functions: ALL.as_slice(),
-        formatters: [].as_slice(),
+        has_verbatim: false,
         others: [].as_slice(),
     }
 }

@@ -3,9 +3,9 @@ use std::env::{Env, FillError};
 use std::rt::Files;
 use std::test::Fail;
 use std::time::Clock;
-use upon_tool::color::{Tint, parts_of};
 use upon_tool::program::{has_colors, run};
 use upon_tool_io::arguments::Color;
+use upon_tool_messages::color::{Tint, parts_of};
 
 #[test]
 fn lines(rt: HostRuntime) -> Result<(), Fail> {

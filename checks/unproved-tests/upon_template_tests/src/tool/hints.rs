@@ -5,8 +5,8 @@ use std::alloc::{AllocError, Global};
 use std::borrow::CowStr;
 use std::test::Fail;
 use upon::Engine;
-use upon_tool::call_check::CallCheck;
 use upon_tool::check::check_text;
+use upon_tool_messages::call_check::CallCheck;
 
 // The hint for a text, or nothing.
 fn hint(alloc: Global, source: &str) -> Result<String, AllocError> {

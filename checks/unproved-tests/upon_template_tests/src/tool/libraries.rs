@@ -3,8 +3,9 @@ use std::alloc::{AllocError, Global};
 use std::borrow::CowStr;
 use std::io;
 use upon::Engine;
-use upon_tool::library::{Callables, Library, Refusal};
+use upon_tool_calls::judge::Declared;
 use upon_tool_io::files::read_text;
+use upon_tool_messages::library::{Library, Refusal};
 
 /// Adds files to an engine, of which each has its name and its bytes; returns their library, with one more file that
 /// can't be read.
@@ -13,9 +14,10 @@ pub fn library(
     engine: &mut Engine<'_>,
     files: &[(&str, &[u8])],
 ) -> Result<Library, AllocError> {
-    let none = Callables {
+    let none = Declared {
         functions: [].as_slice(),
         has_verbatim: false,
+        others: [].as_slice(),
     };
     library_calling(alloc, engine, none, files)
 }
@@ -24,7 +26,7 @@ pub fn library(
 pub fn library_calling(
     alloc: Global,
     engine: &mut Engine<'_>,
-    callables: Callables,
+    callables: Declared<'static>,
     files: &[(&str, &[u8])],
 ) -> Result<Library, AllocError> {
     let mut library = Library::new(alloc, callables);

@@ -3,8 +3,8 @@ use crate::tool::libraries::library;
 use std::alloc::{AllocError, Global};
 use std::test::Fail;
 use upon::Engine;
-use upon_tool::library::Library;
 use upon_tool::names::show;
+use upon_tool_messages::library::Library;
 
 // The status, what went to standard output and what to standard error, as one text.
 fn answer(

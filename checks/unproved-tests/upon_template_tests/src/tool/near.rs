@@ -8,10 +8,11 @@ use upon::{Engine, Limits};
 use upon_data::lines::json;
 use upon_html::formatters::Verbatim;
 use upon_std::table::{ALL, StandardFunction};
-use upon_tool::call_check::CallCheck;
 use upon_tool::check::check_text;
-use upon_tool::library::{Callables, Library};
 use upon_tool::rendering::{Page, show};
+use upon_tool_calls::judge::Declared;
+use upon_tool_messages::call_check::CallCheck;
+use upon_tool_messages::library::Library;
 use upon_tool_near::said::{names_text, near_text};
 
 #[test]
@@ -226,9 +227,10 @@ fn callables(rt: HostRuntime) -> Result<(), Fail> {
         if has_verbatim {
             engine.add_formatter(CowStr::Borrowed("verbatim"), Box::new(alloc, Verbatim)?)?;
         }
-        let callables = Callables {
+        let callables = Declared {
             functions,
             has_verbatim,
+            others: [].as_slice(),
         };
         let files: [(&str, &[u8]); 1] = [("page", source.as_bytes())];
         let library = library_calling(alloc, &mut engine, callables, files.as_slice())?;

@@ -1,6 +1,6 @@
 use Rattle.std.proofs.Common.{◌≡◌, ◌≤◌, ◌∙◌, Some, Ok, Err, refl, sym, subst}
 use Rattle.upon_types.specs.View.{view}
-use Rattle.upon_tool.specs.Status.{status_of}
+use Rattle.upon_tool_messages.specs.Status.{status_of}
 use Rattle.upon_tool.proofs.Sent.{renders_kept, stays_kept}
 use Rattle.upon_tool.proofs.Statuses.{least_status, most_status, no_success}
 use Rattle.upon_tool.proofs.rendering.show.Goals as goal

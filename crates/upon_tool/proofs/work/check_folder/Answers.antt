@@ -2,7 +2,7 @@ use Rattle.std.proofs.Common.{◌≡◌, ◌∙◌, None, Some, map, string_byte
 use Rattle.std.proofs.lemmas.List.{take_all}
 use Rattle.upon_meaning_spec.specs.Engine.{Template}
 use Rattle.upon_engine.specs.Engine.{engine_syntax, engine_templates}
-use Rattle.upon_tool.specs.Library.{refusal_of}
+use Rattle.upon_tool_messages.specs.Library.{refusal_of}
 use Rattle.upon_tool.specs.Missing.{EachName, IsRight}
 use Rattle.upon_tool.proofs.CheckedFiles.{each_name_more}
 use Rattle.upon_tool.proofs.work.check_folder.Goals as goal

@@ -1,7 +1,7 @@
 use Rattle.std.proofs.Common.{◌≡◌, true, None, Some, map, string_bytes, take}
 use Rattle.upon_meaning_spec.specs.Engine.{Template}
 use Rattle.upon_engine.specs.Engine.{engine_syntax, engine_templates}
-use Rattle.upon_tool.specs.Library.{refusal_of}
+use Rattle.upon_tool_messages.specs.Library.{refusal_of}
 use Rattle.upon_tool.specs.Missing.{EachName, IsRight}
 use Rattle.upon_tool.proofs.work.check_folder.Given as goal
 

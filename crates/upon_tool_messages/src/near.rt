@@ -7,11 +7,12 @@ use crate::library::Library;
 use std::alloc::{AllocError, Global};
 use std::io::Write;
 use upon::{Engine, Error, Value};
+use upon_tool_calls::judge::Declared;
 use upon_tool_near::said::{names_text, near_text};
 use upon_types::value::look::entry;
 
 /// Says what an error is, with its picture, and which names there are in place of one that is not there.
-pub(crate) fn report_near<E: Write>(
+pub fn report_near<E: Write>(
     alloc: Global,
     engine: &Engine<'_>,
     known: &Known<'_>,
@@ -85,8 +86,14 @@ fn near_hint(
     match reason {
         NO_VARIABLE => of_variable(alloc, engine, known, error, marked.text),
         NO_MEMBER => of_member(alloc, engine, known, error, marked),
-        NO_FUNCTION => of_callable(alloc, known.library, marked.text, false),
-        NO_CALLABLE => of_callable(alloc, known.library, marked.text, true),
+        NO_FUNCTION => {
+            let functions = Declared {
+                has_verbatim: false,
+                ..known.library.callables()
+            };
+            callable_hint(alloc, &functions, marked.text)
+        }
+        NO_CALLABLE => callable_hint(alloc, &known.library.callables(), marked.text),
         NO_TEMPLATE => of_file(alloc, known.library, marked.text),
         _ => Ok(None),
     }
@@ -186,21 +193,13 @@ fn of_names(alloc: Global, names: &[&str], name: &str) -> Result<Option<String>,
     near_text(alloc, name, names)
 }
 
-// What can be called that is near to a name, and if nothing is, what there is.
-fn of_callable(
+/// Returns what can be called that is near to a name, and if nothing is, what there is.
+pub(crate) fn callable_hint(
     alloc: Global,
-    library: &Library,
+    callables: &Declared<'_>,
     name: &str,
-    is_formatter: bool,
 ) -> Result<Option<String>, AllocError> {
-    let callables = library.callables();
-    let mut names = Vec::new(alloc);
-    if is_formatter && callables.has_verbatim {
-        names.push("verbatim")?;
-    }
-    for function in callables.functions {
-        names.push(function.name())?;
-    }
+    let names = callables.names(alloc)?;
     match of_names(alloc, names.as_slice(), name)? {
         Some(text) => Ok(Some(text)),
         None => names_text(alloc, names.as_slice()),

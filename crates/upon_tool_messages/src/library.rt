@@ -2,15 +2,15 @@
 ghost use Rattle.std.specs.Prelude.{◌≡◌, ◌++◌, ◌∷◌, [], ℕ, List, map, None, Some, IfOk, OnErr, OnOk, option_map, bytes_eq, string_bytes};
 ghost use Rattle.std.specs.Map.{update};
 ghost use Rattle.upon_types.specs.Conversions.{or_else};
-ghost use Rattle.upon_tool.specs.Library.{library_callables, library_names, refusal_of, read_refusal, IsOfAdded};
+ghost use Rattle.upon_tool_messages.specs.Library.{library_callables, library_names, refusal_of, read_refusal, IsOfAdded};
 
-use crate::failure::is_memory;
+use crate::failure::{is_memory, report_fault};
 use crate::includes::including;
 use std::alloc::{AllocError, Global};
 use std::collections::BTreeMap;
 use std::io;
 use upon::{Engine, Error};
-use upon_std::table::StandardFunction;
+use upon_tool_calls::judge::Declared;
 use upon_tool_io::files::ReadFault;
 
 /// Why a file is no template.
@@ -55,13 +55,23 @@ impl Refusal {
     }
 }
 
-/// What templates may call.
-#[derive(Clone, Copy)]
-pub struct Callables {
-    /// The functions.
-    pub functions: &'static [StandardFunction],
-    /// Whether there is the formatter `verbatim`.
-    pub has_verbatim: bool,
+/// Says why a file is no template.
+pub fn report_refusal<E: io::Write>(alloc: Global, name: &str, refusal: &Refusal, err: &mut E) {
+    match refusal {
+        Refusal::Fault(error) => report_fault(alloc, error, err),
+        Refusal::Unreadable(error) => {
+            let _ = writeln!(err, "upon-tool: cannot read {name}: {error}");
+        }
+        Refusal::NotText => {
+            let _ = writeln!(err, "upon-tool: {name} is not UTF-8");
+        }
+        Refusal::Outside => {
+            let _ = writeln!(
+                err,
+                "upon-tool: {name} is a link out of the folder (--follow follows it)"
+            );
+        }
+    }
 }
 
 /// The files of a folder by their names, with the reasons why some are no templates, and what templates may call. An
@@ -69,15 +79,15 @@ pub struct Callables {
 #[derive(Drop)]
 pub struct Library {
     alloc: Global,
-    callables: Callables,
+    callables: Declared<'static>,
     names: Vec<String>,
     refused: BTreeMap<String, Refusal>,
 }
 
 impl Library {
     /// Creates a library without files.
-    pub fn new(alloc: Global, callables: Callables) -> Library
-        ensures callables { library_callables result ≡ callables }
+    pub fn new(alloc: Global, callables: Declared<'static>) -> Library
+        ensures callables { library_callables result ≡ callables.entry }
         ensures names { library_names result ≡ [] }
         ensures refused { (name : List ℕ) → refusal_of result name ≡ None }
     {
@@ -90,7 +100,7 @@ impl Library {
     }
 
     /// Returns what templates may call.
-    pub fn callables(&self) -> Callables
+    pub fn callables(&self) -> Declared<'static>
         ensures { result ≡ library_callables self.now }
     {
         self.callables
@@ -153,7 +163,7 @@ impl Library {
     }
 
     /// Returns the file of a name that is no template, or the folder on the way to it that can't be read.
-    pub(crate) fn refused_on_way(&self, name: &str) -> Option<(&str, &Refusal)> {
+    pub fn refused_on_way(&self, name: &str) -> Option<(&str, &Refusal)> {
         let mut path = name;
         for _ in 0..name.len() {
             if let Some((found, refusal)) = self.refused.get_key_value(path) {

@@ -2,9 +2,9 @@ use Rattle.std.proofs.Common.{sym, ap, ◌∙◌}
 use Rattle.std.specs.Map.{update}
 use Rattle.std.specs.Str.{bytes_eq}
 use Rattle.upon_types.specs.Conversions.{or_else}
-use Rattle.upon_tool.specs.Library.{refusal_of}
-use Rattle.upon_tool.proofs.Added.{entry_added, name_listed}
-use Rattle.upon_tool.proofs.library.Library.add.Goals as goal
+use Rattle.upon_tool_messages.specs.Library.{refusal_of}
+use Rattle.upon_tool_messages.proofs.Added.{entry_added, name_listed}
+use Rattle.upon_tool_messages.proofs.library.Library.add.Goals as goal
 
 pub returns-in_ok-insert-clause-names : goal.returns-in_ok-insert-clause-names
 returns-in_ok-insert-clause-names c = name_listed c.args.self.now.names.items _ _ _ c.in_ok-push.ensures.items c.in_ok-from_str.ensures.ok

@@ -4,6 +4,9 @@ use std::alloc::{AllocError, Global};
 use std::fmt::Write;
 use unicode_width::UnicodeWidthChar;
 
+/// How many faults of a text are shown with their pictures, for each of which the text is walked from its begin.
+pub(crate) const PICTURES: usize = 100;
+
 // How many columns of a line are shown before the place that is marked, and from its begin on.
 const BEFORE: usize = 60;
 

@@ -1,6 +1,6 @@
 // Why a run of the program fails, its status, and what is said of it.
 ghost use Rattle.std.specs.Prelude.{◌≡◌};
-ghost use Rattle.upon_tool.specs.Status.{data_status, is_memory, status_of, IsMemory};
+ghost use Rattle.upon_tool_messages.specs.Status.{data_status, is_memory, status_of, IsMemory};
 
 use crate::hints::hint_of;
 use crate::picture::shown;
@@ -27,7 +27,7 @@ pub enum Failure<'a> {
 }
 
 impl<'a> From<Error> for Failure<'a> {
-    ghost use Rattle.upon_tool.specs.declared.failure.Failure.TheVariants.{Fault};
+    ghost use Rattle.upon_tool_messages.specs.declared.failure.Failure.TheVariants.{Fault};
 
     ghost from_gives = { λ error failure. failure ≡ Fault error };
 
@@ -37,7 +37,7 @@ impl<'a> From<Error> for Failure<'a> {
 }
 
 impl<'a> From<ContextFault<'a>> for Failure<'a> {
-    ghost use Rattle.upon_tool.specs.declared.failure.Failure.TheVariants.{Data};
+    ghost use Rattle.upon_tool_messages.specs.declared.failure.Failure.TheVariants.{Data};
 
     ghost from_gives = { λ fault failure. failure ≡ Data fault };
 

@@ -1,6 +1,6 @@
 use Rattle.std.proofs.Common.{◌≡◌}
 use Rattle.upon_lexer.specs.Lexers.{lexer_text}
-use Rattle.upon_tool.proofs.includes.show_includes.Given as goal
+use Rattle.upon_tool_messages.proofs.includes.show_includes.Given as goal
 
 abbrev pub invariant-loop : goal.invariant-loop
 invariant-loop g l = lexer_text l.lexer ≡ l.source

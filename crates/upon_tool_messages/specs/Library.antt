@@ -4,14 +4,14 @@ use Rattle.std.specs.BTreeMap.{get_by_text}
 use Rattle.upon_types.specs.declared.error.Error.{Error}
 use Rattle.upon_tool_io.specs.declared.files.ReadFault.{ReadFault}
 use Rattle.upon_tool_io.specs.declared.files.ReadFault.TheVariants.{Unreadable as FileUnreadable, NotText as FileNotText, Outside as FileOutside, OutOfMemory}
-use Rattle.upon_tool.specs.Status.{is_memory}
-use Rattle.upon_tool.specs.declared.library.Callables.{Callables}
-use Rattle.upon_tool.specs.declared.library.Library.{Library}
-use Rattle.upon_tool.specs.declared.library.Refusal.{Refusal}
-use Rattle.upon_tool.specs.declared.library.Refusal.TheVariants.{Unreadable, NotText, Outside, Fault}
+use Rattle.upon_tool_calls.specs.declared.judge.Declared.{Declared}
+use Rattle.upon_tool_messages.specs.Status.{is_memory}
+use Rattle.upon_tool_messages.specs.declared.library.Library.{Library}
+use Rattle.upon_tool_messages.specs.declared.library.Refusal.{Refusal}
+use Rattle.upon_tool_messages.specs.declared.library.Refusal.TheVariants.{Unreadable, NotText, Outside, Fault}
 
 -- what templates may call
-abbrev pub library_callables : Library → Callables
+abbrev pub library_callables : Library → Declared
 library_callables library = library.callables
 
 -- the names of the files

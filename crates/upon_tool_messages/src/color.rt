@@ -1,6 +1,6 @@
 // How the lines that errors are told in are painted on a terminal.
 ghost use Rattle.std.specs.Prelude.{◌≡◌, ◌++◌, option_map};
-ghost use Rattle.upon_tool.specs.Colors.{tint_code};
+ghost use Rattle.upon_tool_messages.specs.Colors.{tint_code};
 
 /// How a part of a line is painted.
 #[derive(Clone, Copy, Debug, PartialEq, Eq)]

@@ -7,7 +7,7 @@ use std::io::{self, Write};
 /// A writer that hands texts on with control characters spelled, as `\u{1b}`, but for line feeds and tabulators. If it
 /// has colors, it paints the lines in which errors are told; each part that is painted ends with a reset.
 #[derive(Drop)]
-pub(crate) struct Terminal<'e, E> {
+pub struct Terminal<'e, E> {
     err: &'e mut E,
     // Whether lines are painted.
     has_colors: bool,
@@ -19,7 +19,7 @@ pub(crate) struct Terminal<'e, E> {
 
 impl<'e, E: Write> Terminal<'e, E> {
     /// Creates one that hands on to a writer.
-    pub(crate) fn new(alloc: Global, err: &'e mut E, has_colors: bool) -> Terminal<'e, E> {
+    pub fn new(alloc: Global, err: &'e mut E, has_colors: bool) -> Terminal<'e, E> {
         Terminal {
             err,
             has_colors,

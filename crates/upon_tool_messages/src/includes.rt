@@ -3,6 +3,7 @@ ghost use Rattle.upon_types.specs.Span.{LiesIn};
 
 use crate::library::Library;
 use crate::near::report_include;
+use crate::picture::PICTURES;
 use std::alloc::Global;
 use std::borrow::CowStr;
 use std::collections::BTreeMap;
@@ -21,9 +22,6 @@ pub fn including(alloc: Global, quoted: &str) -> Result<Template<'static>> {
     source.push_str(" %}")?;
     Engine::new(alloc).compile(CowStr::Owned(source))
 }
-
-// How many includes of a text are shown by their pictures, for each of which the text is walked from its begin.
-const PICTURES: usize = 100;
 
 /// Shows the first include of each of these names in a text, as the error with which a rendering would end there, and
 /// says how many more there are. The first hundred are shown with their pictures, and with the files of a library that

@@ -4,6 +4,8 @@ ghost use Rattle.std.specs.Prelude.{◌≡◌, ◌≤◌, true};
 ghost use Rattle.upon_types.specs.Span.{LiesIn};
 
 use crate::failure::report_hinted;
+use crate::near::callable_hint;
+use crate::picture::PICTURES;
 use std::alloc::{AllocError, Global};
 use std::io;
 use upon::Error;
@@ -11,10 +13,6 @@ use upon::error::ErrorKind;
 use upon::types::Span;
 use upon_tool_calls::calls::{FoundCall, calls_in};
 use upon_tool_calls::judge::{CallFault, Declared, fault_of};
-use upon_tool_near::said::{names_text, near_text};
-
-// How many calls of a text are shown by their pictures, for each of which the text is walked from its begin.
-const PICTURES: usize = 100;
 
 /// What templates may call, and whether a call failed so far.
 #[derive(Clone, Copy)]
@@ -38,7 +36,7 @@ impl<'k> CallCheck<'k> {
     }
 
     /// Returns the status of a check in which nothing else is wrong.
-    pub(crate) fn status(&self) -> u8
+    pub fn status(&self) -> u8
         ensures { result ≤ 1 }
     {
         if self.is_right { 0 } else { 1 }
@@ -84,40 +82,16 @@ impl<'k> CallCheck<'k> {
         if is_pictured && lies_in(source, call.name) {
             let at = Some((source, call.name));
             let error = Error::from_parts(alloc, ErrorKind::Render, Some(reason.as_str()), at);
-            let hint = self.hint(alloc, called, fault)?;
+            let hint = match fault {
+                CallFault::Unknown => callable_hint(alloc, &self.callables, called)?,
+                CallFault::Arguments(_) | CallFault::FormatterArguments => None,
+            };
             let hint = hint.as_ref().map(|hint| hint.as_str());
             report_hinted(alloc, &error.with_name(alloc, name), hint, err);
         } else {
             let _ = writeln!(err, "upon-tool: {name}: {called}: {reason}");
         }
         Ok(true)
-    }
-
-    // Which names there are near to one that nothing has, and if none is, which there are.
-    fn hint(
-        &self,
-        alloc: Global,
-        called: &str,
-        fault: CallFault,
-    ) -> Result<Option<String>, AllocError> {
-        if fault != CallFault::Unknown {
-            return Ok(None);
-        }
-        let names = self.names(alloc)?;
-        match near_text(alloc, called, names.as_slice())? {
-            Some(text) => Ok(Some(text)),
-            None => names_text(alloc, names.as_slice()),
-        }
-    }
-
-    // The names of all that templates may call.
-    fn names(&self, alloc: Global) -> Result<Vec<&'k str>, AllocError> {
-        let mut names = Vec::from_slice(alloc, self.callables.others)?;
-        names.extend_from_slice(self.callables.formatters)?;
-        for function in self.callables.functions {
-            names.push(function.name())?;
-        }
-        Ok(names)
     }
 }
 
