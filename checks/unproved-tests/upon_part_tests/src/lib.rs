@@ -16,6 +16,8 @@ mod quote;
 #[cfg(test)]
 mod render;
 #[cfg(test)]
+mod shapes;
+#[cfg(test)]
 mod standard;
 #[cfg(test)]
 mod standard_orders;
