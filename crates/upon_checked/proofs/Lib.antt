@@ -1,0 +1,10 @@
+mod OnTop
+mod Names
+mod Walking
+mod Declaring
+mod Scoping
+mod Shaping
+mod Stepping
+mod Acting
+mod Taking
+mod Along

@@ -1,0 +1,15 @@
+use Rattle.std.proofs.Common.{refl}
+use Rattle.upon_machine_spec.specs.Instr.{expr_list_push}
+use Rattle.upon_checked.specs.Doubt.{maybe_doubt}
+use Rattle.upon_checked.specs.Known.{known_view, operand_view}
+use Rattle.upon_checked.proofs.Acting.{after_pop, if_ok_map, where_none}
+use Rattle.upon_checked.proofs.puts.puts_item.Goals as goal
+
+pub returns-in-None : goal.returns-in-None
+returns-in-None c = λ number d inc. where_none d inc number (known_view c.args.known.now) (known_view c.pop.new.self) expr_list_push c.in-None.ensures.0 c.in-None.ensures.1 (refl, refl)
+
+pub returns-in-Some : goal.returns-in-Some
+returns-in-Some c =
+    if_ok_map c.put_item.result
+    (λ ds h number d inc. after_pop d inc number (known_view c.args.known.now) (known_view c.pop.new.self) (known_view c.put_item.new.known) (operand_view c.in-Some.item) expr_list_push (maybe_doubt ds) c.in-Some.ensures (h number d inc))
+    c.put_item.ensures

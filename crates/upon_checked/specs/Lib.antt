@@ -1,0 +1,11 @@
+pub mod Callables
+pub mod Members
+pub mod Rows
+pub mod Scope
+pub mod Undo
+pub mod Loops
+pub mod Depth
+pub mod Doubt
+pub mod Plan
+pub mod Known
+pub mod Steps
