@@ -48,7 +48,8 @@ impl Declared {
         }
     }
 
-    /// Declares a function of this name, in place of what was declared of the name. If there is no memory, nothing changes.
+    /// Declares a function of this name, in place of what was declared of the name. If there is no memory, nothing
+    /// changes.
     pub fn add_function(
         &mut self,
         name: String,
@@ -66,7 +67,8 @@ impl Declared {
         Ok(())
     }
 
-    /// Declares a formatter of this name, in place of what was declared of the name. If there is no memory, nothing changes.
+    /// Declares a formatter of this name, in place of what was declared of the name. If there is no memory, nothing
+    /// changes.
     pub fn add_formatter(&mut self, name: String, formats: Shape) -> Result<(), AllocError>
         ensures ok { OnOk result ((other : List ℕ) → (declared_view self.new).callables other
             ≡ update bytes_eq (declared_view self.old).callables (string_bytes name)

@@ -17,7 +17,8 @@ pub(crate) fn put_key(
     shape: Shape,
 ) -> Result<Keys<Shape>, AllocError>
     ensures { IfOk result
-        (λ ks. keys_view ks ≡ key_then (string_bytes name) true (view shape) (without (string_bytes name) (keys_view keys))) }
+        (λ ks. keys_view ks ≡ key_then (string_bytes name) true (view shape)
+        (without (string_bytes name) (keys_view keys))) }
 {
     let Keys { mut named, others } = keys;
     named.retain(|key| name.as_str() != key.name.as_str());

@@ -111,7 +111,8 @@ fn put_entry<'t>(
     value: Operand<'t>,
 ) -> Result<Option<Doubt<'t>>, Unchecked>
     ensures { IfOk result (λ d. (number : ℕ) → AlwaysSteps
-        number (with_operand (operand_view value.entry) (known_view known.old)) (instr.expr_map_insert (string_of key.now))
+        number (with_operand (operand_view value.entry) (known_view known.old))
+        (instr.expr_map_insert (string_of key.now))
         (maybe_doubt d) (known_view known.new)) }
 {
     match known.pop() {

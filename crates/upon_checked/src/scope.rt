@@ -82,7 +82,8 @@ impl<'t> Scope<'t> {
 
     /// Leaves so many of the innermost names.
     pub(crate) fn leave(&mut self, count: usize)
-        ensures { scope_view self.new ≡ record (scope_view self.old) { names = drop count (scope_view self.old).names } }
+        ensures { scope_view self.new ≡ record (scope_view self.old)
+            { names = drop count (scope_view self.old).names } }
     {
         let kept = self.names.len().saturating_sub(count);
         self.names.truncate(kept);
@@ -179,7 +180,8 @@ fn names_are_as_wide(
 
 // Returns whether a name is bound in neither, or in both, in the first at least as widely.
 fn is_bound_as_widely(wide: Option<&BoundShape>, other: Option<&BoundShape>) -> bool
-    ensures { result ≡ spec.both_wider (option_map bound_view (option_copied wide.entry)) (option_map bound_view (option_copied other.entry)) }
+    ensures { result ≡ spec.both_wider (option_map bound_view (option_copied wide.entry))
+        (option_map bound_view (option_copied other.entry)) }
 {
     match (wide, other) {
         (Some(wide), Some(other)) => wide.is_as_wide_as(other),

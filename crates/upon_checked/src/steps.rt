@@ -94,7 +94,8 @@ fn maybe_text_doubt<'t>(declared: &Declared, place: Span, shape: Option<Shape>) 
 
 // Returns the doubt that a value has a text.
 pub(crate) fn text_doubt<'t>(declared: &Declared, place: Span, shape: Shape) -> Option<Doubt<'t>>
-    ensures { (scope : SpecScope) → maybe_doubt result ≡ doubts.text_doubts (declared_view declared.now) scope place (view shape) }
+    ensures { (scope : SpecScope) → maybe_doubt result
+        ≡ doubts.text_doubts (declared_view declared.now) scope place (view shape) }
 {
     if declared.default_formats.is_as_wide_as(&shape) {
         return None;
@@ -130,8 +131,10 @@ fn loops_over<'t>(
     span: Span,
     shape: Shape,
 ) -> Result<Option<Doubt<'t>>, AllocError>
-    ensures { IfOk result (λ d. (number : ℕ) (o : spec.KnownOperand) → view shape ≡ doubts.or_never o.shape → AlwaysSteps
-        number (spec.with_operand o (known_view known.old)) (instr.loop_start (loop_vars_of names.now) span) (maybe_doubt d)
+    ensures { IfOk result (λ d. (number : ℕ) (o : spec.KnownOperand) → view shape ≡ doubts.or_never o.shape
+        → AlwaysSteps
+        number (spec.with_operand o (known_view known.old)) (instr.loop_start (loop_vars_of names.now) span)
+        (maybe_doubt d)
         (known_view known.new)) }
 {
     match looped(alloc, names, &shape)? {
@@ -192,7 +195,8 @@ pub(crate) fn includes<'t>(
     known: &Known<'t>,
     name: &'t Quoted,
 ) -> Result<Option<Doubt<'t>>, AllocError>
-    ensures { IfOk result (λ d. (declared : SpecDeclared) (number : ℕ) → Steps declared (is_planned (plan_view plan.now))
+    ensures { IfOk result (λ d. (declared : SpecDeclared) (number : ℕ)
+        → Steps declared (is_planned (plan_view plan.now))
         number (known_view known.now) (instr.include (string_of name.now)) (maybe_doubt d) (known_view known.now)) }
 {
     if plan.is_planned(&name.value, &known.scope) {
@@ -248,7 +252,8 @@ fn included_alone<'t>(
 // Returns the doubt that a template does not fail where this is known, unless the plan has it.
 fn included_doubt<'t>(plan: &Plan<'_>, name: &'t Quoted, scope: Scope<'t>) -> Option<Doubt<'t>>
     ensures { (declared : SpecDeclared) → maybe_doubt result
-        ≡ walks.include_doubts declared (is_planned (plan_view plan.now)) (string_of name.now) (scope_view scope.entry) }
+        ≡ walks.include_doubts declared (is_planned (plan_view plan.now)) (string_of name.now)
+        (scope_view scope.entry) }
 {
     if plan.is_planned(&name.value, &scope) {
         return None;
@@ -263,7 +268,8 @@ pub(crate) fn starts_var<'t>(
     path: &'t Var,
 ) -> Result<Option<Doubt<'t>>, AllocError>
     ensures { IfOk result (λ d. (number : ℕ) → AlwaysSteps
-        number (known_view known.old) (instr.expr_start_var (first_member path.now) (rest_members path.now)) (maybe_doubt d)
+        number (known_view known.old) (instr.expr_start_var (first_member path.now) (rest_members path.now))
+        (maybe_doubt d)
         (known_view known.new)) }
 {
     let doubt = path_doubt(alloc, &known.scope, path)?;

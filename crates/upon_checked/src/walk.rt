@@ -22,8 +22,8 @@ use std::alloc::{AllocError, Global};
 use upon_instructions::types::program::Instr;
 
 /// Returns what is in doubt in a template, in the order of its text, where this is declared of callables, planned of
-/// includes, and known of names at its begin. It fails if there is no memory, or where something with more than 128 levels
-/// of lists and maps is put into a literal.
+/// includes, and known of names at its begin. It fails if there is no memory, or where something with more than 128
+/// levels of lists and maps is put into a literal.
 pub fn doubts_of<'t>(
     alloc: Global,
     declared: &Declared,

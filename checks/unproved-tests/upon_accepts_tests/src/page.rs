@@ -1,0 +1,43 @@
+// The example of the page on templates that cannot fail.
+use std::alloc::{AllocError, Global};
+use std::borrow::CowStr;
+use std::test::Fail;
+use upon::{Engine, Value};
+use upon_accepts::accepts::accepts;
+use upon_accepts::refusal::Refusal;
+use upon_checked::declared::Declared;
+use upon_shape::shape::Shape;
+
+fn is_sure(
+    alloc: Global,
+    engine: &Engine<'_>,
+    name: &str,
+    samples: &[Value],
+) -> Result<bool, AllocError> {
+    let shape = Shape::of_samples(alloc, samples)?;
+    let declared = Declared::new(alloc, Shape::shown());
+    match accepts(alloc, engine, &declared, name, &shape) {
+        Ok(()) => Ok(true),
+        Err(Refusal::Memory(error)) => Err(error),
+        Err(_) => Ok(false),
+    }
+}
+
+#[test]
+fn a_page_is_sure(rt: HostRuntime) -> Result<(), Fail> {
+    let alloc = rt.alloc();
+    let mut engine = Engine::new(alloc);
+    engine.add_template(CowStr::Borrowed("list"), CowStr::Borrowed("{% for x in xs %}{{ x }}{% endfor %}"))?;
+    engine.add_template(CowStr::Borrowed("first"), CowStr::Borrowed("{{ xs.0 }}"))?;
+    let mut samples = Vec::new(alloc);
+    for text in [r#"{"xs": [1, "a"]}"#, r#"{"xs": []}"#] {
+        match upon_json::context::context(alloc, Some(text), &[]) {
+            Ok(sample) => samples.push(sample)?,
+            Err(_) => return Err(Fail::new(format_args!("no JSON: {text}"))),
+        }
+    }
+    assert!(&rt; is_sure(alloc, &engine, "list", &samples)?);
+    assert!(&rt; !is_sure(alloc, &engine, "first", &samples)?);
+    assert!(&rt; !is_sure(alloc, &engine, "none", &samples)?);
+    Ok(())
+}

@@ -1,0 +1,61 @@
+-- A template that a closed plan accepts ends without a fault on each value that fits.
+use Rattle.std.proofs.Common.{◌≡◌, inl, inr, ℕ, List, Option, Some, Result, String, Ok, Err, sym, subst}
+use Rattle.std.specs.BTreeMap.{get_by_text}
+use Rattle.std.specs.declared.alloc.Global.{Global}
+use Rattle.std.specs.declared.dyn_box.DynBox.{DynBox}
+use Rattle.upon_types.specs.Answers.{Formatter, Function}
+use Rattle.upon_types.specs.Error.{fault_of}
+use Rattle.upon_types.specs.Tree.{Statements}
+use Rattle.upon_types.specs.Val.{Val}
+use Rattle.upon_types.specs.declared.error.Error.{Error}
+use Rattle.upon_language_spec.specs.Grammar.{HasTree}
+use Rattle.upon_render.specs.Asked.{never}
+use Rattle.upon_meaning_spec.specs.Alone.{includes_left}
+use Rattle.upon_meaning_spec.specs.DefaultFormat.{formatter_or_default}
+use Rattle.upon_meaning_spec.specs.Engine.{Table, Template, calls_of}
+use Rattle.upon_meaning_spec.specs.Outcome.{states}
+use Rattle.upon_shape_spec.specs.Accepted.{IsClosed, AcceptedBy, Planned}
+use Rattle.upon_shape_spec.specs.Declared.{Declared, KeepsDeclared}
+use Rattle.upon_shape_spec.specs.Fits.{Fits}
+use Rattle.upon_shape_spec.specs.Scope.{scope_over}
+use Rattle.upon_shape_spec.specs.Shape.{Shape}
+use Rattle.upon_shape_spec.proofs.IncludesFit.{planned_alone, depth_alone}
+use Rattle.upon_engine.specs.Engine.{engine_templates}
+use Rattle.upon_engine.specs.Texts.{Stored, texts_of}
+use Rattle.upon_engine.specs.Theorem.{Answers, engine_meant, meaning}
+use Rattle.upon_engine.specs.declared.engine.Engine.{Engine as Held}
+use Rattle.upon_engine.proofs.Tables.{made, only_table, is_table, template_held}
+use Rattle.upon_accepts.specs.EndsOn.{EndsOn, IsTextUnlessDeep}
+use Rattle.upon_accepts.specs.Verdict.{IsAccepted}
+
+module _ {X Y : Type 0} {P : X → Type 0} {Q : Y → Type 0} (formats : DynBox X Global P → Formatter) (answers : DynBox Y Global Q → Function) (e : Held X Y P Q) where
+  pub ends_on : (declared : Declared) (plan : List Planned) (name : List ℕ) (s : Shape)
+      → IsAccepted declared plan (scope_over s) (engine_templates e name)
+      → IsClosed declared (engine_templates e) plan
+      → EndsOn (texts_of formats answers e) declared name s
+  ends_on declared plan name s accepted closed table held tree v f it here has keeps fits fault =
+      let same : table ≡ engine_templates e = only_table (get_by_text e.templates) table it in
+      let there : engine_templates e name ≡ Some (made held.text tree) = template_held (get_by_text e.templates name) held tree here has in
+      let mine : AcceptedBy declared plan (made held.text tree) s =
+      subst (λ (o : Option Template). IsAccepted declared plan (scope_over s) o) there accepted in
+      let closes : IsClosed declared table plan = subst (λ (t : Table). IsClosed declared t plan) (sym same) closed in
+      let engine = engine_meant (texts_of formats answers e) table in
+      depth_alone e.depth (meaning (texts_of formats answers e) table (Some name) held.text tree v).end f
+      (planned_alone declared table plan (calls_of engine never) keeps closes (includes_left e.depth) (made held.text tree) (Some name) s v (states tt tt) mine fits)
+      fault
+
+  -- what is answered is a text, unless includes are too deep or memory is out
+  pub text_unless_deep : (declared : Declared) (name : List ℕ) (s : Shape) (held : Stored) (tree : Statements) (v : Val)
+      (result : Result (String Global) Error)
+      → EndsOn (texts_of formats answers e) declared name s
+      → (texts_of formats answers e).texts name ≡ Some held → ∥ HasTree held.syntax held.text tree ∥₁
+      → KeepsDeclared declared (texts_of formats answers e).callables (formatter_or_default (texts_of formats answers e).default_formatter)
+      → Fits s v
+      → Answers (texts_of formats answers e) (Some name) held.text tree v result
+      → IsTextUnlessDeep e.depth result
+  text_unless_deep declared name s held tree v (Ok text) ends here has keeps fits said = tt
+  text_unless_deep declared name s held tree v (Err error) ends here has keeps fits said =
+      elim (said (engine_templates e) (is_table (get_by_text e.templates))) [
+        | inl fault ↦ inl (ends (engine_templates e) held tree v (fault_of error) (is_table (get_by_text e.templates)) here has keeps fits fault)
+        | inr out ↦ inr out
+      ]

@@ -1,0 +1,2 @@
+pub mod EndsOn
+pub mod Verdict

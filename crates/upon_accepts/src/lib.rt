@@ -1,0 +1,8 @@
+// Templates of an engine that end without a fault on each value of a shape: known before they are rendered.
+#![tactic(auto)]
+
+pub mod accepts;
+pub mod laws;
+mod planning;
+pub mod refusal;
+mod verdict;
