@@ -1,7 +1,9 @@
 // Templates on one sample: accepted ones, and the places of the others.
 use crate::said::{engine_of, said_of};
 use std::alloc::Global;
+use std::borrow::CowStr;
 use std::test::Fail;
+use upon::Engine;
 
 const SAMPLE: &str = r#"{"name": "J", "n": 1, "b": true, "nil": null, "list": [1, 2], "empty": [],
     "rows": [{"id": 1, "t": "a"}, {"id": 2, "t": "b", "x": 1}], "user": {"name": "N", "age": 3},
@@ -178,4 +180,36 @@ fn refused_includes(rt: HostRuntime) -> Result<(), Fail> {
             ("{% include \"t\" with [1] %}", "{% include \"t\" with [nope] %}", "member at 21..25 in t"),
         ],
     )
+}
+
+// A thousand templates, each of which includes the next one, and the last the first.
+#[test]
+fn a_ring(rt: HostRuntime) -> Result<(), Fail> {
+    let alloc = rt.alloc();
+    let mut engine = Engine::new(alloc);
+    for number in 0..1000 {
+        let next = (number + 1) % 1000;
+        let name = if number == 0 {
+            String::from_str(alloc, "main")?
+        } else {
+            format!(in alloc; "t{number}")?
+        };
+        let next = if next == 0 {
+            String::from_str(alloc, "main")?
+        } else {
+            format!(in alloc; "t{next}")?
+        };
+        let text = format!(in alloc; "{{{{ n }}}}{{% if b %}}{{% include \"{next}\" %}}{{% endif %}}")?;
+        engine.add_template(CowStr::Owned(name), CowStr::Owned(text))?;
+    }
+    for (sample, wanted) in [
+        (r#"{"n": 1, "b": true}"#, "accepted"),
+        (r#"{"n": 1, "b": 2}"#, "accepted"),
+    ] {
+        let Ok(sample) = upon_json::context::context(alloc, Some(sample), &[]) else {
+            return Err(Fail::new(format_args!("the sample is no JSON")));
+        };
+        assert_eq!(&rt; said_of(alloc, &engine, &sample)?.as_str(), wanted);
+    }
+    Ok(())
 }
