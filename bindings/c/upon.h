@@ -47,7 +47,11 @@ enum upon_status {
        "max_include_depth": 8           sets how many templates may be in each other, the first one among them; else 64
        "max_steps": 1000                ends a rendering that takes more steps,
        "max_output": 1000               .. writes more bytes,
-       "max_memory": 1000               .. or makes more bytes of values */
+       "max_memory": 1000               .. or makes more bytes of values
+     Those of upon_check may also have contexts, by one of the first two keys, and the names of pages.
+       "samples": [{"name": "John"}]    are contexts: objects, or lists
+       "schema": {"type": "object"}     is a JSON Schema of contexts
+       "pages": ["page"]                are the templates that are rendered on them; else all are */
 
 /* Renders the template `name` of `templates` on `context`. The answer is its text. Each of `templates` has to be one, also
    those that it does not include. */
@@ -60,8 +64,10 @@ uint8_t upon_render(const uint8_t *templates, size_t templates_len, const uint8_
 uint8_t upon_render_text(const uint8_t *source, size_t source_len, const uint8_t *context, size_t context_len,
                          const uint8_t *options, size_t options_len, uint8_t *out, size_t out_len, size_t *size);
 
-/* Looks for errors in all of `templates`, and for includes that name none of them. If it finds nothing, it returns
-   UPON_RENDERED, and the answer is empty; else UPON_TEMPLATE_ERROR, and the answer is the pictures, an empty line between two. */
+/* Looks for errors in all of `templates`, and for includes that name none of them; and, if there are none and `options` has
+   contexts, for places where a page may fail on a context that is as the samples are, or that is valid by the schema. If it
+   finds nothing, it returns UPON_RENDERED, and the answer is empty; else UPON_TEMPLATE_ERROR, and the answer is the pictures,
+   an empty line between two. */
 uint8_t upon_check(const uint8_t *templates, size_t templates_len, const uint8_t *options, size_t options_len,
                    uint8_t *out, size_t out_len, size_t *size);
 

@@ -101,9 +101,26 @@ def render_text(
     return _answer(_library.upon_render_text, source.encode(), _json(context), options)
 
 
-def check(templates: Mapping[str, str], *, syntax: Optional[Syntax] = None) -> List[str]:
-    """Returns the picture of each error of the templates: if there is none, the empty list."""
-    status, text = _call(_library.upon_check, _json(templates), _options(syntax=syntax))
+def check(
+    templates: Mapping[str, str],
+    *,
+    html: bool = False,
+    escape: Optional[str] = None,
+    syntax: Optional[Syntax] = None,
+    functions: bool = False,
+    max_include_depth: Optional[int] = None,
+    samples: Optional[Sequence[Union[Mapping[str, Any], List[Any]]]] = None,
+    schema: Optional[Mapping[str, Any]] = None,
+    pages: Optional[Sequence[str]] = None,
+) -> List[str]:
+    """Returns the picture of each error of the templates: if there is none, the empty list.
+
+    With samples, which are contexts, or with a JSON Schema of contexts, also each place is shown where a page may fail on a
+    context that is as the samples are, or that is valid by the schema. The pages are the templates of these names, or all.
+    """
+    given = dict(html=html, escape=escape, syntax=syntax, functions=functions, max_include_depth=max_include_depth)
+    options = _options(samples=samples, schema=schema, pages=pages, **given)
+    status, text = _call(_library.upon_check, _json(templates), options)
     if status == _TEMPLATE_ERROR:
         return _BETWEEN.split(text)
     _raise_unless_rendered(status, text)

@@ -10,7 +10,7 @@
 mod calls;
 mod options;
 
-pub use options::Options;
+pub use options::{Contexts, Options};
 
 use calls::answer;
 use options::{object, text};
@@ -82,7 +82,23 @@ pub fn render_text(source: &str, context: &str, options: &Options) -> Result<Str
 
 /// Looks for errors in all templates. The pictures of those that it finds are one text, an empty line between two.
 pub fn check(templates: &[(&str, &str)], options: &Options) -> Result<(), Error> {
-    let (templates, options) = (sources(templates), options.to_json());
+    checked(templates, &options.to_json())
+}
+
+/// Looks for errors in all templates, and, if there are none, for places where pages may fail on contexts. The pages are the
+/// templates of these names, or all.
+pub fn check_on(
+    templates: &[(&str, &str)],
+    contexts: &Contexts,
+    pages: Option<&[&str]>,
+    options: &Options,
+) -> Result<(), Error> {
+    checked(templates, &options.to_json_on(contexts, pages))
+}
+
+// Checks templates by options that are JSON.
+fn checked(templates: &[(&str, &str)], options: &str) -> Result<(), Error> {
+    let templates = sources(templates);
     // SAFETY: as in `render`.
     answer(|out, out_len, size| unsafe {
         calls::upon_check(templates.as_ptr(), templates.len(), options.as_ptr(), options.len(), out, out_len, size)

@@ -20,9 +20,40 @@ pub struct Options<'o> {
     pub max_memory: Option<u64>,
 }
 
+/// Contexts on which pages are checked.
+#[derive(Clone, Copy, Debug)]
+pub enum Contexts<'c> {
+    /// Those that are as these samples are; each is a context, as JSON.
+    Samples(&'c [&'c str]),
+    /// Those that are valid by this JSON Schema.
+    Schema(&'c str),
+}
+
+impl Contexts<'_> {
+    // Their key and their JSON.
+    fn member(&self) -> (&'static str, String) {
+        match self {
+            Contexts::Samples(samples) => ("samples", format!("[{}]", samples.join(","))),
+            Contexts::Schema(schema) => ("schema", schema.to_string()),
+        }
+    }
+}
+
 impl Options<'_> {
     // The object of JSON that has what is set.
     pub(crate) fn to_json(self) -> String {
+        object(self.members().into_iter())
+    }
+
+    // The same with contexts, and the names of pages if they are given.
+    pub(crate) fn to_json_on(self, contexts: &Contexts, pages: Option<&[&str]>) -> String {
+        let names = |pages: &[&str]| pages.iter().map(|name| text(name)).collect::<Vec<String>>().join(",");
+        let pages = pages.map(|pages| ("pages", format!("[{}]", names(pages))));
+        object(self.members().into_iter().chain([contexts.member()]).chain(pages))
+    }
+
+    // The members that are set.
+    fn members(self) -> Vec<(&'static str, String)> {
         let triple = |it: &(&str, &str, &str)| format!("[{},{},{}]", text(it.0), text(it.1), text(it.2));
         let triples: Vec<String> = self.syntax.iter().map(triple).collect();
         let number = |limit: Option<u64>| limit.map(|it| it.to_string());
@@ -35,7 +66,7 @@ impl Options<'_> {
             ("max_output", number(self.max_output)),
             ("max_memory", number(self.max_memory)),
         ];
-        object(members.into_iter().filter_map(|(key, value)| Some((key, value?))))
+        members.into_iter().filter_map(|(key, value)| Some((key, value?))).collect()
     }
 }
 

@@ -1,5 +1,5 @@
 // Each call, and each error that safe code can reach.
-use upon_proved::{check, names, render, render_text, version, Error, Options};
+use upon_proved::{check, check_on, names, render, render_text, version, Contexts, Error, Options};
 
 const TEMPLATES: [(&str, &str); 2] = [("page", "{% include \"head\" %} {{ text }}"), ("head", "# \"{{ title }}\"\n\u{1}")];
 const CONTEXT: &str = r#"{"title": "é", "text": "a < b"}"#;
@@ -83,4 +83,20 @@ fn other_calls() {
     assert_eq!(names(&TEMPLATES, "page", &plain()).as_deref(), Ok(needed));
     // The library says the language's version, which the package's version begins with.
     assert_eq!(version().as_deref().ok(), env!("CARGO_PKG_VERSION").split('+').next());
+}
+
+#[test]
+fn contexts() {
+    let samples: &[_] = &[CONTEXT, r#"{"title": 1, "text": null}"#];
+    assert_eq!(check_on(&TEMPLATES, &Contexts::Samples(samples), None, &plain()), Ok(()));
+    let missed = picture(check_on(&TEMPLATES, &Contexts::Samples(&[r#"{"title": "a"}"#]), None, &plain())).unwrap_or_default();
+    assert!(missed.ends_with("= reason: may be missing: the value is a map with title\n"), "{missed}");
+    let head: Option<&[&str]> = Some(&["head"]);
+    assert_eq!(check_on(&TEMPLATES, &Contexts::Samples(&[r#"{"title": "a"}"#]), head, &plain()), Ok(()));
+    let refused = reason(check_on(&TEMPLATES, &Contexts::Samples(&["{}"]), Some(&["foot"]), &plain()));
+    assert_eq!(refused.as_deref(), Some("options: \"pages\": no template is named \"foot\""));
+    let schema = r#"{"type": "object", "properties": {"text": {"type": "string"}, "title": {}}, "required": ["text"]}"#;
+    let page = [("page", "{{ text }}")];
+    assert_eq!(check_on(&page, &Contexts::Schema(schema), None, &plain()), Ok(()));
+    assert!(picture(check_on(&TEMPLATES, &Contexts::Schema(schema), None, &plain())).is_some());
 }

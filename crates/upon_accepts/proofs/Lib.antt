@@ -1,2 +1,4 @@
-mod Accepted
+mod Undoubted
+mod Deep
 mod Ends
+mod Plans

@@ -1,2 +1,3 @@
 pub mod EndsOn
 pub mod Verdict
+pub mod Levels

@@ -1,5 +1,5 @@
 // What is known of the renderings of a template that is accepted.
-ghost use Rattle.std.specs.Prelude.{◌≡◌, ℕ, List, Some, Result, String};
+ghost use Rattle.std.specs.Prelude.{◌≡◌, ℕ, ◌≤◌, List, Some, Result, String};
 ghost use Rattle.std.specs.declared.alloc.Global.{Global};
 ghost use Rattle.upon_types.specs.Tree.{Statements};
 ghost use Rattle.upon_types.specs.Val.{Val};
@@ -11,7 +11,7 @@ ghost use Rattle.upon_shape_spec.specs.Fits.{Fits};
 ghost use Rattle.upon_shape_spec.specs.Shape.{Shape};
 ghost use Rattle.upon_engine.specs.Texts.{Stored};
 ghost use Rattle.upon_engine.specs.Theorem.{Answers};
-ghost use Rattle.upon_accepts.specs.EndsOn.{EndsOn, IsTextUnlessDeep};
+ghost use Rattle.upon_accepts.specs.EndsOn.{EndsOn, EndsAtDepth, IsTextUnlessDeep, IsTextOrNoMemory};
 
 use upon_engine::engine::Engine;
 use upon_engine::texts::{AnyEngine, EngineTexts};
@@ -25,4 +25,16 @@ pub fn an_accepted_template_has_a_text(engine: &Engine<'_>)
         → EndsOn e declared name s → e.texts name ≡ Some held → ∥ HasTree held.syntax held.text tree ∥₁
         → KeepsDeclared declared e.callables (formatter_or_default e.default_formatter) → Fits s v
         → Answers e (Some name) held.text tree v result → IsTextUnlessDeep e.depth result }
+{}
+
+/// States that this is a text, unless memory is out, of a template that ends within a depth which is not greater than
+/// the engine's.
+pub fn a_template_within_the_depth_has_a_text(engine: &Engine<'_>)
+    ensures { let e = ⟦<AnyEngine as EngineTexts>⟧.texts engine.now in
+        (declared : Declared) (name : List ℕ) (s : Shape) (depth : ℕ) (held : Stored) (tree : Statements) (v : Val)
+        (result : Result (String Global) Error)
+        → EndsAtDepth depth e declared name s → depth ≤ e.depth
+        → e.texts name ≡ Some held → ∥ HasTree held.syntax held.text tree ∥₁
+        → KeepsDeclared declared e.callables (formatter_or_default e.default_formatter) → Fits s v
+        → Answers e (Some name) held.text tree v result → IsTextOrNoMemory result }
 {}

@@ -6,30 +6,28 @@ use crate::verdict::doubts_in;
 use std::alloc::Global;
 use upon_checked::declared::Declared;
 use upon_checked::doubt::{Doubt, Unsure};
-use upon_checked::plan::Plan;
+use upon_checked::plan::{Plan, Planned};
 use upon_checked::scope::Scope;
 use upon_engine::engine::Engine;
 
 // How many templates a plan has at most, each as often as what is known there differs.
 const MOST: usize = 16384;
 
-/// Returns a plan for the template of a name, where a context of this scope is.
+/// Returns a plan for a template.
 pub(crate) fn plan_for<'t>(
     alloc: Global,
     engine: &'t Engine<'_>,
     declared: &Declared,
-    name: &'t str,
-    scope: Scope<'t>,
+    asked: &Planned<'t>,
 ) -> Result<Plan<'t>, Refusal<'t>> {
     let mut plan = Plan::new(alloc);
-    let doubts = doubts_in(alloc, engine, declared, &plan, name, scope)?;
+    let doubts = doubts_in(alloc, engine, declared, &plan, asked)?;
     add_included(engine, &mut plan, doubts)?;
     for at in 0..MOST {
         let Some(planned) = plan.entries.get(at) else {
             break;
         };
-        let scope = planned.scope.try_clone(alloc)?;
-        let doubts = doubts_in(alloc, engine, declared, &plan, planned.name, scope)?;
+        let doubts = doubts_in(alloc, engine, declared, &plan, planned)?;
         add_included(engine, &mut plan, doubts)?;
     }
     Ok(plan)

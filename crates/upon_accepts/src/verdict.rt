@@ -1,46 +1,44 @@
 // Whether each template of a plan is accepted by the plan.
-ghost use Rattle.std.specs.Prelude.{◌≡◌, ◌<◌, List, [], IfOk, OnOk, length, slice_index};
+ghost use Rattle.std.specs.Prelude.{◌≡◌, [], IfOk, OnOk};
 ghost use Rattle.upon_shape_spec.specs.Accepted.{IsClosed};
 ghost use Rattle.upon_checked.specs.Callables.{declared_view};
 ghost use Rattle.upon_checked.specs.Plan.{plan_view, planned_view};
-ghost use Rattle.upon_checked.specs.Scope.{scope_view};
 ghost use Rattle.upon_engine.specs.Engine.{engine_templates};
-ghost use Rattle.upon_accepts.specs.Verdict.{IsAccepted};
+ghost use Rattle.upon_accepts.specs.Verdict.{IsAcceptedBy};
 
 use crate::refusal::{Misfit, Refusal};
 use std::alloc::{AllocError, Global};
 use upon_checked::declared::Declared;
 use upon_checked::doubt::Doubt;
-use upon_checked::plan::Plan;
-use upon_checked::scope::Scope;
+use upon_checked::plan::{Plan, Planned};
 use upon_checked::unchecked::Unchecked;
 use upon_checked::walk::doubts_of;
 use upon_engine::engine::Engine;
 
-/// Where the template of a name is in doubt on a scope, where includes are those that a plan has.
+/// Returns where a template is in doubt, where includes are those that a plan has.
 pub(crate) fn doubts_in<'t>(
     alloc: Global,
     engine: &'t Engine<'_>,
     declared: &Declared,
     plan: &Plan<'t>,
-    name: &'t str,
-    scope: Scope<'t>,
+    planned: &Planned<'t>,
 ) -> Result<Vec<Doubt<'t>>, Refusal<'t>>
-    ensures { IfOk result (λ doubts. doubts.items ≡ [] → IsAccepted (declared_view declared.now) (plan_view plan.now)
-        (scope_view scope.entry) (engine_templates engine.now name.now)) }
+    ensures { IfOk result (λ doubts. doubts.items ≡ [] → IsAcceptedBy (declared_view declared.now)
+        (engine_templates engine.now) (plan_view plan.now) (planned_view planned.now)) }
 {
-    let Some(template) = engine.get_template(name) else {
+    let Some(template) = engine.get_template(planned.name) else {
         return Err(Refusal::NoTemplate);
     };
+    let scope = planned.scope.try_clone(alloc)?;
     match doubts_of(alloc, declared, plan, scope, template.instrs()) {
         Ok(doubts) => Ok(doubts),
         Err(Unchecked::Memory(error)) => Err(Refusal::Memory(error)),
-        Err(Unchecked::TooDeep(place)) => Err(Refusal::TooDeep(name, place)),
+        Err(Unchecked::TooDeep(place)) => Err(Refusal::TooDeep(planned.name, place)),
     }
 }
 
-// Puts the doubts of a template at the end.
-fn add<'t>(
+/// Puts the doubts of a template at the end. It fails if memory is out.
+pub(crate) fn add<'t>(
     misfits: &mut Vec<Misfit<'t>>,
     name: &'t str,
     doubts: Vec<Doubt<'t>>,
@@ -57,26 +55,6 @@ fn add<'t>(
     Ok(())
 }
 
-/// Puts the misfits of the template of a name at the end.
-pub(crate) fn add_misfits<'t>(
-    alloc: Global,
-    engine: &'t Engine<'_>,
-    declared: &Declared,
-    plan: &Plan<'t>,
-    name: &'t str,
-    scope: Scope<'t>,
-    misfits: &mut Vec<Misfit<'t>>,
-) -> Result<(), Refusal<'t>>
-    ensures before { OnOk result (misfits.new.items ≡ [] → misfits.old.items ≡ []) }
-    ensures accepted { OnOk result (misfits.new.items ≡ []
-        → IsAccepted (declared_view declared.now) (plan_view plan.now)
-        (scope_view scope.entry) (engine_templates engine.now name.now)) }
-{
-    let doubts = doubts_in(alloc, engine, declared, plan, name, scope)?;
-    add(misfits, name, doubts)?;
-    Ok(())
-}
-
 /// Puts the misfits of each template of a plan at the end.
 pub(crate) fn add_misfits_of_plan<'t>(
     alloc: Global,
@@ -90,8 +68,8 @@ pub(crate) fn add_misfits_of_plan<'t>(
         → IsClosed (declared_view declared.now) (engine_templates engine.now) (plan_view plan.now)) }
 {
     for planned in &plan.entries {
-        let scope = planned.scope.try_clone(alloc)?;
-        add_misfits(alloc, engine, declared, plan, planned.name, scope, misfits)?;
+        let doubts = doubts_in(alloc, engine, declared, plan, planned)?;
+        add(misfits, planned.name, doubts)?;
     }
     Ok(())
 }

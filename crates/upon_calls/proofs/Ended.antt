@@ -4,14 +4,16 @@ use Rattle.upon_types.specs.Fault.{Fault}
 use Rattle.upon_types.specs.Val.{Val}
 use Rattle.upon_calls.specs.Arguments.{IsValueOf}
 use Rattle.upon_calls.specs.Asked.{Asked, IsAsked}
-use Rattle.upon_calls.specs.Calls.{ListFails, ListFaults, ListNotText, ListRefuses, Lists, RenderFails, RenderFaults, RenderNotText, RenderRefuses, Renders, RendersText, TextFails, TextFaults, TextNotText, TextRefuses}
-use Rattle.upon_calls.specs.Failure.{IsPicture}
+use Rattle.upon_calls.specs.Calls.{AreRightOn, AreWrongOn, CheckFails, ChecksRefuse, ChecksRight, ListFails, ListFaults, ListNotText, ListRefuses, Lists, RenderFails, RenderFaults, RenderNotText, RenderRefuses, Renders, RendersText, TextFails, TextFaults, TextNotText, TextRefuses}
+use Rattle.upon_calls.specs.Contexts.{AsksCheck, Contexts, IsCheckAsked, LacksPage}
+use Rattle.upon_calls.specs.Failure.{FaultyIf, IsPicture}
 use Rattle.upon_calls.specs.Filled.{engine_for, filled}
 use Rattle.upon_calls.specs.Names.{ListsNamed}
 use Rattle.upon_calls.specs.Rendering.{FailsNamed, FailsText, IsFirstOfOne, MeansNamed, MeansText}
 use Rattle.upon_calls.specs.Templates.{sources_in}
 use Rattle.upon_calls.specs.Work.{WorkFails}
 use Rattle.upon_calls.specs.declared.failure.Failure.{Failure}
+use Rattle.upon_calls.specs.declared.failure.Failure.TheVariants.{Faults, Refused, NotText, OutOfMemory}
 use Rattle.upon_calls.proofs.Calls.{given, work_failed}
 
 -- ---- the template of a name is rendered
@@ -103,3 +105,46 @@ module _ (templates name options t n o : List ℕ) (st : t ≡ templates) (sn : 
         given = given templates options t o asked tv sources st so asks read are;
         pictures = (pictures.0, pictures.1, pictures.2, only_first pictures.0 pictures.3);
       }) (λ absent. (asked, sources, given templates options t o asked tv sources st so asks read are, absent))
+
+-- ---- templates are checked
+module _ (templates options t o : List ℕ) (st : t ≡ templates) (so : o ≡ options)
+    (asked : Asked) (contexts : Option Contexts) (ov tv : Val) (sources : List (List ℕ × List ℕ)) (valued : IsValueOf o ov) (asks : AsksCheck ov asked contexts) (read : IsValueOf t tv) (are : sources_in tv ≡ Some sources) where
+  check_asked : IsCheckAsked options asked contexts
+  check_asked = subst (λ o. IsCheckAsked o asked contexts) so (ov, valued, asks)
+
+  template_read : IsValueOf templates tv
+  template_read = subst (λ t. IsValueOf t tv) st read
+
+  pub checked_right : (r : Result (String Global) Failure) → IfOk r (λ text. string_bytes text ≡ []) → IfOk r (λ text. AreRightOn asked contexts tv sources) → IfOk r (λ text. ChecksRight templates options (string_bytes text))
+  checked_right (Ok text) empty right = record {
+    asked = asked;
+    contexts = contexts;
+    value = tv;
+    sources = sources;
+    asks = check_asked;
+    read = template_read;
+    are = are;
+    right = right;
+    empty = empty;
+  }
+  checked_right (Err failure) empty right = tt
+
+  check_failed : (failure : Failure) → FaultyIf (AreWrongOn asked contexts tv sources) (LacksPage contexts tv) failure → CheckFails templates options failure
+  check_failed (Faults pictures) wrong = record {
+    asked = asked;
+    contexts = contexts;
+    value = tv;
+    sources = sources;
+    asks = check_asked;
+    read = template_read;
+    are = are;
+    wrong = wrong;
+  }
+  check_failed (Refused argument reason) said =
+      subst (ChecksRefuse templates options) (sym said.0) (inr (asked, contexts, tv, check_asked, template_read, said.1))
+  check_failed (NotText argument) said = absurd said
+  check_failed OutOfMemory said = tt
+
+  pub check_fails : (r : Result (String Global) Failure) → IfErr r (FaultyIf (AreWrongOn asked contexts tv sources) (LacksPage contexts tv)) → IfErr r (CheckFails templates options)
+  check_fails (Ok text) fails = tt
+  check_fails (Err failure) fails = check_failed failure fails

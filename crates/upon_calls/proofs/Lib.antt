@@ -7,6 +7,10 @@ pub mod Filled
 pub mod Rendering
 pub mod Needs
 pub mod Kept
+pub mod Each
+pub mod GivenContexts
+pub mod Declaring
+pub mod CheckedPages
 pub mod Checked
 pub mod Calls
 pub mod Ended

@@ -9,6 +9,7 @@ use Rattle.upon_types.proofs.Views.{view-Map}
 use Rattle.upon_calls.specs.Arguments.{text_in}
 use Rattle.upon_calls.specs.Asked.{are_keys, has_keys}
 use Rattle.upon_calls.specs.Templates.{lent_pairs, sources_in, texts_in}
+use Rattle.upon_calls.specs.declared.options.Known.{Known}
 
 -- templates before those that are left
 abbrev pub before : List (List ℕ × List ℕ) → Option (List (List ℕ × List ℕ)) → Option (List (List ℕ × List ℕ))
@@ -71,5 +72,5 @@ no_source whole old entry items rest is none so_far =
 pub of_map : (v : Value) (m : BTreeMap (String Global) Value) (items : List (String Global × Value)) → v ≡ MapValue m → items ≡ m.entries → sources_in (view v) ≡ texts_in (entries_view items)
 of_map v m items is same = ap sources_in (ap view is ∙ view-Map m) ∙ ap (λ items. texts_in (entries_view items)) (sym same)
 
-pub keys_of_map : (v : Value) (m : BTreeMap (String Global) Value) (items : List (String Global × Value)) → v ≡ MapValue m → items ≡ m.entries → has_keys (view v) ≡ are_keys (entries_view items)
-keys_of_map v m items is same = ap has_keys (ap view is ∙ view-Map m) ∙ ap (λ items. are_keys (entries_view items)) (sym same)
+pub keys_of_map : (known : Known) (v : Value) (m : BTreeMap (String Global) Value) (items : List (String Global × Value)) → v ≡ MapValue m → items ≡ m.entries → has_keys known (view v) ≡ are_keys known (entries_view items)
+keys_of_map known v m items is same = ap (has_keys known) (ap view is ∙ view-Map m) ∙ ap (λ items. are_keys known (entries_view items)) (sym same)

@@ -9,6 +9,8 @@ use Rattle.upon_calls.specs.Escaping.{language_in}
 use Rattle.upon_calls.specs.Pairs.{delimiters_in}
 use Rattle.upon_calls.specs.declared.escaping.Language.{Language}
 use Rattle.upon_calls.specs.declared.escaping.Language.TheVariants.{Html}
+use Rattle.upon_calls.specs.declared.options.Known.{Known}
+use Rattle.upon_calls.specs.declared.options.Known.TheVariants.{Rendering, OnContexts}
 use Rattle.upon_calls.specs.declared.options.Options.{Options}
 
 -- the language into which values are written, the delimiters of templates, how deep includes may go, whether the
@@ -37,15 +39,24 @@ is_key key = bytes_eq key (codes "escape") || (bytes_eq key (codes "html") || (b
     || (bytes_eq key (codes "max_steps")
     || (bytes_eq key (codes "max_output") || bytes_eq key (codes "max_memory")))))))
 
+-- whether a key is one of an option that a check on contexts has beside
+abbrev pub is_check_key : List ℕ → Bool
+is_check_key key = bytes_eq key (codes "samples") || (bytes_eq key (codes "schema") || bytes_eq key (codes "pages"))
+
+-- whether a key is one of an option, of a rendering or also of a check on contexts
+abbrev pub is_known : Known → List ℕ → Bool
+is_known Rendering key = is_key key
+is_known OnContexts key = is_key key || is_check_key key
+
 -- whether each key is one of an option
-abbrev pub are_keys : Entries → Bool
-are_keys no_entries = true
-are_keys (entry_then key v es) = is_key key && are_keys es
+abbrev pub are_keys : Known → Entries → Bool
+are_keys known no_entries = true
+are_keys known (entry_then key v es) = is_known known key && are_keys known es
 
 -- the same of a value, of which only a map has keys
-abbrev pub has_keys : Val → Bool
-has_keys (map_val es) = are_keys es
-has_keys _ = true
+abbrev pub has_keys : Known → Val → Bool
+has_keys known (map_val es) = are_keys known es
+has_keys known _ = true
 
 -- the truth value that is there, or false where nothing is; none of another value
 abbrev pub flag_of : Option Val → Option Bool
@@ -100,8 +111,8 @@ abbrev pub HasNoLimits : Val → Type 0
 HasNoLimits v = (limits : Limits) → HasLimits v limits → ⊥
 
 -- A value asks for this: each of its keys is one of an option, and what is at each key is of its kind.
-pub record Asks (v : Val) (asked : Asked) : Type 0 where
-  pub keys : has_keys v ≡ true
+pub record Asks (known : Known) (v : Val) (asked : Asked) : Type 0 where
+  pub keys : has_keys known v ≡ true
   pub escape : escape_at v ≡ Some asked.escape
   pub delimiters : delimiters_in (key_of (codes "syntax") v) ≡ Some asked.delimiters
   pub depth : depth_at v ≡ Some asked.depth
@@ -109,12 +120,12 @@ pub record Asks (v : Val) (asked : Asked) : Type 0 where
   pub limits : HasLimits v asked.limits
 
 -- it asks for nothing that is an option
-abbrev pub AsksNothing : Val → Type 0
-AsksNothing v = (asked : Asked) → Asks v asked → ⊥
+abbrev pub AsksNothing : Known → Val → Type 0
+AsksNothing known v = (asked : Asked) → Asks known v asked → ⊥
 
 -- the text of options asks for this
 abbrev pub IsAsked : List ℕ → Asked → Type 0
-IsAsked text asked = (v : Val) × IsValueOf text v × Asks v asked
+IsAsked text asked = (v : Val) × IsValueOf text v × Asks Rendering v asked
 
 -- it asks for nothing that is an option, or is no JSON
 abbrev pub IsUnasked : List ℕ → Type 0

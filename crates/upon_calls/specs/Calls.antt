@@ -1,11 +1,12 @@
 -- What each call gives, from the bytes of its arguments to the bytes of its text.
-use Rattle.std.specs.Prelude.{◌≡◌, ◌⊎◌, ℕ, List, [], Some, None, string_bytes}
+use Rattle.std.specs.Prelude.{◌≡◌, ◌⊎◌, ℕ, List, [], Option, Some, None, string_bytes}
 use Rattle.std.specs.Str.{IsUtf8}
 use Rattle.upon_types.specs.Fault.{Fault}
 use Rattle.upon_types.specs.Val.{Val}
 use Rattle.upon_calls.specs.Arguments.{HasNoValue, IsValueOf}
 use Rattle.upon_calls.specs.Asked.{Asked, IsAsked, IsUnasked}
 use Rattle.upon_calls.specs.Check.{AreRight}
+use Rattle.upon_calls.specs.Contexts.{Contexts, IsCheckAsked, IsCheckUnasked, LacksPage, PagesEndIf}
 use Rattle.upon_calls.specs.Failure.{IsPicture}
 use Rattle.upon_calls.specs.Filled.{engine_for, filled}
 use Rattle.upon_calls.specs.Names.{ListsNamed}
@@ -115,34 +116,54 @@ TextFails source context options failure = CallFails (TextFaults source context 
     (TextRefuses source context options) (TextNotText source context options) failure
 
 -- ---- templates are checked
--- The text is empty, and each template is right: it has a tree, and no include in it names none of them.
+-- Of templates, and of contexts if they are given: each template is right, and each page ends on each of the contexts.
+pub record AreRightOn (asked : Asked) (contexts : Option Contexts) (value : Val) (sources : List (List ℕ × List ℕ))
+    : Type 0 where
+  pub right : AreRight asked.delimiters value sources
+  pub pages : PagesEndIf contexts (filled asked sources) value sources
+
+-- without contexts, a template is not right; with them it isn't known that each page ends on each
+abbrev pub AreWrongOn : Asked → Option Contexts → Val → List (List ℕ × List ℕ) → Type 0
+AreWrongOn asked contexts value sources = contexts ≡ None → AreRight asked.delimiters value sources → ⊥
+
+-- The text is empty, and each template is right: it has a tree, and no include in it names none of them. If contexts
+-- are given, each page ends without a fault on each of them, but that includes may be too deep one inside another,
+-- where an engine holds the templates as it does for a rendering by these options.
 pub record ChecksRight (templates options text : List ℕ) : Type 0 where
   pub asked : Asked
+  pub contexts : Option Contexts
   pub value : Val
   pub sources : List (List ℕ × List ℕ)
-  pub asks : IsAsked options asked
+  pub asks : IsCheckAsked options asked contexts
   pub read : IsValueOf templates value
   pub are : sources_in value ≡ Some sources
-  pub right : AreRight asked.delimiters value sources
+  pub right : AreRightOn asked contexts value sources
   pub empty : text ≡ []
 
--- One of them is not.
+-- One of them is not, or contexts are given: then it isn't known that each page ends so.
 pub record ChecksWrong (templates options text : List ℕ) : Type 0 where
   pub asked : Asked
+  pub contexts : Option Contexts
   pub value : Val
   pub sources : List (List ℕ × List ℕ)
-  pub asks : IsAsked options asked
+  pub asks : IsCheckAsked options asked contexts
   pub read : IsValueOf templates value
   pub are : sources_in value ≡ Some sources
-  pub wrong : AreRight asked.delimiters value sources → ⊥
+  pub wrong : AreWrongOn asked contexts value sources
 
--- an argument is refused: the options ask for nothing, or the templates are none
+-- a page that the options name is none of the templates
+abbrev pub NamesNoPage : List ℕ → List ℕ → Type 0
+NamesNoPage templates options = (asked : Asked) × (contexts : Option Contexts) × (value : Val)
+    × IsCheckAsked options asked contexts × IsValueOf templates value × LacksPage contexts value
+
+-- an argument is refused: the options ask for nothing, or their schema is not read, or they name a page that is no
+-- template; or the templates are none
 abbrev pub ChecksRefuse : List ℕ → List ℕ → Argument → Type 0
 ChecksRefuse templates options Templates = AreNone templates
 ChecksRefuse templates options Source = ⊥
 ChecksRefuse templates options Context = ⊥
 ChecksRefuse templates options Name = ⊥
-ChecksRefuse templates options Options = IsUnasked options
+ChecksRefuse templates options Options = IsCheckUnasked options ⊎ NamesNoPage templates options
 
 -- an argument is not UTF-8
 abbrev pub ChecksNotText : List ℕ → List ℕ → Argument → Type 0

@@ -8,5 +8,6 @@ pub mod Filled
 pub mod Rendering
 pub mod Names
 pub mod Check
+pub mod Contexts
 pub mod Work
 pub mod Calls

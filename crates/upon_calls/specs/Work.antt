@@ -1,9 +1,13 @@
 -- What is done with an engine that holds a call's templates.
-use Rattle.std.specs.Prelude.{◌≡◌, ◌⊎◌, ℕ, List, None, string_bytes}
+use Rattle.std.specs.Prelude.{◌≡◌, ◌⊎◌, ℕ, List, [], All, None, string_bytes}
 use Rattle.upon_types.specs.Fault.{Fault}
 use Rattle.upon_types.specs.View.{view}
 use Rattle.upon_vm.specs.declared.limits.Limits.{Limits}
+use Rattle.upon_shape.specs.View.{view as shape_view}
+use Rattle.upon_checked.specs.Callables.{declared_view}
+use Rattle.upon_engine.specs.Names.{texts}
 use Rattle.upon_engine.specs.Texts.{Texts}
+use Rattle.upon_accepts.specs.EndsOn.{EndsOn}
 use Rattle.upon_calls.specs.Asked.{Asked}
 use Rattle.upon_calls.specs.Failure.{IsPicture}
 use Rattle.upon_calls.specs.Filled.{filled}
@@ -13,25 +17,35 @@ use Rattle.upon_calls.specs.declared.failure.Argument.TheVariants.{Name}
 use Rattle.upon_calls.specs.declared.failure.Failure.{Failure}
 use Rattle.upon_calls.specs.declared.failure.Failure.TheVariants.{Faults, Refused, NotText, OutOfMemory}
 use Rattle.upon_calls.specs.declared.work.Work.{Work}
-use Rattle.upon_calls.specs.declared.work.Work.TheVariants.{Render, RenderText, Names}
+use Rattle.upon_calls.specs.declared.work.Pages.{Pages}
+use Rattle.upon_calls.specs.declared.work.Work.TheVariants.{Render, RenderText, Names, Fit}
+
+-- if callables keep what is declared of them, each page ends without a fault on each value of a shape, but that
+-- includes may be too deep one inside another
+abbrev pub PagesFit : Texts → Pages → Type 0
+PagesFit e pages =
+    All (λ name. EndsOn e (declared_view pages.declared.now) name (shape_view pages.shape.now)) (texts pages.names.now)
 
 -- a piece of work gives a text, by what an engine holds
 abbrev pub WorkGives : Limits → Texts → Work → List ℕ → Type 0
 WorkGives limits e (Render name value) text = MeansNamed limits e name.now (view value.now) text
 WorkGives limits e (RenderText source value) text = MeansText limits e source.now (view value.now) text
 WorkGives limits e (Names name) text = ListsNamed e name.now text
+WorkGives limits e (Fit pages) text = text ≡ [] → PagesFit e pages
 
 -- it ends with a fault
 abbrev pub WorkFaults : Limits → Texts → Work → Fault → Type 0
 WorkFaults limits e (Render name value) fault = FailsNamed limits e name.now (view value.now) fault
 WorkFaults limits e (RenderText source value) fault = FailsText limits e source.now (view value.now) fault
 WorkFaults limits e (Names name) fault = ⊥
+WorkFaults limits e (Fit pages) fault = ⊥
 
 -- no text is held under the name that it is about
 abbrev pub IsAbsent : Texts → Work → Type 0
 IsAbsent e (Render name value) = e.texts name.now ≡ None
 IsAbsent e (RenderText source value) = ⊥
 IsAbsent e (Names name) = e.texts name.now ≡ None
+IsAbsent e (Fit pages) = ⊥
 
 -- why it gives no text: it ends with a fault, of which these are the pictures; or its name is refused, as nothing is
 -- held under it; or memory was out

@@ -1,20 +1,24 @@
 // Templates that are checked: their faults, and the includes that name nothing.
-ghost use Rattle.std.specs.Prelude.{◌≡◌, ◌↔◌, ℕ, List, Contains, string_bytes, IfErr, IfOk, true};
+ghost use Rattle.std.specs.Prelude.{◌≡◌, ◌↔◌, ℕ, List, [], Contains, string_bytes, IfErr, IfOk, option_map, true};
 ghost use Rattle.upon_types.specs.View.{view};
 ghost use Rattle.upon_meaning_spec.specs.Includes.{Includes};
 ghost use Rattle.upon_lexer.specs.Syntax.{syntax_delimiters};
 ghost use Rattle.upon_engine.specs.Engine.{engine_syntax};
 ghost use Rattle.upon_engine.specs.Names.{texts};
 ghost use Rattle.upon_engine.specs.Template.{template_tree};
-ghost use Rattle.upon_calls.specs.Calls.{CheckFails, ChecksRight};
+ghost use Rattle.upon_calls.specs.Asked.{asked_by};
+ghost use Rattle.upon_calls.specs.Calls.{AreRightOn, AreWrongOn, CheckFails, ChecksRight};
 ghost use Rattle.upon_calls.specs.Check.{is_missing, AreRight, IsRight};
+ghost use Rattle.upon_calls.specs.Contexts.{contexts_by, LacksPage};
+ghost use Rattle.upon_calls.specs.Failure.{FaultyIf};
 ghost use Rattle.upon_calls.specs.Templates.{lent_pairs};
 ghost use Rattle.upon_calls.specs.declared.failure.Failure.TheVariants.{OutOfMemory};
 
 use crate::arguments::{text_of, value_of};
+use crate::contexts::{CheckContexts, Checking, checking_of};
 use crate::failure::{Argument, Failure};
 use crate::includes::{push_picture, show_includes};
-use crate::options::options_in;
+use crate::pages::{check_pages, pages_of};
 use crate::templates::sources_of;
 use std::alloc::{AllocError, Global};
 use std::borrow::CowStr;
@@ -22,25 +26,60 @@ use upon::value::look;
 use upon::{Engine, Syntax, Template, Value};
 use upon_lexer::compile::search::Searcher;
 
-/// Checks templates, and returns the empty text if each of them is one and names none in an include that is not there.
-/// Else the failure has the pictures of what is wrong, with a blank line between two.
+/// Checks templates, and returns the empty text if each of them is one and names none in an include that is not there,
+/// and if each page ends without a fault on the contexts that the options give, but that includes may be too deep one
+/// inside another. Else the failure has the pictures of what is wrong, with a blank line between two.
 pub fn check(alloc: Global, templates: &[u8], options: &[u8]) -> Result<String, Failure>
     ensures right { IfOk result (λ text. ChecksRight templates.now options.now (string_bytes text)) }
     ensures fails { IfErr result (CheckFails templates.now options.now) }
 {
     let templates = text_of(Argument::Templates, templates)?;
     let options = text_of(Argument::Options, options)?;
-    let options = options_in(alloc, options)?;
+    let value = value_of(alloc, Argument::Options, options)?;
+    let checking = checking_of(alloc, &value)?;
     let templates = value_of(alloc, Argument::Templates, templates)?;
     let sources = sources_of(alloc, &templates)?;
+    check_given(alloc, checking, &templates, sources.as_slice())
+}
+
+// Checks templates, and the pages on contexts if there are some.
+fn check_given(
+    alloc: Global,
+    checking: Checking<'_>,
+    templates: &Value,
+    sources: &[(&str, &str)],
+) -> Result<String, Failure>
+    ensures empty { IfOk result (λ text. string_bytes text ≡ []) }
+    ensures right { IfOk result (λ text. AreRightOn (asked_by checking.entry.options)
+        (option_map contexts_by checking.entry.contexts) (view templates.now) (lent_pairs sources.now)) }
+    ensures fails { let contexts = option_map contexts_by checking.entry.contexts in IfErr result (FaultyIf
+        (AreWrongOn (asked_by checking.entry.options) contexts (view templates.now) (lent_pairs sources.now))
+        (LacksPage contexts (view templates.now))) }
+{
+    let Checking { options, contexts } = checking;
+    let Some(CheckContexts { shape, pages }) = contexts else {
+        return check_plain(alloc, options.syntax, templates, sources);
+    };
+    let pages = pages_of(alloc, pages, templates, sources)?;
+    check_plain(alloc, options.syntax.try_clone()?, templates, sources)?;
+    check_pages(alloc, options, sources, &shape, pages.as_slice())
+}
+
+// Checks templates alone.
+fn check_plain(
+    alloc: Global,
+    syntax: Syntax,
+    templates: &Value,
+    sources: &[(&str, &str)],
+) -> Result<String, Failure>
+    ensures empty { IfOk result (λ text. string_bytes text ≡ []) }
+    ensures right { IfOk result
+        (λ text. AreRight (syntax_delimiters syntax) (view templates.now) (lent_pairs sources.now)) }
+    ensures wrong { IfErr result
+        (FaultyIf (AreRight (syntax_delimiters syntax) (view templates.now) (lent_pairs sources.now) → ⊥) ⊥) }
+{
     let mut pictures = String::new(alloc);
-    if check_all(
-        alloc,
-        options.syntax,
-        &templates,
-        sources.as_slice(),
-        &mut pictures,
-    )? {
+    if check_all(alloc, syntax, templates, sources, &mut pictures)? {
         Ok(String::new(alloc))
     } else {
         Err(Failure::Faults(pictures))
@@ -145,8 +184,8 @@ fn missing<'t>(
     Ok(missing)
 }
 
-// Whether no template has a name.
-fn is_missing(templates: &Value, name: &str) -> bool
+/// Returns whether no template has a name.
+pub(crate) fn is_missing(templates: &Value, name: &str) -> bool
     ensures { result ≡ is_missing (view templates.now) name.now }
 {
     look::entry(templates, name).is_none()

@@ -3,13 +3,18 @@
 
 mod arguments;
 pub mod check;
+mod contexts;
+mod declared;
 mod escaping;
 pub mod failure;
 mod includes;
+mod misfits;
 pub mod names;
 mod options;
+mod pages;
 mod pairs;
 pub mod render;
+mod schema;
 mod templates;
 pub mod version;
 mod work;

@@ -1,9 +1,10 @@
 // The options of a call.
 ghost use Rattle.std.specs.Prelude.{◌≡◌, ⊤, None, Some, IfErr, IfOk, OnOk, true, false};
 ghost use Rattle.upon_types.specs.View.{view};
-ghost use Rattle.upon_calls.specs.Asked.{agreed, asked_by, depth_at, escape_at, flag_at, has_keys, is_key, number_at, Asks, AsksNothing, HasLimits, HasNoLimits, IsAsked, IsUnasked};
+ghost use Rattle.upon_calls.specs.Asked.{agreed, asked_by, depth_at, escape_at, flag_at, has_keys, is_check_key, is_key, is_known, number_at, Asks, AsksNothing, HasLimits, HasNoLimits, IsAsked, IsUnasked};
 ghost use Rattle.upon_calls.specs.Failure.{RefusedIf};
 ghost use Rattle.upon_calls.specs.declared.failure.Argument.TheVariants.{Options as OptionsRefused};
+ghost use Rattle.upon_calls.specs.declared.options.Known.TheVariants.{Rendering};
 
 use crate::arguments::{refused, value_of};
 use crate::escaping::Language;
@@ -28,21 +29,30 @@ pub(crate) struct Options {
     pub(crate) limits: Limits,
 }
 
+/// Which keys options may have.
+#[derive(Clone, Copy, Debug, PartialEq, Eq)]
+pub(crate) enum Known {
+    /// Those of a rendering.
+    Rendering,
+    /// Those of a rendering, and what a check on contexts has beside.
+    OnContexts,
+}
+
 /// Returns the options that a text of JSON asks for.
 pub(crate) fn options_in(alloc: Global, text: &str) -> Result<Options, Failure>
     ensures asked { IfOk result (λ o. IsAsked text.now (asked_by o)) }
     ensures refused { IfErr result (RefusedIf OptionsRefused (IsUnasked text.now)) }
 {
     let value = value_of(alloc, Argument::Options, text)?;
-    options_of(alloc, &value)
+    options_of(alloc, Known::Rendering, &value)
 }
 
-// The options that a value asks for.
-fn options_of(alloc: Global, value: &Value) -> Result<Options, Failure>
-    ensures asked { IfOk result (λ o. Asks (view value.now) (asked_by o)) }
-    ensures refused { IfErr result (RefusedIf OptionsRefused (AsksNothing (view value.now))) }
+/// Returns the options that a value asks for, whose keys may be these.
+pub(crate) fn options_of(alloc: Global, known: Known, value: &Value) -> Result<Options, Failure>
+    ensures asked { IfOk result (λ o. Asks known (view value.now) (asked_by o)) }
+    ensures refused { IfErr result (RefusedIf OptionsRefused (AsksNothing known (view value.now))) }
 {
-    check_keys(alloc, value)?;
+    check_keys(alloc, known, value)?;
     let escape = escape_of(alloc, value)?;
     let syntax = syntax_of(alloc, value)?;
     let depth = depth_of(alloc, value)?;
@@ -71,16 +81,33 @@ fn is_key(key: &str) -> bool
         || key == "max_memory"
 }
 
+// Whether a key is one of an option that a check on contexts has beside.
+fn is_check_key(key: &str) -> bool
+    ensures { result ≡ is_check_key key.now }
+{
+    key == "samples" || key == "schema" || key == "pages"
+}
+
+// Whether a key is one of these.
+fn is_known(known: Known, key: &str) -> bool
+    ensures { result ≡ is_known known key.now }
+{
+    match known {
+        Known::Rendering => is_key(key),
+        Known::OnContexts => is_key(key) || is_check_key(key),
+    }
+}
+
 // Refuses a key that is none of an option.
-fn check_keys(alloc: Global, value: &Value) -> Result<(), Failure>
-    ensures keys { OnOk result (has_keys (view value.now) ≡ true) }
-    ensures refused { IfErr result (RefusedIf OptionsRefused (has_keys (view value.now) ≡ false)) }
+fn check_keys(alloc: Global, known: Known, value: &Value) -> Result<(), Failure>
+    ensures keys { OnOk result (has_keys known (view value.now) ≡ true) }
+    ensures refused { IfErr result (RefusedIf OptionsRefused (has_keys known (view value.now) ≡ false)) }
 {
     let Value::Map(entries) = value else {
         return Ok(());
     };
     for (key, _) in entries.iter() {
-        if !is_key(key) {
+        if !is_known(known, key) {
             let reason = format!(in alloc; "unknown key \"{key}\"");
             return Err(refused(Argument::Options, reason));
         }

@@ -17,12 +17,15 @@ ghost use Rattle.upon_calls.specs.declared.failure.Argument.TheVariants.{Name};
 use crate::arguments::refused;
 use crate::escaping::Escaping;
 use crate::failure::{Argument, Failure};
+use crate::misfits::misfits;
 use crate::names::list;
 use crate::options::Options;
 use std::alloc::Global;
 use std::borrow::CowStr;
 use upon::{AnyEngine, Engine, EngineTexts, Limits, Template, Value, theorem};
+use upon_checked::declared::Declared;
 use upon_html::formatters::Verbatim;
+use upon_shape::shape::Shape;
 use upon_std::table::{ALL, StandardFunction};
 
 /// What is done with an engine.
@@ -34,6 +37,19 @@ pub(crate) enum Work<'w> {
     RenderText(&'w str, &'w Value),
     /// It is listed what the template of a name needs.
     Names(&'w str),
+    /// It is shown where pages may fail.
+    Fit(Pages<'w>),
+}
+
+/// Pages that are to end without a fault on each value of a shape.
+#[derive(Clone, Copy)]
+pub(crate) struct Pages<'w> {
+    /// Their names.
+    pub(crate) names: &'w [&'w str],
+    /// What is declared of what they call.
+    pub(crate) declared: &'w Declared,
+    /// What is known of the values.
+    pub(crate) shape: &'w Shape,
 }
 
 /// Fills an engine with templates, does a piece of work with it, and returns the text of that.
@@ -76,8 +92,8 @@ pub(crate) fn carry_out(
     do_work(alloc, &engine, &limits, work)
 }
 
-// The functions that templates may call.
-fn standard(wanted: bool) -> &'static [StandardFunction]
+/// Returns the functions that templates may call.
+pub(crate) fn standard(wanted: bool) -> &'static [StandardFunction]
     ensures { result.now ≡ functions_if wanted }
 {
     if wanted {
@@ -106,6 +122,7 @@ fn do_work(
         Work::Render(name, value) => render_named(alloc, engine, limits, name, value),
         Work::RenderText(source, value) => render_text(alloc, engine, limits, source, value),
         Work::Names(name) => list(alloc, engine, name),
+        Work::Fit(pages) => misfits(alloc, engine, pages),
     }
 }
 

@@ -7,4 +7,5 @@ mod Shaping
 mod Stepping
 mod Acting
 mod Taking
+mod Putting
 mod Along

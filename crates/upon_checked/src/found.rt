@@ -1,53 +1,60 @@
 // What a path finds in a scope.
-ghost use Rattle.std.specs.Prelude.{◌≡◌, IfOk, Some, map, option_copied, option_map};
+ghost use Rattle.std.specs.Prelude.{◌≡◌, IfOk, None, map, option_copied, option_map};
 ghost use Rattle.upon_types.specs.AstPath.{first_member, member_of, rest_members};
 ghost use Rattle.upon_render.specs.Lookup.{state_map};
 ghost use Rattle.upon_shape_spec.specs.Doubts as doubts;
 ghost use Rattle.upon_shape_spec.specs.Join.{shape_of};
+ghost use Rattle.upon_shape_spec.specs.Paths.{walk_shape};
 ghost use Rattle.upon_shape_spec.specs.Scope as spec;
-ghost use Rattle.upon_shape_spec.specs.Shape.{never as never_shape};
 ghost use Rattle.upon_shape.specs.View.{view};
 ghost use Rattle.upon_checked.specs.Doubt.{maybe_doubt};
-ghost use Rattle.upon_checked.specs.Members.{walked_doubts};
+ghost use Rattle.upon_checked.specs.Found.{found_doubts, found_shape};
 ghost use Rattle.upon_checked.specs.Scope.{bound_view, names_view, scope_view};
 
 use crate::doubt::{Doubt, Unsure};
-use crate::members::{Walked, walk};
 use crate::scope::{BoundShape, NameShape, Scope, bound_to};
 use std::alloc::{AllocError, Global};
+use upon_shape::paths::MemberShape;
 use upon_shape::shape::{Keys, Shape};
 use upon_types::types::Span;
 use upon_types::types::ast::{Access, AccessOp, Member, Var};
 
-// Returns the shape of what a path finds.
-pub(crate) fn path_shape(
-    alloc: Global,
-    scope: &Scope<'_>,
-    path: &Var,
-) -> Result<Option<Shape>, AllocError>
-    ensures { IfOk result (λ s. option_map view s
-        ≡ spec.path_shape (scope_view scope.now) (first_member path.now) (rest_members path.now)) }
-{
-    let never = Shape::never();
-    match first_bound(&scope.names, path.first()) {
-        Some(bound) => bound_shape(alloc, bound, &never, path.rest()),
-        None => walk(&scope.root, &never, &path.path).shape(alloc),
+// What a path finds.
+#[derive(Drop)]
+pub(crate) enum Found<'t> {
+    // Something of this shape.
+    Surely(Shape),
+    // It is in doubt that something is there.
+    InDoubt(Doubt<'t>),
+}
+
+impl<'t> Found<'t> {
+    // Returns the shape, if something is sure to be there, and else the doubt.
+    pub(crate) fn parts(self) -> (Option<Shape>, Option<Doubt<'t>>)
+        ensures shape { option_map view result.0 ≡ found_shape self.entry }
+        ensures doubts { maybe_doubt result.1 ≡ found_doubts self.entry }
+    {
+        match self {
+            Found::Surely(shape) => (Some(shape), None),
+            Found::InDoubt(doubt) => (None, Some(doubt)),
+        }
     }
 }
 
-// Returns what is in doubt of what a path finds.
-pub(crate) fn path_doubt<'t>(
+// Returns what a path finds.
+pub(crate) fn path_found<'t>(
     alloc: Global,
     scope: &Scope<'_>,
     path: &Var,
-) -> Result<Option<Doubt<'t>>, AllocError>
-    ensures { IfOk result (λ d. maybe_doubt d
+) -> Result<Found<'t>, AllocError>
+    ensures shape { IfOk result (λ f. found_shape f
+        ≡ spec.path_shape (scope_view scope.now) (first_member path.now) (rest_members path.now)) }
+    ensures doubts { IfOk result (λ f. found_doubts f
         ≡ doubts.path_doubts (scope_view scope.now) (first_member path.now) (rest_members path.now)) }
 {
-    let never = Shape::never();
     match first_bound(&scope.names, path.first()) {
-        Some(bound) => bound_doubt(alloc, bound, &never, path.rest()),
-        None => walk_doubt(alloc, walk(&scope.root, &never, &path.path)),
+        Some(bound) => bound_found(alloc, bound, path.rest()),
+        None => walk(alloc, &scope.root, &path.path),
     }
 }
 
@@ -62,23 +69,27 @@ fn first_bound<'a>(names: &'a [NameShape<'_>], first: &Member) -> Option<&'a Bou
     }
 }
 
-// Returns the shape of what is found after a name; `never` is the shape of no value.
-fn bound_shape(
+// Returns what is found after a name.
+fn bound_found<'t>(
     alloc: Global,
     bound: &BoundShape,
-    never: &Shape,
     members: &[Member],
-) -> Result<Option<Shape>, AllocError>
-    requires { view never.now ≡ never_shape }
-    ensures { IfOk result (λ s. option_map view s
+) -> Result<Found<'t>, AllocError>
+    ensures shape { IfOk result (λ f. found_shape f
         ≡ spec.bound_walk_shape (bound_view bound.now) (map member_of members.now)) }
+    ensures doubts { IfOk result (λ f. found_doubts f
+        ≡ doubts.bound_doubts (bound_view bound.now) (map member_of members.now)) }
 {
     match (bound, members) {
-        (BoundShape::Value(shape), _) => walk(shape, never, members).shape(alloc),
-        (BoundShape::LoopKey, []) => Ok(Some(Shape::text())),
-        (BoundShape::Loop, []) => Ok(Some(loop_shape(alloc)?)),
-        (BoundShape::Loop, [member]) => Ok(state_shape(member)),
-        _ => Ok(None),
+        (BoundShape::Value(shape), _) => walk(alloc, shape, members),
+        (BoundShape::LoopKey, []) => Ok(Found::Surely(Shape::text())),
+        (BoundShape::LoopKey, [member, ..]) => Ok(no_member(member.span)),
+        (BoundShape::Loop, []) => Ok(Found::Surely(loop_shape(alloc)?)),
+        (BoundShape::Loop, [member]) => match state_shape(member) {
+            Some(shape) => Ok(Found::Surely(shape)),
+            None => Ok(no_member(member.span)),
+        },
+        (BoundShape::Loop, [_, next, ..]) => Ok(no_member(next.span)),
     }
 }
 
@@ -109,48 +120,46 @@ fn state_shape(member: &Member) -> Option<Shape>
     }
 }
 
-// Returns what is in doubt of what is found after a name; `never` is the shape of no value.
-fn bound_doubt<'t>(
-    alloc: Global,
-    bound: &BoundShape,
-    never: &Shape,
-    members: &[Member],
-) -> Result<Option<Doubt<'t>>, AllocError>
-    requires { view never.now ≡ never_shape }
-    ensures { IfOk result (λ d. maybe_doubt d
-        ≡ doubts.bound_doubts (bound_view bound.now) (map member_of members.now)) }
-{
-    match (bound, members) {
-        (BoundShape::Value(shape), _) => walk_doubt(alloc, walk(shape, never, members)),
-        (_, []) => Ok(None),
-        (BoundShape::LoopKey, [member, ..]) => Ok(Some(no_member(member.span))),
-        (BoundShape::Loop, [member]) => match state_shape(member) {
-            Some(_) => Ok(None),
-            None => Ok(Some(no_member(member.span))),
-        },
-        (BoundShape::Loop, [_, next, ..]) => Ok(Some(no_member(next.span))),
-    }
-}
-
 // Returns the doubt that the key or the state of a loop has a member.
-fn no_member<'t>(place: Span) -> Doubt<'t>
-    ensures { maybe_doubt (Some result) ≡ doubts.doubt place doubts.loop_has_member }
+fn no_member<'t>(place: Span) -> Found<'t>
+    ensures shape { found_shape result ≡ None }
+    ensures doubts { found_doubts result ≡ doubts.doubt place doubts.loop_has_member }
 {
-    Doubt {
+    Found::InDoubt(Doubt {
         place,
         unsure: Unsure::LoopHasMember,
-    }
+    })
 }
 
-// Returns what is in doubt on a walk.
-fn walk_doubt<'t>(alloc: Global, walked: Walked<'_>) -> Result<Option<Doubt<'t>>, AllocError>
-    ensures { IfOk result (λ d. maybe_doubt d ≡ walked_doubts walked.entry) }
+// Goes from member to member in a value of this shape.
+fn walk<'t>(alloc: Global, shape: &Shape, members: &[Member]) -> Result<Found<'t>, AllocError>
+    ensures shape { IfOk result (λ f. found_shape f ≡ walk_shape (map member_of members.now) (view shape.now)) }
+    ensures doubts { IfOk result (λ f. found_doubts f
+        ≡ doubts.walk_doubts (map member_of members.now) (view shape.now)) }
 {
-    match walked {
-        Walked::Ends(_, _) => Ok(None),
-        Walked::Fails(place, shape) => Ok(Some(Doubt {
-            place,
-            unsure: Unsure::HasMember(shape.try_clone(alloc)?),
-        })),
+    let never = Shape::never();
+    let mut current = shape;
+    let mut missed = false;
+    for member in members {
+        match current.member(member.op, &member.access) {
+            MemberShape::MayFail => {
+                return Ok(Found::InDoubt(Doubt {
+                    place: member.span,
+                    unsure: Unsure::HasMember(current.try_clone(alloc)?),
+                }));
+            }
+            MemberShape::Never => current = &never,
+            MemberShape::Finds(next) => current = next,
+            MemberShape::MayMiss(next) => {
+                current = next;
+                missed = true;
+            }
+        }
+    }
+    let found = current.try_clone(alloc)?;
+    if missed {
+        Ok(Found::Surely(found.optional()))
+    } else {
+        Ok(Found::Surely(found))
     }
 }

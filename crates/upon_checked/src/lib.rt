@@ -3,13 +3,10 @@
 
 mod calls;
 pub mod declared;
-mod depth;
 pub mod doubt;
 mod found;
 mod known;
 mod loops;
-mod members;
-mod narrowing;
 pub mod plan;
 mod puts;
 pub mod scope;

@@ -5,7 +5,6 @@ ghost use Rattle.upon_shape_spec.specs.Accepted as spec;
 ghost use Rattle.upon_shape.specs.View.{keys_view, lists_view, maps_view, view};
 ghost use Rattle.upon_checked.specs.Loops as loops;
 
-use crate::members::takes_plain;
 use std::alloc::{AllocError, Global};
 use upon_shape::shape::{Keys, Shape};
 use upon_types::types::ast::LoopVars;
@@ -21,7 +20,7 @@ pub(crate) fn looped(
     let Shape::OneOf { plain, items, keys } = shape else {
         return Ok(None);
     };
-    if takes_plain(*plain) {
+    if plain.is_any() {
         return Ok(None);
     }
     match (names, items, keys) {

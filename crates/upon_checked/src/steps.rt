@@ -7,7 +7,7 @@ ghost use Rattle.upon_shape_spec.specs.Doubts as doubts;
 ghost use Rattle.upon_shape_spec.specs.ExpressionShapes.{literal_shape as spec_literal_shape};
 ghost use Rattle.upon_machine_spec.specs.Instr as instr;
 ghost use Rattle.upon_shape_spec.specs.Declared.{Declared as SpecDeclared};
-ghost use Rattle.upon_shape_spec.specs.Scope.{Scope as SpecScope, scope_over};
+ghost use Rattle.upon_shape_spec.specs.Scope.{Scope as SpecScope};
 ghost use Rattle.upon_checked_spec.specs.Known as spec;
 ghost use Rattle.upon_checked_spec.specs.ProgramDoubts as walks;
 ghost use Rattle.upon_shape.specs.View.{view};
@@ -20,7 +20,7 @@ ghost use Rattle.upon_checked.specs.Steps.{AlwaysSteps, Steps, StepsDeclared};
 
 use crate::declared::Declared;
 use crate::doubt::{Doubt, Unsure};
-use crate::found::{path_doubt, path_shape};
+use crate::found::path_found;
 use crate::known::{Known, Operand};
 use crate::loops::looped;
 use crate::plan::Plan;
@@ -75,21 +75,8 @@ pub(crate) fn emits<'t>(declared: &Declared, known: &mut Known<'t>) -> Option<Do
     ensures { (number : ℕ) → StepsDeclared (declared_view declared.now) number (known_view known.old) instr.emit
         (maybe_doubt result) (known_view known.new) }
 {
-    match known.pop() {
-        None => None,
-        Some(operand) => maybe_text_doubt(declared, operand.place, operand.shape),
-    }
-}
-
-// Returns the doubt that a value has a text, if it is sure to be there.
-fn maybe_text_doubt<'t>(declared: &Declared, place: Span, shape: Option<Shape>) -> Option<Doubt<'t>>
-    ensures { (scope : SpecScope) → maybe_doubt result
-        ≡ doubts.if_some (option_map view shape) (doubts.text_doubts (declared_view declared.now) scope place) }
-{
-    match shape {
-        None => None,
-        Some(shape) => text_doubt(declared, place, shape),
-    }
+    let operand = known.pop()?;
+    text_doubt(declared, operand.place, operand.shape?)
 }
 
 // Returns the doubt that a value has a text.
@@ -226,27 +213,8 @@ pub(crate) fn includes_with<'t>(
     ensures { (declared : SpecDeclared) (number : ℕ) → Steps declared (is_planned (plan_view plan.now)) number
         (known_view known.old) (instr.include_with (string_of name.now)) (maybe_doubt result) (known_view known.new) }
 {
-    match known.pop() {
-        None => None,
-        Some(operand) => included_alone(alloc, plan, name, operand.shape),
-    }
-}
-
-// Returns the doubt that a template does not fail on a value alone, if it is sure to be there.
-fn included_alone<'t>(
-    alloc: Global,
-    plan: &Plan<'_>,
-    name: &'t Quoted,
-    shape: Option<Shape>,
-) -> Option<Doubt<'t>>
-    ensures { (declared : SpecDeclared) → maybe_doubt result
-        ≡ doubts.if_some (option_map view shape) (λ s. walks.include_doubts declared (is_planned (plan_view plan.now))
-        (string_of name.now) (scope_over s)) }
-{
-    match shape {
-        None => None,
-        Some(shape) => included_doubt(plan, name, Scope::over(alloc, shape)),
-    }
+    let operand = known.pop()?;
+    included_doubt(plan, name, Scope::over(alloc, operand.shape?))
 }
 
 // Returns the doubt that a template does not fail where this is known, unless the plan has it.
@@ -272,14 +240,13 @@ pub(crate) fn starts_var<'t>(
         (maybe_doubt d)
         (known_view known.new)) }
 {
-    let doubt = path_doubt(alloc, &known.scope, path)?;
-    let shape = path_shape(alloc, &known.scope, path)?;
+    let found = path_found(alloc, &known.scope, path)?.parts();
     known.push(Operand {
-        shape,
+        shape: found.0,
         place: path.span(),
         path: Some(path),
     })?;
-    Ok(doubt)
+    Ok(found.1)
 }
 
 // A value that occurs in the template is left.

@@ -5,7 +5,6 @@ ghost use Rattle.upon_shape_spec.specs.Narrowed as spec;
 ghost use Rattle.upon_checked.specs.Scope.{bound_view, names_view, scope_view};
 ghost use Rattle.upon_checked.specs.Undo as undoing;
 
-use crate::narrowing::narrowed;
 use crate::scope::{BoundShape, NameShape, Scope, find};
 use std::alloc::{AllocError, Global};
 use std::mem;
@@ -35,7 +34,7 @@ pub(crate) fn narrow(alloc: Global, scope: &mut Scope<'_>, path: &Var) -> Result
     };
     match find(&scope.names, &word.name) {
         None => {
-            let inside = narrowed(alloc, scope.root.try_clone(alloc)?, &path.path)?;
+            let inside = scope.root.narrowed(alloc, &path.path)?;
             Ok(Undo::Root(mem::replace(&mut scope.root, inside)))
         }
         Some(place) => {
@@ -55,10 +54,7 @@ fn narrowed_bound(
     ensures { IfOk result (λ b. bound_view b ≡ spec.narrowed_bound (map member_of members.now) (bound_view bound.now)) }
 {
     match bound {
-        BoundShape::Value(shape) => {
-            let shape = shape.try_clone(alloc)?;
-            Ok(BoundShape::Value(narrowed(alloc, shape, members)?))
-        }
+        BoundShape::Value(shape) => Ok(BoundShape::Value(shape.narrowed(alloc, members)?)),
         BoundShape::LoopKey => Ok(BoundShape::LoopKey),
         BoundShape::Loop => Ok(BoundShape::Loop),
     }

@@ -15,9 +15,10 @@ use crate::declared::Declared;
 use crate::doubt::Doubt;
 use crate::known::Known;
 use crate::plan::Plan;
+use crate::puts::{Part, puts};
 use crate::scope::Scope;
 use crate::unchecked::Unchecked;
-use crate::{calls, puts, steps};
+use crate::{calls, steps};
 use std::alloc::{AllocError, Global};
 use upon_instructions::types::program::Instr;
 
@@ -87,8 +88,8 @@ fn step<'t>(
         Instr::ExprStartLiteral(literal) => Ok(steps::starts_literal(known, literal)?),
         Instr::ExprStartList(span) => Ok(steps::starts_list(alloc, known, *span)?),
         Instr::ExprStartMap(span) => Ok(steps::starts_map(alloc, known, *span)?),
-        Instr::ExprListPush => puts::puts_item(alloc, known),
-        Instr::ExprMapInsert(key) => puts::puts_entry(known, key),
+        Instr::ExprListPush => puts(alloc, known, Part::Item),
+        Instr::ExprMapInsert(key) => puts(alloc, known, Part::Entry(key)),
         Instr::Apply(name, count, span) => {
             Ok(calls::applies(alloc, declared, known, name, *count, *span)?)
         }

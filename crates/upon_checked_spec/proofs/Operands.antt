@@ -4,13 +4,14 @@ use Rattle.upon_types.specs.declared.types.Span.{Span}
 use Rattle.upon_types.specs.Expression.{Expression, base, filtered, Base, var, literal, list, mapping, paren, call, Bases, no_bases, base_then, Arguments, no_arguments, arguments}
 use Rattle.upon_types.specs.Path.{path_span}
 use Rattle.upon_machine_spec.specs.Code.{count_bases, count}
+use Rattle.upon_shape_spec.specs.Added.{with_item_shape, with_entry_shape}
 use Rattle.upon_shape_spec.specs.Declared.{Declared}
 use Rattle.upon_shape_spec.specs.ExpressionShapes.{join_onto, shape_then, expression_shape, base_shape, bases_shapes, arguments_shapes}
 use Rattle.upon_shape_spec.specs.Join.{join}
 use Rattle.upon_shape_spec.specs.Narrowed.{tested_scope}
 use Rattle.upon_shape_spec.specs.Scope.{Scope}
 use Rattle.upon_shape_spec.specs.Shape.{Shape, Keys, key_then, list_of, map_of, without}
-use Rattle.upon_checked_spec.specs.Known.{KnownPath, KnownOperand, known_operand, path_tested, with_item, with_entry_shape, both_shapes}
+use Rattle.upon_checked_spec.specs.Known.{KnownPath, KnownOperand, known_operand, path_tested, both_shapes}
 use Rattle.upon_checked_spec.specs.ProgramDoubts.{shapes_of}
 
 -- where the value of an expression is, without its parentheses
@@ -110,7 +111,7 @@ list_begun (Some shapes) s = refl
 abbrev pub joined_with : Option Shape → Option Shape → Option Shape
 joined_with s t = both_shapes join s t
 
-pub item_put : (s t : Option Shape) → both_shapes with_item (option_map list_of s) t ≡ option_map list_of (joined_with s t)
+pub item_put : (s t : Option Shape) → both_shapes with_item_shape (option_map list_of s) t ≡ option_map list_of (joined_with s t)
 item_put None t = refl
 item_put (Some s) None = refl
 item_put (Some s) (Some t) = refl

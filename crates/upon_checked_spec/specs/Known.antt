@@ -2,10 +2,9 @@
 use Rattle.std.specs.Prelude.{ℕ, List, [], ◌∷◌, Option, Some, None, Bool, true, false, leb, if◌then◌else◌}
 use Rattle.upon_types.specs.declared.types.Span.{Span}
 use Rattle.upon_types.specs.Path.{Member}
-use Rattle.upon_shape_spec.specs.Join.{join}
 use Rattle.upon_shape_spec.specs.Narrowed.{narrowed_scope}
 use Rattle.upon_shape_spec.specs.Scope.{Scope}
-use Rattle.upon_shape_spec.specs.Shape.{Shape, any_shape, one_of, no_list, lists_of, no_map, maps_of, key_then, without}
+use Rattle.upon_shape_spec.specs.Shape.{Shape}
 
 -- a path, by its first member and the others
 pub record KnownPath : Type 0 where
@@ -57,18 +56,6 @@ abbrev pub path_tested : Bool → Option KnownPath → Scope → Scope
 path_tested true (Some path) scope = narrowed_scope path.first path.rest scope
 path_tested true None scope = scope
 path_tested false path scope = scope
-
--- the shape of a list with an item more at its end
-abbrev pub with_item : Shape → Shape → Shape
-with_item any_shape s = any_shape
-with_item (one_of p no_list m) s = one_of p no_list m
-with_item (one_of p (lists_of t) m) s = one_of p (lists_of (join t s)) m
-
--- the shape of a map with this at a key
-abbrev pub with_entry_shape : List ℕ → Shape → Shape → Shape
-with_entry_shape key any_shape s = any_shape
-with_entry_shape key (one_of p l no_map) s = one_of p l no_map
-with_entry_shape key (one_of p l (maps_of ks)) s = one_of p l (maps_of (key_then key true s (without key ks)))
 
 -- of two shapes, if both are known
 abbrev pub both_shapes : (Shape → Shape → Shape) → Option Shape → Option Shape → Option Shape

@@ -4,12 +4,13 @@ use Rattle.upon_types.specs.Path.{Ident, path_span}
 use Rattle.upon_machine_spec.specs.Instr.{Instr, jump, jump_if_true, jump_if_false, emit, emit_raw, emit_with, loop_start, loop_next, loop_next_else, with_start, with_end, include, include_with, expr_start_var, expr_start_literal, expr_start_list, expr_start_map, expr_list_push, expr_map_insert, apply}
 use Rattle.upon_machine_spec.specs.Operands.{taken}
 use Rattle.upon_shape_spec.specs.Accepted.{iteration_names}
+use Rattle.upon_shape_spec.specs.Added.{with_item_shape, with_entry_shape}
 use Rattle.upon_shape_spec.specs.Declared.{Declared}
 use Rattle.upon_shape_spec.specs.Doubts.{Doubt, doubt, unless, if_some, path_doubts, given_doubts, text_doubts, shown_call_doubts, items_in_doubt, is_included, or_never, bound_names}
 use Rattle.upon_shape_spec.specs.ExpressionShapes.{literal_shape, shape_then, call_shape}
 use Rattle.upon_shape_spec.specs.Scope.{value_of, name_shape, NameShape, Scope, scope_over, with_names, path_shape}
 use Rattle.upon_shape_spec.specs.Shape.{Shape, never, list_of, map_of, no_others}
-use Rattle.upon_checked_spec.specs.Known.{KnownOperand, Open, body_to, other_to, binding, Known, known, known_operand, with_operands, with_operand, path_tested, with_item, with_entry_shape, both_shapes, around, left_at}
+use Rattle.upon_checked_spec.specs.Known.{KnownOperand, Open, body_to, other_to, binding, Known, known, known_operand, with_operands, with_operand, path_tested, both_shapes, around, left_at}
 
 -- the shapes of operands, if all are sure to come to something
 abbrev pub shapes_of : List KnownOperand → Option (List Shape)
@@ -98,7 +99,7 @@ module _ (declared : Declared) (included : List ℕ → Scope → Bool) where
   stepped at k (expr_start_literal v span) = with_operand (known_operand (Some (literal_shape v)) span None) k
   stepped at k (expr_start_list span) = with_operand (known_operand (Some (list_of never)) span None) k
   stepped at k (expr_start_map span) = with_operand (known_operand (Some (map_of no_others)) span None) k
-  stepped at k expr_list_push = puts with_item k
+  stepped at k expr_list_push = puts with_item_shape k
   stepped at k (expr_map_insert key) = puts (with_entry_shape key.text) k
   stepped at k (apply name n span) =
       with_taken k (taken n k.operands) (λ os below.

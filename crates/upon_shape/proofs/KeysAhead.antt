@@ -1,5 +1,6 @@
 -- Keys by name ahead of others, and what is known of keys beside some that were seen.
-use Rattle.std.proofs.Common.{◌≡◌, ℕ, List, [], ◌∷◌, ◌++◌, Bool, true, false, ◌||◌, refl, sym, ap, ◌∙◌, bytes_eq, string_bytes, if◌then◌else◌}
+use Rattle.std.proofs.Common.{◌≡◌, ℕ, List, [], ◌∷◌, ◌++◌, Bool, true, false, not, ◌||◌, refl, sym, ap, ◌∙◌, bytes_eq, string_bytes, if◌then◌else◌}
+use Rattle.std.specs.List.{filter}
 use Rattle.std.proofs.lemmas.Bool.{false_from_ne_true, both_ways}
 use Rattle.std.proofs.lemmas.Slice.Eq.{bytes_eq-Decides}
 use Rattle.upon_shape_spec.specs.Join.{joined_others}
@@ -86,6 +87,20 @@ at_key-without name key (key_then l required s ns) =
     (λ same. ap (bytes_eq name) ((bytes_eq-Decides key l).0 same))
     (λ other same. false_from_ne_true (bytes_eq name key) (λ again. both_ways (bytes_eq key l) other ((bytes_eq-Decides key l).1 (sym ((bytes_eq-Decides name key).0 again) ∙ (bytes_eq-Decides name l).0 same))))
     (at_key-without name key ns)
+
+-- a test that a key has another name
+abbrev pub differs : List ℕ → Key Shape → Bool
+differs name k = not (bytes_eq name (string_bytes k.name))
+
+kept_step : (same : Bool) (k : Key Shape) (ks : List (Key Shape)) (rest others : SpecKeys) → ahead ks others ≡ rest
+    → ahead (if not same then k ∷ ks else ks) others ≡ (if same then rest else key_then (string_bytes k.name) k.required (view k.shape) rest)
+kept_step true k ks rest others e = e
+kept_step false k ks rest others e = ap (key_then (string_bytes k.name) k.required (view k.shape)) e
+
+-- the keys that have other names
+pub ahead-kept : (name : List ℕ) (ks : List (Key Shape)) (s : SpecShape) → ahead (filter (differs name) ks) (other_keys s) ≡ without name (ahead ks (other_keys s))
+ahead-kept name [] s = refl
+ahead-kept name (k ∷ ks) s = kept_step (bytes_eq name (string_bytes k.name)) k (filter (differs name) ks) (without name (ahead ks (other_keys s))) (other_keys s) (ahead-kept name ks s)
 
 -- ---- keys beside each of some
 seen_or_later : (b c : Bool) (O' O A' A : KeyShape) → O' ≡ O → A' ≡ (if b then O else A) → (if c then O' else A') ≡ (if (b || c) then O else A)

@@ -1,8 +1,8 @@
--- Steps over keys that are opened, and over those beside one.
-use Rattle.std.proofs.Common.{◌≡◌, ℕ, ◌+◌, ◌<◌, ◌≤◌, List, [], ◌∷◌, ◌++◌, true, false, Bool, length, drop, get_or, refl, sym, ap, ◌∙◌, bytes_eq, string_bytes, if◌then◌else◌}
+-- Steps over keys that are opened.
+use Rattle.std.proofs.Common.{◌≡◌, ℕ, ◌+◌, ◌<◌, ◌≤◌, List, [], ◌∷◌, ◌++◌, length, drop, get_or, refl, sym, ap, ◌∙◌, string_bytes}
 use Rattle.std.proofs.lemmas.List.{drop_all}
 use Rattle.upon_shape_spec.specs.Join.{opened, opened_keys}
-use Rattle.upon_shape_spec.specs.Shape.{Shape as SpecShape, Keys as SpecKeys, any_shape, other_keys, key_then, without}
+use Rattle.upon_shape_spec.specs.Shape.{Shape as SpecShape, Keys as SpecKeys, any_shape, other_keys, key_then}
 use Rattle.upon_shape.specs.View.{view, ahead}
 use Rattle.upon_shape.specs.declared.shape.Key.{Key}
 use Rattle.upon_shape.specs.declared.shape.Shape.{Shape}
@@ -22,35 +22,6 @@ pub open_done : (ys : List (Key Shape)) (i : ℕ) (s : SpecShape) (named : List 
     → ahead named (opened_keys (ahead (drop i ys) (other_keys s))) ≡ whole → ahead named (other_keys any_shape) ≡ whole
 open_done ys i s named whole h inv =
     ap (λ (d : List (Key Shape)). ahead named (opened_keys (ahead d (other_keys s)))) (sym (drop_all i ys h)) ∙ inv
-
--- ---- beside one
-pub beside_skipped : (name : List ℕ) (ys : List (Key Shape)) (i : ℕ) (x : Key Shape) (s : SpecShape) (named : List (Key Shape)) (whole : SpecKeys)
-    → i < length ys → x ≡ get_or ys i x → bytes_eq name (string_bytes x.name) ≡ true
-    → ahead named (without name (ahead (drop i ys) (other_keys s))) ≡ whole
-    → ahead named (without name (ahead (drop (i + 1) ys) (other_keys s))) ≡ whole
-beside_skipped name ys i x s named whole h is same inv =
-    let rest = ahead (drop (i + 1) ys) (other_keys s) in
-    ap (ahead named) (sym (ap (λ (d : List (Key Shape)). without name (ahead d (other_keys s))) (cut_before ys i x h is)
-    ∙ ap (λ (b : Bool). if b then without name rest else key_then (string_bytes x.name) x.required (view x.shape) (without name rest)) same))
-    ∙ inv
-
-pub beside_pushed : (name : List ℕ) (ys : List (Key Shape)) (i : ℕ) (x : Key Shape) (s : SpecShape) (named : List (Key Shape)) (k : Key Shape) (whole : SpecKeys)
-    → i < length ys → x ≡ get_or ys i x → bytes_eq name (string_bytes x.name) ≡ false
-    → string_bytes k.name ≡ string_bytes x.name → k.required ≡ x.required → view k.shape ≡ view x.shape
-    → ahead named (without name (ahead (drop i ys) (other_keys s))) ≡ whole
-    → ahead (named ++ k ∷ []) (without name (ahead (drop (i + 1) ys) (other_keys s))) ≡ whole
-beside_pushed name ys i x s named k whole h is other same required shape inv =
-    let rest = ahead (drop (i + 1) ys) (other_keys s) in
-    pushed named k (string_bytes x.name) x.required (view x.shape) (without name rest) (without name (ahead (drop i ys) (other_keys s)))
-    same required shape
-    (ap (λ (d : List (Key Shape)). without name (ahead d (other_keys s))) (cut_before ys i x h is)
-    ∙ ap (λ (b : Bool). if b then without name rest else key_then (string_bytes x.name) x.required (view x.shape) (without name rest)) other)
-    ∙ inv
-
-pub beside_done : (name : List ℕ) (ys : List (Key Shape)) (i : ℕ) (s : SpecShape) (named : List (Key Shape)) (whole : SpecKeys) → length ys ≤ i
-    → ahead named (without name (ahead (drop i ys) (other_keys s))) ≡ whole → ahead named (other_keys s) ≡ whole
-beside_done name ys i s named whole h inv =
-    ap (λ (d : List (Key Shape)). ahead named (without name (ahead d (other_keys s)))) (sym (drop_all i ys h)) ∙ inv
 
 -- whatever other keys have
 pub opened-others : (ks : List (Key Shape)) (s t : SpecShape) → opened_keys (ahead ks (other_keys s)) ≡ opened_keys (ahead ks (other_keys t))

@@ -1,7 +1,9 @@
 -- What a shape denotes, one level at a time.
-use Rattle.std.proofs.Common.{◌≡◌, List, [], ◌∷◌, Option, Some, None, Box, Global, map, string_bytes, refl, sym, ap, ◌∙◌, rules}
+use Rattle.std.proofs.Common.{◌≡◌, ℕ, true, List, [], ◌∷◌, Option, Some, None, Box, Global, map, string_bytes, refl, sym, ap, ◌∙◌, rules}
+use Rattle.upon_shape_spec.specs.Added.{with_entry_shape, with_item_shape}
+use Rattle.upon_shape_spec.specs.Join.{join}
 use Rattle.upon_shape_spec.specs.Shape as spec
-use Rattle.upon_shape.specs.View.{plain_view, level_keys, level, view, ahead, lists_view, maps_view}
+use Rattle.upon_shape.specs.View.{plain_view, level_keys, level, view, ahead, keys_view, lists_view, maps_view}
 use Rattle.upon_shape.specs.declared.shape.Key.{Key}
 use Rattle.upon_shape.specs.declared.shape.Keys.{Keys}
 use Rattle.upon_shape.specs.declared.shape.Plain.{Plain}
@@ -29,5 +31,19 @@ level-OneOf p (Some s) (Some ks) =
 
 pub view-OneOf : (p : Plain) (l : Option (Box Shape Global)) (m : Option (Keys Shape)) → view (OneOf p l m) ≡ spec.one_of (plain_view p) (lists_view l) (maps_view m)
 view-OneOf p l m = ap view (sym (rolls-OneOf p l m)) ∙ fold-roll-Shape spec.Shape level (Shape-F.OneOf p l m) ∙ level-OneOf p l m
+
+-- with a key of maps that is set
+pub view-with_entry : (map : Shape) (p : Plain) (l : Option (Box Shape Global)) (m : Option (Keys Shape)) (old new : Keys Shape) (name : List ℕ) (v : spec.Shape) → map ≡ OneOf p l m → m ≡ Some old
+    → keys_view new ≡ spec.key_then name true v (spec.without name (keys_view old)) → view (OneOf p l (Some new)) ≡ with_entry_shape name (view map) v
+view-with_entry map p l m old new name v is some e =
+    let seen : view map ≡ spec.one_of (plain_view p) (lists_view l) (spec.maps_of (keys_view old)) = ap view is ∙ (ap (λ k. view (OneOf p l k)) some ∙ view-OneOf p l (Some old)) in
+    view-OneOf p l (Some new) ∙ (ap (λ ks. spec.one_of (plain_view p) (lists_view l) (spec.maps_of ks)) e ∙ sym (ap (λ s. with_entry_shape name s v) seen))
+
+-- with an item more in lists
+pub view-with_item : (list : Shape) (p : Plain) (l : Option (Box Shape Global)) (m : Option (Keys Shape)) (old new : Box Shape Global) (v : spec.Shape) → list ≡ OneOf p l m → l ≡ Some old
+    → view new.value ≡ join (view old.value) v → view (OneOf p (Some new) m) ≡ with_item_shape (view list) v
+view-with_item list p l m old new v is some e =
+    let seen : view list ≡ spec.one_of (plain_view p) (spec.lists_of (view old.value)) (maps_view m) = ap view is ∙ (ap (λ k. view (OneOf p k m)) some ∙ view-OneOf p (Some old) m) in
+    view-OneOf p (Some new) m ∙ (ap (λ s. spec.one_of (plain_view p) (spec.lists_of s) (maps_view m)) e ∙ sym (ap (λ s. with_item_shape s v) seen))
 
 pub ruleset views = (view-Any, view-OneOf)

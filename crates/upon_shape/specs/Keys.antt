@@ -1,6 +1,5 @@
 -- Keys in the order in which a program goes over them.
 use Rattle.std.specs.Prelude.{ℕ, List, [], ◌∷◌, Bool, false, ◌||◌, bytes_eq, Option, Some, None, string_bytes}
-use Rattle.upon_shape_spec.specs.Join.{join}
 use Rattle.upon_shape_spec.specs.Shape.{Shape as SpecShape, any_shape, one_of, no_list, lists_of, no_map, maps_of, Keys as SpecKeys, other_keys, key_then, without}
 use Rattle.upon_shape.specs.declared.shape.Key.{Key}
 use Rattle.upon_shape.specs.declared.shape.Shape.{Shape}
@@ -16,12 +15,6 @@ abbrev pub known_items : SpecShape → Option SpecShape
 known_items any_shape = None
 known_items (one_of p no_list m) = None
 known_items (one_of p (lists_of s) m) = Some s
-
--- the shape of the items of lists, and of an item more
-abbrev pub items_with : SpecShape → SpecShape → SpecShape
-items_with t any_shape = any_shape
-items_with t (one_of p no_list m) = t
-items_with t (one_of p (lists_of s) m) = join s t
 
 -- keys, and one more after those that are named
 abbrev pub keys_and : List ℕ → Bool → SpecShape → SpecKeys → SpecKeys

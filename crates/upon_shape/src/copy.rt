@@ -1,6 +1,6 @@
 // Copies of shapes.
 ghost use Rattle.std.specs.Prelude.{◌≡◌, IfOk};
-ghost use Rattle.upon_shape.specs.View.{view, lists_view, maps_view};
+ghost use Rattle.upon_shape.specs.View.{view, keys_view, lists_view, maps_view};
 
 use crate::shape::{Key, Keys, Shape};
 use std::alloc::{AllocError, Global};
@@ -13,15 +13,45 @@ impl Shape {
     {
         match self {
             Shape::Any => Ok(Shape::Any),
-            Shape::OneOf { plain, items, keys } => Ok(Shape::OneOf {
-                plain: *plain,
-                items: copy_of_items(alloc, items)?,
-                keys: copy_of_maps(alloc, keys)?,
-            }),
+            Shape::OneOf { plain, items, keys } => match keys {
+                None => Ok(Shape::OneOf {
+                    plain: *plain,
+                    items: copy_of_items(alloc, items)?,
+                    keys: None,
+                }),
+                Some(keys) => Ok(Shape::OneOf {
+                    plain: *plain,
+                    items: copy_of_items(alloc, items)?,
+                    keys: Some(keys.try_clone(alloc)?),
+                }),
+            },
         }
     }
 }
 
+impl Keys<Shape> {
+    /// Returns a copy that shares nothing with these keys. It fails if there is no memory for the copy.
+    #[cycle(copy)]
+    pub fn try_clone(&self, alloc: Global) -> Result<Keys<Shape>, AllocError>
+        ensures { IfOk result (λ ks. keys_view ks ≡ keys_view self.now) }
+    {
+        let mut named = Vec::with_capacity(alloc, self.named.len())?;
+        for key in &self.named {
+            named.push(Key {
+                name: key.name.clone()?,
+                required: key.required,
+                shape: key.shape.try_clone(alloc)?,
+            })?;
+        }
+        let others = self.others.try_clone(alloc)?;
+        Ok(Keys {
+            named,
+            others: Box::new(alloc, others)?,
+        })
+    }
+}
+
+// Returns a copy of the shape of items, if there may be lists.
 #[cycle(copy)]
 pub(crate) fn copy_of_items(
     alloc: Global,
@@ -35,27 +65,15 @@ pub(crate) fn copy_of_items(
     }
 }
 
-#[cycle(copy)]
+// Returns a copy of the keys of maps, if there may be maps.
 pub(crate) fn copy_of_maps(
     alloc: Global,
     maps: &Option<Keys<Shape>>,
 ) -> Result<Option<Keys<Shape>>, AllocError>
     ensures { IfOk result (λ copy. maps_view copy ≡ maps_view maps.now) }
 {
-    let Some(keys) = maps else {
-        return Ok(None);
-    };
-    let mut named = Vec::with_capacity(alloc, keys.named.len())?;
-    for key in &keys.named {
-        named.push(Key {
-            name: key.name.clone()?,
-            required: key.required,
-            shape: key.shape.try_clone(alloc)?,
-        })?;
+    match maps {
+        None => Ok(None),
+        Some(keys) => Ok(Some(keys.try_clone(alloc)?)),
     }
-    let others = keys.others.try_clone(alloc)?;
-    Ok(Some(Keys {
-        named,
-        others: Box::new(alloc, others)?,
-    }))
 }

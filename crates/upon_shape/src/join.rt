@@ -1,9 +1,10 @@
 // The shape of what has one of two shapes.
 ghost use Rattle.std.specs.Prelude.{◌≡◌, IfOk, OnOk};
-ghost use Rattle.upon_shape_spec.specs.Shape.{list_of, other_keys};
+ghost use Rattle.upon_shape_spec.specs.Added.{with_item_shape};
+ghost use Rattle.upon_shape_spec.specs.Shape.{other_keys};
 ghost use Rattle.upon_shape_spec.specs.Join.{joined_others, join, join_lists, join_maps};
 ghost use Rattle.upon_shape.specs.View.{view, keys_view, lists_view, maps_view, ahead};
-ghost use Rattle.upon_shape.specs.Keys.{items_with, without_each};
+ghost use Rattle.upon_shape.specs.Keys.{without_each};
 
 use crate::copy::{copy_of_items, copy_of_maps};
 use crate::keys::{at_beside, is_named};
@@ -33,18 +34,27 @@ impl Shape {
         }
     }
 
-    /// Returns the shape of lists of this shape with an item more, of another shape. It fails if there is no memory for
-    /// it.
-    pub fn with_item(&self, alloc: Global, item: &Shape) -> Result<Shape, AllocError>
-        ensures { IfOk result (λ s. view s ≡ list_of (items_with (view item.now) (view self.now))) }
+    /// Returns the shape of its values, where lists have one more item at their ends, of another shape. It fails if
+    /// there is no memory for it.
+    pub fn with_item(self, alloc: Global, item: &Shape) -> Result<Shape, AllocError>
+        ensures { IfOk result (λ s. view s ≡ with_item_shape (view self) (view item.now)) }
     {
-        match self {
-            Shape::Any => Shape::list_of(alloc, Shape::Any),
-            Shape::OneOf { items, .. } => match items {
-                None => Shape::list_of(alloc, item.try_clone(alloc)?),
-                Some(shape) => Shape::list_of(alloc, shape.join(alloc, item)?),
-            },
-        }
+        let Shape::OneOf { plain, items, keys } = self else {
+            return Ok(Shape::Any);
+        };
+        let Some(items) = items else {
+            return Ok(Shape::OneOf {
+                plain,
+                items: None,
+                keys,
+            });
+        };
+        let joined = items.join(alloc, item)?;
+        Ok(Shape::OneOf {
+            plain,
+            items: Some(Box::new(alloc, joined)?),
+            keys,
+        })
     }
 }
 

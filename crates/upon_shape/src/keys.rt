@@ -1,11 +1,12 @@
 // What is known of a key.
-ghost use Rattle.std.specs.Prelude.{◌≡◌, true, IfOk, OnOk, option_map};
-ghost use Rattle.upon_shape_spec.specs.Shape.{other_keys, key_then, at_key, without};
-ghost use Rattle.upon_shape.specs.View.{view, keys_view, known_view, ahead};
+ghost use Rattle.std.specs.Prelude.{◌≡◌, true, IfOk, option_map, string_bytes};
+ghost use Rattle.upon_shape_spec.specs.Added.{with_entry_shape};
+ghost use Rattle.upon_shape_spec.specs.Shape.{key_then, at_key, without};
+ghost use Rattle.upon_shape.specs.View.{view, keys_view, known_view};
 ghost use Rattle.upon_shape.specs.Keys.{known_keys, known_items, is_among, without_each};
 
 use crate::shape::{Key, Keys, Shape};
-use std::alloc::{AllocError, Global};
+use std::alloc::AllocError;
 
 /// What is known of a key: whether a map must have it, and the shape of what is there.
 #[derive(Clone, Copy)]
@@ -39,6 +40,28 @@ impl Shape {
             },
         }
     }
+
+    /// Returns the shape of its values, where maps have a key set to what has another shape. It fails if there is no
+    /// memory for it.
+    pub fn with_entry(self, name: String, value: Shape) -> Result<Shape, AllocError>
+        ensures { IfOk result (λ s. view s ≡ with_entry_shape (string_bytes name) (view self) (view value)) }
+    {
+        let Shape::OneOf { plain, items, keys } = self else {
+            return Ok(Shape::Any);
+        };
+        let Some(keys) = keys else {
+            return Ok(Shape::OneOf {
+                plain,
+                items,
+                keys: None,
+            });
+        };
+        Ok(Shape::OneOf {
+            plain,
+            items,
+            keys: Some(keys.with_entry(name, value)?),
+        })
+    }
 }
 
 impl Keys<Shape> {
@@ -60,52 +83,24 @@ impl Keys<Shape> {
         }
     }
 
-    /// Returns the keys of maps in which a key is set to what has a shape. It fails if there is no memory for them.
-    pub fn with_entry(
-        &self,
-        alloc: Global,
-        name: &str,
-        shape: Shape,
-    ) -> Result<Keys<Shape>, AllocError>
+    /// Returns the keys of maps in which a key is set to what has a shape: it is ahead of the others, in place of what
+    /// was known of it. It fails if there is no memory for it.
+    pub fn with_entry(self, name: String, shape: Shape) -> Result<Keys<Shape>, AllocError>
         ensures { IfOk result
-            (λ ks. keys_view ks ≡ key_then name.now true (view shape) (without name.now (keys_view self.now))) }
+            (λ ks. keys_view ks ≡ key_then (string_bytes name) true (view shape)
+            (without (string_bytes name) (keys_view self))) }
     {
-        let mut named = Vec::with_capacity(alloc, self.named.len())?;
-        named.push(Key {
-            name: String::from_str(alloc, name)?,
-            required: true,
-            shape,
-        })?;
-        self.copy_beside(alloc, name, &mut named)?;
-        let others = self.others.try_clone(alloc)?;
-        Ok(Keys {
-            named,
-            others: Box::new(alloc, others)?,
-        })
-    }
-
-    // Appends copies of the keys beside one.
-    fn copy_beside(
-        &self,
-        alloc: Global,
-        name: &str,
-        named: &mut Vec<Key<Shape>>,
-    ) -> Result<(), AllocError>
-        ensures { OnOk result
-            (ahead named.new.items (other_keys (view self.now.others.value))
-            ≡ ahead named.old.items (without name.now (keys_view self.now))) }
-    {
-        for key in &self.named {
-            if name == key.name.as_str() {
-                continue;
-            }
-            named.push(Key {
-                name: key.name.clone()?,
-                required: key.required,
-                shape: key.shape.try_clone(alloc)?,
-            })?;
-        }
-        Ok(())
+        let Keys { mut named, others } = self;
+        named.retain(|key| name.as_str() != key.name.as_str());
+        named.insert(
+            0,
+            Key {
+                name,
+                required: true,
+                shape,
+            },
+        )?;
+        Ok(Keys { named, others })
     }
 }
 

@@ -2,6 +2,7 @@
 #![tactic(auto, using(crate::proofs::ShapeViews::views))]
 
 pub mod copy;
+pub mod depth;
 pub mod join;
 pub mod keys;
 pub mod of;

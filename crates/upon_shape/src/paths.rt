@@ -80,7 +80,8 @@ impl Shape {
             Access::Index(_) => self.try_clone(alloc),
             Access::Key(word) => {
                 let shape = keys.at(&word.name).shape.narrowed(alloc, rest)?;
-                Ok(Shape::map_of(keys.with_entry(alloc, &word.name, shape)?))
+                let name = word.name.clone()?;
+                Ok(Shape::map_of(keys.try_clone(alloc)?.with_entry(name, shape)?))
             }
         }
     }

@@ -1,6 +1,8 @@
 pub mod Shape
 pub mod Fits
 pub mod Join
+pub mod Added
+pub mod Depth
 pub mod Wider
 pub mod Found
 pub mod Paths

@@ -1,6 +1,6 @@
 // Ten thousand generated templates, each on the shape of three samples: one that is accepted is rendered on each of these.
 use crate::data::{Kind, Random, add_map, value_of};
-use crate::said::{engine_of, said_by};
+use crate::said::{depth_of, engine_of, said_by};
 use crate::texts::Writer;
 use std::alloc::{AllocError, Global};
 use std::test::Fail;
@@ -70,6 +70,20 @@ fn outcome_of(alloc: Global, engine: &Engine<'_>, samples: &[Value]) -> Result<O
     })
 }
 
+// Whether a rendering fails, for whatever reason, where includes may be just as deep as is said to suffice.
+fn fails_within(alloc: Global, engine: &mut Engine<'_>, samples: &[Value]) -> Result<bool, AllocError> {
+    let shape = Shape::of_samples(alloc, samples)?;
+    let Some(depth) = depth_of(alloc, engine, &shape)? else {
+        return Ok(false);
+    };
+    engine.set_max_include_depth(depth);
+    let mut fails = false;
+    for sample in samples {
+        fails |= !matches!(engine.render_template("main", sample), Some(Ok(_)));
+    }
+    Ok(fails)
+}
+
 #[test]
 fn accepted_ones_end_well(rt: HostRuntime) -> Result<(), Fail> {
     let alloc = rt.alloc();
@@ -82,12 +96,15 @@ fn accepted_ones_end_well(rt: HostRuntime) -> Result<(), Fail> {
         let main = text_of(alloc, random, &kinds, root, 2)?;
         random.below(2);
         let other = text_of(alloc, random, &kinds, root, 1)?;
-        let Some(engine) = engine_of(alloc, &main, &other)? else {
+        let Some(mut engine) = engine_of(alloc, &main, &other)? else {
             return Err(Fail::new(format_args!("no template: {main} {other}")));
         };
         let outcome = outcome_of(alloc, &engine, &samples)?;
         if outcome.is_accepted && outcome.has_failed {
             return Err(Fail::new(format_args!("accepted, and fails: {main} | {other}")));
+        }
+        if outcome.is_accepted && fails_within(alloc, &mut engine, &samples)? {
+            return Err(Fail::new(format_args!("ends within a depth, and fails: {main} | {other}")));
         }
         accepted += outcome.is_accepted as usize;
         refused += (!outcome.is_accepted && !outcome.has_failed) as usize;

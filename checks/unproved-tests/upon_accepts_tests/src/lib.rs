@@ -5,6 +5,8 @@
 #[cfg(test)]
 mod data;
 #[cfg(test)]
+mod depths;
+#[cfg(test)]
 mod generated;
 #[cfg(test)]
 mod page;

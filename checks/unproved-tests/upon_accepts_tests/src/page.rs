@@ -3,6 +3,7 @@ use std::alloc::{AllocError, Global};
 use std::borrow::CowStr;
 use std::test::Fail;
 use upon::{Engine, Value};
+use upon_accepts::accepted::Accepted;
 use upon_accepts::accepts::accepts;
 use upon_accepts::refusal::Refusal;
 use upon_checked::declared::Declared;
@@ -17,7 +18,8 @@ fn is_sure(
     let shape = Shape::of_samples(alloc, samples)?;
     let declared = Declared::new(alloc, Shape::shown());
     match accepts(alloc, engine, &declared, name, &shape) {
-        Ok(()) => Ok(true),
+        Ok(Accepted::EndsWithin(depth)) => Ok(depth <= 64),
+        Ok(Accepted::EndsUnlessDeep) => Ok(false),
         Err(Refusal::Memory(error)) => Err(error),
         Err(_) => Ok(false),
     }

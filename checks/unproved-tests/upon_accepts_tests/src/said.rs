@@ -2,6 +2,7 @@
 use std::alloc::{AllocError, Global};
 use std::borrow::CowStr;
 use upon::{Engine, Value};
+use upon_accepts::accepted::Accepted;
 use upon_accepts::accepts::accepts;
 use upon_accepts::refusal::{Misfit, Refusal};
 use upon_checked::declared::Declared;
@@ -50,8 +51,23 @@ fn refusal_said(alloc: Global, refusal: Refusal<'_>) -> Result<String, AllocErro
 pub fn said_by(alloc: Global, engine: &Engine<'_>, shape: &Shape) -> Result<String, AllocError> {
     let declared = Declared::new(alloc, Shape::shown());
     match accepts(alloc, engine, &declared, "main", shape) {
-        Ok(()) => String::from_str(alloc, "accepted"),
+        Ok(_) => String::from_str(alloc, "accepted"),
         Err(refusal) => refusal_said(alloc, refusal),
+    }
+}
+
+/// Returns the depth within which the template `main` ends on a shape, if it is accepted and one is known.
+pub fn depth_of(
+    alloc: Global,
+    engine: &Engine<'_>,
+    shape: &Shape,
+) -> Result<Option<usize>, AllocError> {
+    let declared = Declared::new(alloc, Shape::shown());
+    match accepts(alloc, engine, &declared, "main", shape) {
+        Ok(Accepted::EndsWithin(depth)) => Ok(Some(depth)),
+        Ok(Accepted::EndsUnlessDeep) => Ok(None),
+        Err(Refusal::Memory(error)) => Err(error),
+        Err(_) => Ok(None),
     }
 }
 

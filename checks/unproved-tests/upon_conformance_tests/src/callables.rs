@@ -1,4 +1,4 @@
-// The functions and formatters of the cases, by their names (docs/CONFORMANCE.md).
+// The functions and formatters of the cases, by their names (docs/contributing/CONFORMANCE.md).
 ghost use Rattle.upon_conformance_tests.specs.Callables.{none_given, paired};
 
 use std::alloc::{AllocError, Global};

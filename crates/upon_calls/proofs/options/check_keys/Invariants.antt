@@ -5,4 +5,4 @@ use Rattle.upon_calls.proofs.options.check_keys.Given as goal
 
 -- if the keys that are left are options', all are
 abbrev pub invariant-loop-key : goal.invariant-loop-key
-invariant-loop-key l = are_keys (entries_view l.initial.key-iterator) ≡ are_keys (entries_view l.key-iterator)
+invariant-loop-key l = are_keys l.known (entries_view l.initial.key-iterator) ≡ are_keys l.known (entries_view l.key-iterator)

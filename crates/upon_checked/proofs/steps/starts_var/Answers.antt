@@ -11,8 +11,8 @@ returns c = λ number d inc.
     let path = c.args.path.now in
     let old = known_view c.args.known.now in
     let shape = path_shape (scope_view c.args.known.now.scope) (first_member path) (rest_members path) in (
-      c.in_ok-doubt.ensures,
+      c.parts-found.ensures.doubts ∙ c.in_ok-path_found.ensures.doubts,
       c.in_ok-push.ensures
-          ∙ (ap (λ s. with_operand (known_operand s c.span.result (Some (path_view path))) old) c.in_ok-shape.ensures
+          ∙ (ap (λ s. with_operand (known_operand s c.span.result (Some (path_view path))) old) (c.parts-found.ensures.shape ∙ c.in_ok-path_found.ensures.shape)
           ∙ ap (λ at. with_operand (known_operand shape at (Some (path_view path))) old) c.span.ensures),
     )

@@ -20,8 +20,7 @@ returns-in_ok-inside-in-None-clause-narrowed c =
     c.in-None.ensures.0 c.in-None.ensures.1
     (ap view c.replace.ensures.after
     ∙ (c.in_ok-inside-in-None.ensures
-    ∙ (ap (λ (l : List Member). narrowed (map member_of l) (view c.in_ok-try_clone-in-None.field-0)) c.deref-in-None.ensures.value
-    ∙ ap (narrowed (map member_of c.args.path.now.path.items)) c.in_ok-try_clone-in-None.ensures)))
+    ∙ ap (λ (l : List Member). narrowed (map member_of l) (view c.args.scope.now.root)) c.deref-in-None.ensures.value))
 
 pub returns-in_ok-inside-in-Some-clause-narrowed : goal.returns-in_ok-inside-in-Some-clause-narrowed
 returns-in_ok-inside-in-Some-clause-narrowed c =

@@ -64,10 +64,10 @@ pub returns-in_ok-starts_map-in-ExprStartMap : goal.returns-in_ok-starts_map-in-
 returns-in_ok-starts_map-in-ExprStartMap c = at_instr (declared_view c.args.declared.now) (is_planned (plan_view c.args.plan.now)) c.args.number (known_view c.args.known.now) c.args.instr.now _ _ _ c.in-ExprStartMap.is (c.in_ok-starts_map-in-ExprStartMap.ensures c.args.number (declared_view c.args.declared.now) (is_planned (plan_view c.args.plan.now)))
 
 pub returns-in-ExprListPush : goal.returns-in-ExprListPush
-returns-in-ExprListPush c = if_ok_map c.puts_item.result (λ ds h. at_instr (declared_view c.args.declared.now) (is_planned (plan_view c.args.plan.now)) c.args.number (known_view c.args.known.now) c.args.instr.now _ _ _ c.in-ExprListPush.is (h c.args.number (declared_view c.args.declared.now) (is_planned (plan_view c.args.plan.now)))) c.puts_item.ensures
+returns-in-ExprListPush c = if_ok_map c.puts.result (λ ds h. at_instr (declared_view c.args.declared.now) (is_planned (plan_view c.args.plan.now)) c.args.number (known_view c.args.known.now) c.args.instr.now _ _ _ c.in-ExprListPush.is (h c.args.number (declared_view c.args.declared.now) (is_planned (plan_view c.args.plan.now)))) c.puts.ensures
 
 pub returns-in-ExprMapInsert : goal.returns-in-ExprMapInsert
-returns-in-ExprMapInsert c = if_ok_map c.puts_entry.result (λ ds h. at_instr (declared_view c.args.declared.now) (is_planned (plan_view c.args.plan.now)) c.args.number (known_view c.args.known.now) c.args.instr.now _ _ _ c.in-ExprMapInsert.is (h c.args.number (declared_view c.args.declared.now) (is_planned (plan_view c.args.plan.now)))) c.puts_entry.ensures
+returns-in-ExprMapInsert c = if_ok_map c.puts-in-ExprMapInsert.result (λ ds h. at_instr (declared_view c.args.declared.now) (is_planned (plan_view c.args.plan.now)) c.args.number (known_view c.args.known.now) c.args.instr.now _ _ _ c.in-ExprMapInsert.is (h c.args.number (declared_view c.args.declared.now) (is_planned (plan_view c.args.plan.now)))) c.puts-in-ExprMapInsert.ensures
 
 pub returns-in_ok-applies-in-Apply : goal.returns-in_ok-applies-in-Apply
 returns-in_ok-applies-in-Apply c = at_instr (declared_view c.args.declared.now) (is_planned (plan_view c.args.plan.now)) c.args.number (known_view c.args.known.now) c.args.instr.now _ _ _ c.in-Apply.is (c.in_ok-applies-in-Apply.ensures c.args.number (is_planned (plan_view c.args.plan.now)))

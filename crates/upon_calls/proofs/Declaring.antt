@@ -1,0 +1,106 @@
+-- What is declared of callables and of how values are written, which an engine keeps.
+use Rattle.std.proofs.Common.{◌≡◌, ◌∙◌, ℕ, List, [], ◌∷◌, Bool, true, false, cond, Option, Some, None, Result, Ok, Err, IfOk, codes, bytes_eq, refl, sym, ap, subst}
+use Rattle.std.specs.Map.{update}
+use Rattle.upon_types.specs.Answers.{Callable, formatter, function, well}
+use Rattle.upon_types.specs.Val.{Val, none_val, bool_val, int_val, text_val, list_val, map_val}
+use Rattle.upon_meaning_spec.specs.DefaultFormat.{default_format, formatter_or_default}
+use Rattle.upon_shape_spec.specs.Declared.{CallableKeeps, Declared, DeclaredCallable, FormatsEach, KeepsDeclared, formats}
+use Rattle.upon_shape_spec.specs.Fits.{Fits}
+use Rattle.upon_shape_spec.specs.Shape.{Shape, plain, plain_shape, shown}
+use Rattle.upon_checked.specs.Callables.{declared_view}
+use Rattle.upon_checked.specs.declared.declared.Declared.{Declared as DeclaredCode}
+use Rattle.upon_engine.specs.Changes.{with_callable, with_depth, with_syntax, with_text}
+use Rattle.upon_engine.specs.Texts.{Texts}
+use Rattle.upon_std.specs.Table.{standard_answer, standard_name}
+use Rattle.upon_std.specs.declared.table.StandardFunction.{StandardFunction}
+use Rattle.upon_std_shapes.specs.Tables.{with_all_added, with_all_declared}
+use Rattle.upon_std_shapes.proofs.Added.{all_added_kept}
+use Rattle.upon_quote.specs.Shell.{shell_escape_of}
+use Rattle.upon_quote.specs.Tokens.{shell_format, word_of, word_once}
+use Rattle.upon_quote.proofs.PlainDefaults.{NotText, no_nul_default}
+use Rattle.upon_quote.proofs.ShellLemmas.{shell_leaves}
+use Rattle.upon_calls.specs.Asked.{Asked}
+use Rattle.upon_calls.specs.Escaping.{written_shape}
+use Rattle.upon_calls.specs.Filled.{engine_for, escaping_engine, filled, functions_if, with_functions, with_sources}
+use Rattle.upon_calls.specs.declared.escaping.Language.{Language}
+use Rattle.upon_calls.specs.declared.escaping.Language.TheVariants.{Html, Json, Shell, Yaml}
+
+-- ---- values that are written
+shown_well : (v : Val) → Fits shown v → (default_format v).end ≡ well
+shown_well none_val fits = refl
+shown_well (bool_val b) fits = refl
+shown_well (int_val n) fits = refl
+shown_well (text_val text) fits = refl
+shown_well (list_val vs) fits = absurd fits
+shown_well (map_val es) fits = absurd fits
+
+word_well : (v : Val) → NotText v → (default_format v).end ≡ well → (shell_format v).end ≡ well
+word_well v not is =
+    ap (λ end. (word_once (default_format v).text end).end) is
+    ∙ ap (λ b. (word_of b (default_format v).text).end) (no_nul_default shell_escape_of shell_leaves v not)
+
+shell_well : (v : Val) → Fits (plain_shape (plain true true true false)) v → (shell_format v).end ≡ well
+shell_well none_val fits = word_well none_val tt refl
+shell_well (bool_val b) fits = word_well (bool_val b) tt refl
+shell_well (int_val n) fits = word_well (int_val n) tt refl
+shell_well (text_val text) fits = let no : false ≡ true = fits in absurd cc
+shell_well (list_val vs) fits = absurd fits
+shell_well (map_val es) fits = absurd fits
+
+formats_written : (escape : Option Language) → FormatsEach (formatter_or_default (escaping_engine escape).default_formatter) (written_shape escape)
+formats_written None v fits = shown_well v fits
+formats_written (Some Html) v fits = shown_well v fits
+formats_written (Some Json) v fits = shown_well v fits
+formats_written (Some Shell) v fits = shell_well v fits
+formats_written (Some Yaml) v fits = shown_well v fits
+
+-- ---- callables
+one_keeps : (b : Bool) (d : Option DeclaredCallable) (c : Option Callable) → CallableKeeps d c → CallableKeeps (cond b (Some (formats shown)) d) (cond b (Some (formatter default_format)) c)
+one_keeps true d c keeps = shown_well
+one_keeps false d c keeps = keeps
+
+-- and then of `verbatim`
+verbatim_added : (old new : List ℕ → Option DeclaredCallable) (name : List ℕ) (s : Shape) → ((other : List ℕ) → old other ≡ None) → name ≡ codes "verbatim" → s ≡ shown
+    → ((other : List ℕ) → new other ≡ update bytes_eq old name (Some (formats s)) other) → (language : Language) (other : List ℕ) → CallableKeeps (new other) ((escaping_engine (Some language)).callables other)
+verbatim_added old new name s none named is added language other =
+    subst (λ d. CallableKeeps d ((escaping_engine (Some language)).callables other)) (sym (added other ∙ (λ i. update bytes_eq old (named i) (Some (formats (is i))) other)))
+    (one_keeps (bytes_eq (codes "verbatim") other) (old other) None (subst (λ d. CallableKeeps d None) (sym (none other)) tt))
+
+pub verbatim_keeps : (old new : List ℕ → Option DeclaredCallable) (name : List ℕ) (s : Shape) → ((other : List ℕ) → old other ≡ None) → name ≡ codes "verbatim" → s ≡ shown
+    → ((other : List ℕ) → new other ≡ update bytes_eq old name (Some (formats s)) other) → (escape : Option Language) → (escape ≡ None → ⊥) → (other : List ℕ) → CallableKeeps (new other) ((escaping_engine escape).callables other)
+verbatim_keeps old new name s none named is added None some = absurd (some refl)
+verbatim_keeps old new name s none named is added (Some language) some = verbatim_added old new name s none named is added language
+
+-- ---- an engine, as a call fills it
+functions_default : (functions : List StandardFunction) (e : Texts) → (with_functions functions e).default_formatter ≡ e.default_formatter
+functions_default [] e = refl
+functions_default (f ∷ fs) e = functions_default fs (with_callable (standard_name f) (function (standard_answer f)) e)
+
+pub begun_formats : (declared : Declared) (asked : Asked) → declared.default_formats ≡ written_shape asked.escape → FormatsEach (formatter_or_default (engine_for asked).default_formatter) declared.default_formats
+begun_formats declared asked is =
+    subst (λ f. FormatsEach (formatter_or_default f) declared.default_formats) (sym (functions_default (functions_if asked.functions) (with_depth asked.depth (with_syntax asked.delimiters (escaping_engine asked.escape)))))
+    (subst (FormatsEach (formatter_or_default (escaping_engine asked.escape).default_formatter)) (sym is) (formats_written asked.escape))
+
+-- its templates change nothing of that
+sources_keep : (declared : Declared) (sources : List (List ℕ × List ℕ)) (e : Texts) → KeepsDeclared declared e.callables (formatter_or_default e.default_formatter) → KeepsDeclared declared (with_sources sources e).callables (formatter_or_default (with_sources sources e).default_formatter)
+sources_keep declared [] e keeps = keeps
+sources_keep declared (s ∷ ss) e keeps = sources_keep declared ss (with_text s.0 s.1 e) keeps
+
+pub filled_keeps : (declared : Declared) (asked : Asked) (sources : List (List ℕ × List ℕ)) → KeepsDeclared declared (engine_for asked).callables (formatter_or_default (engine_for asked).default_formatter)
+    → KeepsDeclared declared (filled asked sources).callables (formatter_or_default (filled asked sources).default_formatter)
+filled_keeps declared asked sources keeps = sources_keep declared sources (engine_for asked) keeps
+
+-- functions are added to what is called
+functions_called : (functions : List StandardFunction) (e : Texts) → (with_functions functions e).callables ≡ with_all_added functions e.callables
+functions_called [] e = refl
+functions_called (f ∷ fs) e = functions_called fs (with_callable (standard_name f) (function (standard_answer f)) e)
+
+-- and declared, so that all that is declared is kept
+pub all_keep : (old new : Declared) (asked : Asked) → ((name : List ℕ) → CallableKeeps (old.callables name) ((escaping_engine asked.escape).callables name)) → old.default_formats ≡ written_shape asked.escape
+    → ((name : List ℕ) → new.callables name ≡ with_all_declared (functions_if asked.functions) old.callables name) → new.default_formats ≡ old.default_formats
+    → KeepsDeclared new (engine_for asked).callables (formatter_or_default (engine_for asked).default_formatter)
+all_keep old new asked keeps is declared same =
+    subst (λ callables. KeepsDeclared new callables (formatter_or_default (engine_for asked).default_formatter))
+    (sym (functions_called (functions_if asked.functions) (with_depth asked.depth (with_syntax asked.delimiters (escaping_engine asked.escape)))))
+    (all_added_kept (functions_if asked.functions) old new (escaping_engine asked.escape).callables (formatter_or_default (engine_for asked).default_formatter) declared same
+    (record { each = keeps; default_formatter = begun_formats old asked is }))

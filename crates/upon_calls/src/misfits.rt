@@ -1,0 +1,58 @@
+// Whether pages are accepted on a shape, and the pictures of where they may fail.
+ghost use Rattle.std.specs.Prelude.{◌≡◌, [], IfErr, IfOk, OnOk, string_bytes};
+ghost use Rattle.upon_shape.specs.View.{view};
+ghost use Rattle.upon_checked.specs.Callables.{declared_view};
+ghost use Rattle.upon_accepts.specs.EndsOn.{EndsOn};
+ghost use Rattle.upon_calls.specs.Work.{PagesFit};
+ghost use Rattle.upon_calls.specs.declared.failure.Failure.TheVariants.{OutOfMemory};
+
+use crate::failure::Failure;
+use crate::work::Pages;
+use std::alloc::{AllocError, Global};
+use upon::{AnyEngine, Engine, EngineTexts};
+use upon_accepts::accepts::accepts;
+use upon_misfits::pictures::{Pictures, show_refusal};
+use upon_misfits::reasons::Known;
+use upon_shape::shape::Shape;
+
+/// Returns the pictures of where pages may fail on values of a shape, of at most a hundred places. The text is empty if
+/// they may not, but that includes may be too deep one inside another.
+pub(crate) fn misfits<'w>(
+    alloc: Global,
+    engine: &'w Engine<'_>,
+    pages: Pages<'w>,
+) -> Result<String, Failure>
+    ensures fits { IfOk result
+        (λ text. string_bytes text ≡ [] → PagesFit (⟦<AnyEngine as EngineTexts>⟧.texts engine.now) pages.entry) }
+    ensures memory { IfErr result (λ f. f ≡ OutOfMemory) }
+{
+    let Pages {
+        names,
+        declared,
+        shape,
+    } = pages;
+    let mut pictures = Pictures::new(alloc);
+    let known = Known { engine, declared };
+    for name in names {
+        show_page(alloc, &known, name, shape, &mut pictures)?;
+    }
+    Ok(pictures.text)
+}
+
+// Shows why a page is not accepted, unless it is.
+fn show_page(
+    alloc: Global,
+    known: &Known<'_, '_>,
+    name: &str,
+    shape: &Shape,
+    pictures: &mut Pictures,
+) -> Result<(), AllocError>
+    ensures { OnOk result (string_bytes pictures.new.text ≡ [] → (string_bytes pictures.old.text ≡ [])
+        × EndsOn (⟦<AnyEngine as EngineTexts>⟧.texts known.now.engine.now) (declared_view known.now.declared.now)
+        name.now (view shape.now)) }
+{
+    match accepts(alloc, known.engine, known.declared, name, shape) {
+        Ok(_) => Ok(()),
+        Err(refusal) => show_refusal(alloc, known, refusal, pictures),
+    }
+}

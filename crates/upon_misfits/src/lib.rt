@@ -1,0 +1,6 @@
+// What is said of places where a template may fail on values of a shape: one line, the same for each user of `accepts`.
+#![tactic(auto)]
+
+pub mod pictures;
+pub mod reasons;
+pub mod told;

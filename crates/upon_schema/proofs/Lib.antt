@@ -1,0 +1,11 @@
+pub mod Views
+pub mod Fitting
+pub mod TypeShapes
+pub mod KeptKinds
+pub mod KeySteps
+pub mod Schemas
+pub mod Spellings
+pub mod Writing
+pub mod SchemaEntries
+pub mod KindNames
+pub mod SchemaLaws

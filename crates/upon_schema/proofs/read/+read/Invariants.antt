@@ -1,0 +1,29 @@
+use Rattle.std.proofs.Common.{◌+◌, ◌*◌}
+use Rattle.upon_types.specs.View.{view, vals_view, entries_view}
+use Rattle.upon_schema.specs.Place.{ValidAt}
+use Rattle.upon_schema.specs.Valid.{properties_of}
+use Rattle.upon_schema.proofs.KeySteps.{ReadsAhead}
+use Rattle.upon_schema.proofs.read.+read.Given as goal
+
+abbrev pub decreases-read : goal.decreases-read
+decreases-read l = 4 * l.place.now.depth
+
+abbrev pub decreases-referred_shape : goal.decreases-referred_shape
+decreases-referred_shape l = 4 * l.place.now.depth + 1
+
+abbrev pub decreases-keywords_shape : goal.decreases-keywords_shape
+decreases-keywords_shape l = 4 * l.place.now.depth + 3
+
+abbrev pub decreases-shape_at : goal.decreases-shape_at
+decreases-shape_at l = 4 * l.place.now.depth + 1
+
+abbrev pub decreases-keys_of : goal.decreases-keys_of
+decreases-keys_of l = 4 * l.place.now.depth + 2
+
+abbrev pub decreases-properties : goal.decreases-properties
+decreases-properties l = 4 * l.place.now.depth + 1
+
+-- the keys so far lead to what is said of the properties to come
+abbrev pub invariant-properties-loop-name : goal.invariant-properties-loop-name
+invariant-properties-loop-name l =
+    ReadsAhead (ValidAt l.place) (properties_of (view l.schema)) (vals_view l.required) (entries_view l.name-iterator) l.named.items

@@ -1,0 +1,95 @@
+// Why a value is no schema that can be read, and where.
+use std::alloc::{AllocError, AllocFailed, Global};
+use std::fmt;
+
+/// Why a value is no schema that can be read. `{}` writes it in a line.
+///
+/// A path leads from the whole schema to the place by keywords and keys, as `/properties/a/type`: in a key `~` is
+/// spelled `~0`, and `/` is `~1`. Behind `$ref` it goes on in the definition. That of the whole schema is empty.
+#[derive(Debug, Drop)]
+pub enum SchemaFault {
+    /// The keyword at this path is not known.
+    UnknownKeyword(String),
+    /// What is at this path is of the wrong kind, or no name of a type.
+    WrongValue(String),
+    /// The reference at this path is to no definition of the schema.
+    NoDefinition(String),
+    /// Schemas lie more than 128 deep one inside another, through references too.
+    TooDeep,
+    /// More than 65,536 schemas are to be read: those behind a reference count once for each.
+    TooLarge,
+    /// There was no memory.
+    OutOfMemory,
+}
+
+impl From<AllocError> for SchemaFault {
+    fn from(_: AllocError) -> SchemaFault {
+        SchemaFault::OutOfMemory
+    }
+}
+
+impl<T: Drop> From<AllocFailed<T>> for SchemaFault {
+    fn from(_: AllocFailed<T>) -> SchemaFault {
+        SchemaFault::OutOfMemory
+    }
+}
+
+impl SchemaFault {
+    // A value of the wrong kind at a keyword.
+    pub(crate) fn wrong_value(alloc: Global, keyword: &str) -> SchemaFault {
+        SchemaFault::WrongValue(String::new(alloc)).inside(alloc, keyword)
+    }
+
+    // The fault as one of the schema around, in which this one is at a keyword or a key.
+    pub(crate) fn inside(self, alloc: Global, step: &str) -> SchemaFault {
+        match self.moved(alloc, step) {
+            Ok(fault) => fault,
+            Err(_) => SchemaFault::OutOfMemory,
+        }
+    }
+
+    // The same, if there is memory for the path.
+    fn moved(self, alloc: Global, step: &str) -> Result<SchemaFault, AllocError> {
+        Ok(match self {
+            SchemaFault::UnknownKeyword(path) => {
+                SchemaFault::UnknownKeyword(longer(alloc, step, &path)?)
+            }
+            SchemaFault::WrongValue(path) => SchemaFault::WrongValue(longer(alloc, step, &path)?),
+            SchemaFault::NoDefinition(path) => {
+                SchemaFault::NoDefinition(longer(alloc, step, &path)?)
+            }
+            SchemaFault::TooDeep => SchemaFault::TooDeep,
+            SchemaFault::TooLarge => SchemaFault::TooLarge,
+            SchemaFault::OutOfMemory => SchemaFault::OutOfMemory,
+        })
+    }
+}
+
+// A path with a step before it.
+fn longer(alloc: Global, step: &str, path: &str) -> Result<String, AllocError> {
+    let mut text = String::new(alloc);
+    text.push('/')?;
+    for character in step.chars() {
+        match character {
+            '~' => text.push_str("~0")?,
+            '/' => text.push_str("~1")?,
+            _ => text.push(character)?,
+        }
+    }
+    text.push_str(path)?;
+    Ok(text)
+}
+
+impl fmt::Display for SchemaFault {
+    fn fmt<W: fmt::Write>(&self, f: &mut fmt::Formatter<W>) -> fmt::Result {
+        match self {
+            SchemaFault::UnknownKeyword(path) => write!(f, "unknown keyword at {path}"),
+            SchemaFault::WrongValue(path) if path.is_empty() => f.write_str("no schema"),
+            SchemaFault::WrongValue(path) => write!(f, "wrong value at {path}"),
+            SchemaFault::NoDefinition(path) => write!(f, "no definition for {path}"),
+            SchemaFault::TooDeep => f.write_str("schemas nested too deep"),
+            SchemaFault::TooLarge => f.write_str("too many schemas"),
+            SchemaFault::OutOfMemory => f.write_str("out of memory"),
+        }
+    }
+}

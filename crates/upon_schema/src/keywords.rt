@@ -1,0 +1,93 @@
+// Which keywords are known, and what those have that have no schema.
+ghost use Rattle.std.specs.Prelude.{◌≡◌, IfOk};
+ghost use Rattle.upon_types.specs.Val.{Val};
+ghost use Rattle.upon_types.specs.View.{view as value_view, vals_view};
+ghost use Rattle.upon_shape_spec.specs.Fits.{Fits};
+ghost use Rattle.upon_shape.specs.View.{view};
+ghost use Rattle.upon_schema.specs.Valid.{EnumHolds, required_of};
+
+use crate::fault::SchemaFault;
+use crate::kept::kept;
+use std::alloc::Global;
+use upon_shape::shape::Shape;
+use upon_types::value::Value;
+use upon_types::value::look::entry;
+
+// Refuses a schema with a keyword that is not known.
+pub(crate) fn check_keywords(alloc: Global, schema: &Value) -> Result<(), SchemaFault> {
+    let Value::Map(keywords) = schema else {
+        return Ok(());
+    };
+    for (keyword, _) in keywords.iter() {
+        if !is_known(keyword) {
+            let fault = SchemaFault::UnknownKeyword(String::new(alloc));
+            return Err(fault.inside(alloc, keyword));
+        }
+    }
+    Ok(())
+}
+
+// Whether a keyword is known.
+fn is_known(keyword: &str) -> bool {
+    has_sense(keyword) || says_nothing(keyword)
+}
+
+// Whether a keyword says something of values.
+fn has_sense(keyword: &str) -> bool {
+    matches!(
+        keyword,
+        "type" | "enum" | "items" | "properties" | "required" | "additionalProperties" | "$ref"
+    )
+}
+
+// Whether a keyword is known, and says nothing of values.
+fn says_nothing(keyword: &str) -> bool {
+    matches!(
+        keyword,
+        "$schema"
+            | "$id"
+            | "$comment"
+            | "$defs"
+            | "definitions"
+            | "title"
+            | "description"
+            | "default"
+            | "examples"
+            | "deprecated"
+            | "readOnly"
+            | "writeOnly"
+    )
+}
+
+// The keys that maps must have.
+pub(crate) fn required_keys<'a>(
+    alloc: Global,
+    schema: &'a Value,
+) -> Result<&'a [Value], SchemaFault>
+    ensures { IfOk result (λ names. vals_view names.now ≡ required_of (value_view schema.now)) }
+{
+    match entry(schema, "required") {
+        None => Ok(&[]),
+        Some(Value::List(names)) if are_texts(names) => Ok(names),
+        Some(_) => Err(SchemaFault::wrong_value(alloc, "required")),
+    }
+}
+
+// Whether each of some values is a text.
+fn are_texts(values: &[Value]) -> bool {
+    values.iter().all(|value| matches!(value, Value::String(_)))
+}
+
+// The shape of those values of a shape that are among those that the schema lists.
+pub(crate) fn listed(alloc: Global, schema: &Value, shape: Shape) -> Result<Shape, SchemaFault>
+    ensures { IfOk result
+        (λ s. (v : Val) → EnumHolds (value_view schema.now) v → Fits (view shape) v → Fits (view s) v) }
+{
+    let Some(found) = entry(schema, "enum") else {
+        return Ok(shape);
+    };
+    let Value::List(values) = found else {
+        return Err(SchemaFault::wrong_value(alloc, "enum"));
+    };
+    Ok(kept(shape, Shape::of_samples(alloc, values)?))
+}

@@ -1,0 +1,65 @@
+// The schema that a reference is to.
+ghost use Rattle.std.specs.Prelude.{◌≡◌, ◌++◌, ℕ, List, Some, true, IfSome};
+ghost use Rattle.upon_types.specs.Val.{key_of};
+ghost use Rattle.upon_types.specs.View.{view};
+ghost use Rattle.upon_schema.specs.Reference.{RefersTo, spelled, spelled_byte};
+
+use upon_types::value::Value;
+use upon_types::value::look::entry;
+
+// The schema that a reference is to, in the whole schema.
+pub(crate) fn referred<'a>(root: &'a Value, reference: &str) -> Option<&'a Value>
+    ensures { IfSome result (λ s. RefersTo (view root.now) reference.now (view s.now)) }
+{
+    if reference == "#" {
+        return Some(root);
+    }
+    if let Some(name) = reference.strip_prefix("#/$defs/") {
+        return definition(entry(root, "$defs")?, name);
+    }
+    let name = reference.strip_prefix("#/definitions/")?;
+    definition(entry(root, "definitions")?, name)
+}
+
+// The definition at the key that is spelled so.
+fn definition<'a>(definitions: &'a Value, name: &str) -> Option<&'a Value>
+    ensures { IfSome result (λ s. (key : List ℕ) × (name.now ≡ spelled key)
+        × (key_of key (view definitions.now) ≡ Some (view s.now))) }
+{
+    let Value::Map(entries) = definitions else {
+        return None;
+    };
+    for (key, _) in entries.iter() {
+        if is_spelled(name.as_bytes(), key.as_bytes()) {
+            return entry(definitions, key);
+        }
+    }
+    None
+}
+
+// Whether a key is spelled so.
+fn is_spelled(name: &[u8], key: &[u8]) -> bool
+    ensures { result ≡ true → name.now ≡ spelled key.now }
+{
+    let mut rest = name;
+    for byte in key {
+        match after_byte(rest, *byte) {
+            Some(after) => rest = after,
+            None => return false,
+        }
+    }
+    rest.is_empty()
+}
+
+// What is left of a spelling after that of a byte, if it begins so.
+fn after_byte(name: &[u8], byte: u8) -> Option<&[u8]>
+    ensures { IfSome result (λ rest. name.now ≡ spelled_byte byte ++ rest.now) }
+{
+    match (byte, name) {
+        (b'~', [b'~', b'0', rest @ ..]) => Some(rest),
+        (b'/', [b'~', b'1', rest @ ..]) => Some(rest),
+        (b'~' | b'/', _) => None,
+        (_, [first, rest @ ..]) if *first == byte => Some(rest),
+        _ => None,
+    }
+}

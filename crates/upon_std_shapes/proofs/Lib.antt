@@ -1,0 +1,10 @@
+pub mod OneKind
+pub mod Each
+pub mod Arguments
+pub mod Entries
+pub mod Sorted
+pub mod Groups
+pub mod Joining
+pub mod Kept
+pub mod Added
+pub mod Declaring

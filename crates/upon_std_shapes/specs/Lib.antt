@@ -1,0 +1,4 @@
+pub mod Items
+pub mod Signatures
+pub mod Forms
+pub mod Tables
