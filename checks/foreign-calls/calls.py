@@ -33,6 +33,9 @@ def syntax_error(template, source, column, marks, reason):
 
 
 BROKEN = syntax_error("broken", "x{{", 4, "^--", "expected token, found EOF")
+ROW = '{% for row in rows %}{{ row.prise }}{% endfor %}'
+MAY_MISS = picture("render error", "page", 28, ROW, "^^^^^^", "may be missing: the value is a map with name, price")
+MAY_LACK = picture("render error", "head", 6, "# {{ title }}", "^^^^^", "may be missing: the value is an empty map")
 MISSING = picture("render error", "page", 12, '{% include "foot" %}', "^^^^^^", "unknown template")
 UNKNOWN = picture("render error", "<anonymous>", 4, "{{ upper(title) }}", "^^^^^", "unknown formatter or function")
 OPEN = syntax_error("<anonymous>", "{{", 3, "^--", "expected token, found EOF")
@@ -114,6 +117,18 @@ OPTIONS = [
     *((json.dumps({"syntax": it}).encode(), '"syntax" wants') for it in NO_SYNTAX),
     (b'{"syntax": [["expr", "<", ">"], ["tag", "(", ")"]]}', '"syntax" wants'),
 ]
+# Options of a check alone.
+ON_CONTEXTS = [
+    (b'{"samples": []}', '"samples" wants'),
+    (b'{"samples": {}}', '"samples" wants'),
+    (b'{"samples": [{}, 1]}', '"samples" wants'),
+    (b'{"samples": [{}], "schema": true}', '"schema" wants no "samples"'),
+    (b'{"pages": []}', '"pages" wants "samples" or "schema"'),
+    (b'{"samples": [{}], "pages": {}}', '"pages" wants a list of names'),
+    (b'{"samples": [{}], "pages": ["b"]}', '"pages": no template is named "b"'),
+    (b'{"samples": [{}], "colour": 1}', 'unknown key "colour"'),
+    (b'{"samples": [{}], "functions": 1}', '"functions" wants'),
+]
 
 made = wrong = 0
 
@@ -170,6 +185,19 @@ def try_checks():
     expect("no templates", check({}), [])
     expect("templates with errors", check({"page": '{% include "foot" %}', "broken": "x{{", "good": ""}), [BROKEN, MISSING])
     expect("a syntax", check({"page": "{{<? a ?>"}, syntax=ASP), [])
+    for samples in [CONTEXT], [CONTEXT, {"title": None, "text": 1}]:
+        expect("a page on samples", check(PAGE, samples=samples, html=True, max_include_depth=9), [])
+    expect("a list as a sample", check({"page": ROWS}, samples=[[1, "a"], []]), [])
+    rows = [{"name": "tea", "price": 3}]
+    expect("a member that may be missing", check({"page": ROW}, samples=[{"rows": rows}, {"rows": []}]), [MAY_MISS])
+    part = {"page": '{% include "head" with user %}', "head": "# {{ title }}"}
+    sample = {"user": {"title": "T"}}
+    expect("pages", check(part, samples=[sample], pages=["page"]), [])
+    expect("each template", check(part, samples=[{}]), [MAY_LACK, picture("render error", "page", 24, part["page"], "^^^^",
+           "may be missing: the value is an empty map")])
+    expect("one that is broken", check({"page": "x", "broken": "x{{"}, samples=[{}]), [BROKEN])
+    schema = {"type": "object", "properties": {"rows": {"type": "array", "items": {"type": "string"}}}, "required": ["rows"]}
+    expect("a schema", check({"page": "{% for row in rows %}{{ row }}{% endfor %}"}, schema=schema), [])
     needed = {"missing": [], "names": ["text", "title"], "templates": ["head"], "whole": False}
     expect("what a template needs", names(PAGE, "page"), needed)
     needed = {"missing": ["foot"], "names": [], "templates": [], "whole": False}
@@ -204,6 +232,13 @@ def main():
         for function, texts in (("render_text", (b"", b"")), ("render", (b"", b"", b"")), ("check", (b"",)), ("names", (b"", b""))):
             got, text = raw(function, (*texts, options))
             expect(f"{function} {options}", (got, text[: len(begin) + 9]), (2, "options: " + begin))
+    for options, begin in ON_CONTEXTS:
+        got, text = raw("check", (b'{"a": ""}', options))
+        expect(f"check {options}", (got, text[: len(begin) + 9]), (2, "options: " + begin))
+    for key, value in (("samples", [{}]), ("schema", True), ("pages", [])):
+        options = json.dumps({key: value}).encode()
+        for function, texts in (("render_text", (b"", b"")), ("render", (b"", b"", b"")), ("names", (b"", b""))):
+            expect(f"{function} {key}", raw(function, (*texts, options)), (2, f'options: unknown key "{key}"'))
     try_errors()
     try_checks()
     expect("the version", version(), "0.11.0")

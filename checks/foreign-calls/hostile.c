@@ -87,6 +87,14 @@ static const char *const options[] = {
     "{\"syntax\": [[\"expr\", \"{{\", \"}}\"], [\"block\", \"{%\", \"%}\"]], \"max_include_depth\": 2}",
     "{\"colour\": 1}",
 };
+/* What upon_check gets in their place. */
+static const char *const on_contexts[] = {
+    "",
+    "{\"samples\": [{\"t\": \"a\", \"m\": {\"k\": 1}}, {\"t\": null, \"m\": {}}], \"functions\": true}",
+    "{\"samples\": [[1, 2.50], {\"t\": [[]]}], \"pages\": [\"a\"], \"escape\": \"shell\"}",
+    "{\"schema\": {\"type\": \"object\", \"properties\": {\"t\": {\"type\": \"string\"}}}, \"html\": true}",
+    "{\"syntax\": [[\"expr\", \"{{\", \"}}\"], [\"block\", \"{%\", \"%}\"]], \"samples\": [], \"max_include_depth\": 2}",
+};
 
 /* A text of its own block, that is one of five or what came of it. */
 static struct text text_of(const char *const *five) {
@@ -201,7 +209,7 @@ int main(int count, char **words) {
         texts[0] = text_of(call == 1 ? sources : templates);
         texts[1] = text_of(contexts);
         texts[2] = text_of(names);
-        texts[3] = text_of(options);
+        texts[3] = text_of(call == 2 && below(2) ? on_contexts : options);
         try_all();
         for (at = 0; at < TEXTS; at++) __real_free(texts[at].bytes);
     }

@@ -20,7 +20,7 @@ KINDS = (
     kind("with", "block|tag|start|end", r"|\(with \w|\bwith : "),
 )
 # A copy of the language before `for .. else`, and a page that a script writes, which no statement changes by hand.
-UNTOUCHED = ("crates/upon_before_spec/", "docs/DEFINITIONS.md")
+UNTOUCHED = ("crates/upon_before_spec/", "docs/proof/DEFINITIONS.md")
 
 
 def name_each_kind(sources):

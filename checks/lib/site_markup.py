@@ -16,7 +16,7 @@ from site_pages import key_of
 
 BLOCK = re.compile(r'<pre><code(?: class="language-(\w+)")?>(.*?)</code></pre>', re.S)
 PICTURE = re.compile(r"<p>picture-(\d+)</p>")
-FILE = re.compile(r"(?:docs/)?([A-Z]+)\.md")
+FILE = re.compile(r"(?:(?:docs|proof|contributing|\.\.)/)*([A-Z]+)\.md")
 # The pages whose names in code are definitions, unless they are those of other things.
 OF_PROOF = {"theorem", "promises", "definitions", "logic", "differences", "architecture"}
 # What a block's kind is called above it.

@@ -1,5 +1,6 @@
 """The pages of the site: which there are, and for which reader, as README.md's "Find your way" lists them."""
 import dataclasses
+import glob
 import os
 import re
 import shlex
@@ -60,7 +61,7 @@ def groups():
 def check(found):
     """Ends the run where a page of docs/ is in no list."""
     listed = {page.source for _, pages in found for page in pages}
-    there = {"docs/" + name for name in os.listdir(os.path.join(TOP, "docs")) if name.endswith(".md")}
+    there = set(glob.glob("docs/**/*.md", root_dir=TOP, recursive=True))
     if there - listed:
         raise SystemExit("site: README.md's \"Find your way\" does not list " + ", ".join(sorted(there - listed)))
 

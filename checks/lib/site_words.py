@@ -34,7 +34,7 @@ def link(target, text, told=""):
 
 
 def crates_of(text):
-    """docs/DEFINITIONS.md's crates, each with its modules: name, what it is about, and its names with their words."""
+    """docs/proof/DEFINITIONS.md's crates, each with its modules: name, what it is about, and its names with their words."""
     found = []
     for part in re.split(r"^## ", text[text.index(MARK):], flags=re.M)[1:]:
         modules = []
@@ -52,10 +52,10 @@ class Words:
 
     def __init__(self):
         self.modules = specs.all_modules()
-        self.crates = crates_of(text_of("docs/DEFINITIONS.md"))
+        self.crates = crates_of(text_of("docs/proof/DEFINITIONS.md"))
         self.described = {(crate, module): {word for word, _ in entries} for crate, modules in self.crates
                           for module, _, entries in modules}
-        logic = text_of("docs/LOGIC.md")
+        logic = text_of("docs/proof/LOGIC.md")
         self.logic = dict(ITEM.findall(logic))
         self.of_clauses = {word for word, _ in ITEM.findall(logic.partition("## A clause")[2].partition("\n## ")[0])}
         self.blocks = {id(block): block for _, block in specs.reached(self.modules)[0]}
@@ -143,7 +143,7 @@ class Words:
             target = self.in_clause(word, before)
             before = word
             if target is None and is_whole and not re.fullmatch(r"[:=₁]|T|x", word):
-                raise SystemExit(f"site: the theorem's word {word} has no definition in docs/DEFINITIONS.md or docs/LOGIC.md")
+                raise SystemExit(f"site: the theorem's word {word} has no definition in docs/proof/DEFINITIONS.md or docs/proof/LOGIC.md")
             return target
 
         return self.linked(line, of, self.told)

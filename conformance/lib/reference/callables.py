@@ -1,4 +1,4 @@
-"""The functions and formatters that cases name, each as docs/CONFORMANCE.md describes it."""
+"""The functions and formatters that cases name, each as docs/contributing/CONFORMANCE.md describes it."""
 from typing import Callable, NamedTuple
 
 from .values import is_true, kind
