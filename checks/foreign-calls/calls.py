@@ -34,7 +34,8 @@ def syntax_error(template, source, column, marks, reason):
 
 BROKEN = syntax_error("broken", "x{{", 4, "^--", "expected token, found EOF")
 ROW = '{% for row in rows %}{{ row.prise }}{% endfor %}'
-MAY_MISS = picture("render error", "page", 28, ROW, "^^^^^^", "may be missing: the value is a map with name, price")
+MAY_MISS = picture("render error", "page", 28, ROW, "^^^^^^", "may be missing: the value is a map with name, price") \
+    + "   = hint: there is `price`\n"
 MAY_LACK = picture("render error", "head", 6, "# {{ title }}", "^^^^^", "may be missing: the value is an empty map")
 MISSING = picture("render error", "page", 12, '{% include "foot" %}', "^^^^^^", "unknown template")
 UNKNOWN = picture("render error", "<anonymous>", 4, "{{ upper(title) }}", "^^^^^", "unknown formatter or function")

@@ -2,6 +2,7 @@
 ghost use Rattle.std.specs.Prelude.{◌≡◌, [], OnOk, string_bytes, true};
 ghost use Rattle.upon_types.specs.Span.{LiesIn};
 
+use crate::hints::{hint_of, with_hint};
 use crate::reasons::{Known, TOO_DEEP, reason_of};
 use std::alloc::{AllocError, Global};
 use upon_accepts::refusal::{Misfit, Refusal};
@@ -61,7 +62,7 @@ pub fn show_refusal(
         Refusal::Misfits(misfits) => show_misfits(alloc, known, misfits.as_slice(), pictures)?,
         Refusal::TooDeep(name, span) => {
             let place = place_in(known.engine, name, span);
-            show(alloc, place, TOO_DEEP, pictures)?;
+            show(alloc, place, TOO_DEEP, None, pictures)?;
         }
         Refusal::Memory(error) => return Err(error),
     }
@@ -83,8 +84,10 @@ fn show_misfits(
             break;
         }
         let place = place_in(known.engine, misfit.template, misfit.doubt.place);
-        let reason = reason_of(alloc, known, &misfit.doubt.unsure, written(place))?;
-        show(alloc, place, reason.as_str(), pictures)?;
+        let unsure = &misfit.doubt.unsure;
+        let reason = reason_of(alloc, known, unsure, written(place))?;
+        let hint = hint_of(alloc, unsure, written(place))?;
+        show(alloc, place, reason.as_str(), hint.as_deref(), pictures)?;
     }
     Ok(())
 }
@@ -110,11 +113,13 @@ fn written<'t>(place: Place<'t>) -> &'t str {
         .unwrap_or_default()
 }
 
-// Shows what is wrong at a place, unless that is shown already, or there are enough pictures.
+// Shows what is wrong at a place, with a hint if there is one, unless that is shown already, or there are enough
+// pictures.
 fn show(
     alloc: Global,
     place: Place<'_>,
     reason: &str,
+    hint: Option<&str>,
     pictures: &mut Pictures,
 ) -> Result<(), AllocError> {
     if pictures.left == 0 || !lies_in(place.source, place.span) {
@@ -126,7 +131,7 @@ fn show(
     if matches!(error.kind(), ErrorKind::OutOfMemory) {
         return Err(AllocError);
     }
-    let picture = error.pretty(alloc)?;
+    let picture = with_hint(error.pretty(alloc)?, hint)?;
     if pictures.text.contains(picture.as_str()) {
         return Ok(());
     }

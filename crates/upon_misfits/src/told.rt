@@ -116,12 +116,7 @@ fn is_never(shape: &Shape) -> bool {
     match shape {
         Shape::Any => false,
         Shape::OneOf { plain, items, keys } => {
-            !plain.none
-                && !plain.truth
-                && !plain.integer
-                && !plain.text
-                && items.is_none()
-                && keys.is_none()
+            !plain.is_any() && items.is_none() && keys.is_none()
         }
     }
 }

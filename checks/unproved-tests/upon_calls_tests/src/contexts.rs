@@ -7,7 +7,7 @@ use upon_calls::failure::Failure;
 use upon_calls::names::names;
 use upon_calls::render::{render, render_text};
 
-// What a check says: "right", a refusal, or the places of pictures with their reasons.
+// What a check says: "right", a refusal, or the places of pictures with their reasons and hints.
 fn said(alloc: Global, templates: &str, options: &str) -> Result<String, AllocError> {
     match check(alloc, templates.as_bytes(), options.as_bytes()) {
         Ok(text) if text.is_empty() => String::from_str(alloc, "right"),
@@ -17,7 +17,7 @@ fn said(alloc: Global, templates: &str, options: &str) -> Result<String, AllocEr
     }
 }
 
-// The places of pictures with their reasons, as `page:1:4 not found in this scope`.
+// The places of pictures with their reasons, and hints behind a bar, as ``page:1:4 may be missing: .. | there is `price` ``.
 fn places(alloc: Global, pictures: &str) -> Result<String, AllocError> {
     let mut text = String::new(alloc);
     for line in pictures.lines() {
@@ -28,6 +28,10 @@ fn places(alloc: Global, pictures: &str) -> Result<String, AllocError> {
         if let Some((_, reason)) = line.split_once(" = reason: ") {
             text.push_str(" ")?;
             text.push_str(reason)?;
+        }
+        if let Some((_, hint)) = line.split_once("   = hint: ") {
+            text.push_str(" | ")?;
+            text.push_str(hint)?;
         }
     }
     Ok(text)
@@ -59,7 +63,7 @@ fn samples(rt: HostRuntime) -> Result<(), Fail> {
         (
             r#"{"page": "{{ name }}"}"#,
             r#"{"samples": [{"nam": 1}]}"#,
-            "page:1:4 may be missing: the value is a map with nam",
+            "page:1:4 may be missing: the value is a map with nam | there is `nam`",
         ),
         (r#"{"page": "{% for x in items %}{{ x }}{% endfor %}"}"#, r#"{"samples": [[1, "a"], []]}"#, "right"),
         (
@@ -70,7 +74,7 @@ fn samples(rt: HostRuntime) -> Result<(), Fail> {
         (
             r#"{"page": "{% for r in rows %}{{ r.prise }}{% endfor %}"}"#,
             r#"{"samples": [{"rows": [{"name": "a", "price": 1}]}]}"#,
-            "page:1:24 may be missing: the value is a map with name, price",
+            "page:1:24 may be missing: the value is a map with name, price | there is `price`",
         ),
         (
             r#"{"page": "{% for r in rows %}{% endfor %}"}"#,
@@ -85,6 +89,78 @@ fn samples(rt: HostRuntime) -> Result<(), Fail> {
         (r#"{"page": "{% if u?.a %}{{ u.a }}{% endif %}"}"#, r#"{"samples": [{"u": {}}, {"u": {"a": 1}}]}"#, "right"),
     ];
     all_are_said(&rt, rt.alloc(), &rows)
+}
+
+// The hints of a page on samples of what `m` has.
+fn hints_of(alloc: Global, page: &str, samples: &[&str]) -> Result<String, AllocError> {
+    let mut contexts = Vec::new(alloc);
+    for sample in samples {
+        contexts.push(format!(in alloc; r#"{{"m": {sample}}}"#)?)?;
+    }
+    let templates = format!(in alloc; r#"{{"page": "{page}"}}"#)?;
+    let listed = contexts.as_slice().join(alloc, ", ")?;
+    let options = format!(in alloc; r#"{{"samples": [{listed}], "functions": true}}"#)?;
+    let said = said(alloc, templates.as_str(), options.as_str())?;
+    match said.as_str().split_once(" | ") {
+        Some((_, hints)) => String::from_str(alloc, hints),
+        None => Ok(String::new(alloc)),
+    }
+}
+
+// Each row: a page, samples of what `m` has, and the hint.
+#[test]
+fn hints(rt: HostRuntime) -> Result<(), Fail> {
+    let alloc = rt.alloc();
+    let map = r#"{"price": 1, "name": "a"}"#;
+    let near = "there is `price`";
+    let rows: [(&str, &[&str], &str); 24] = [
+        ("{{ m.prise }}", &[map], near),
+        ("{{ m.prcie }}", &[map], near),
+        ("{{ m.pric }}", &[map], near),
+        ("{{ m.prices }}", &[map], near),
+        ("{{ m.cost }}", &[map], ""),
+        ("{{ n }}", &[map], "there is `m`"),
+        // Wherever it stands, the name alone counts.
+        ("{{ m .  prise }}", &[map], near),
+        ("{{ m.prise.x }}", &[map], near),
+        ("{{ m.prise | upper }}", &[map], near),
+        ("{{ m?.prise }}", &[map, "1"], near),
+        ("{% for x in m.prise %}{% endfor %}", &[map], near),
+        ("{% for x in m %}{{ x.prise }}{% endfor %}", &[r#"[{"price": 1}]"#], near),
+        ("{% with m as n %}{{ n.prise }}{% endwith %}", &[map], near),
+        // The nearest names.
+        ("{{ m.prixe }}", &[r#"{"price": 1, "prize": 1}"#], "there are `price` and `prize`"),
+        ("{{ m.pric }}", &[r#"{"price": 1, "prices": 1}"#], near),
+        ("{{ m.b }}", &[r#"{"a": 1, "c": 1, "d": 1}"#], "there are `a` and `c`"),
+        // A key that may be missing, where another one is written, and where it is itself.
+        ("{{ m.prise }}", &[map, "{}"], near),
+        ("{{ m.price }}", &[map, "{}"], ""),
+        ("{{ m.prize }}", &[r#"{"price": 1}"#, r#"{"prize": 1}"#], ""),
+        // No keys, and an index, which is no name.
+        ("{{ m.b }}", &["{}"], ""),
+        ("{{ m.b }}", &["[1]"], ""),
+        ("{{ m.0 }}", &[r#"{"a": 1}"#], ""),
+        // What is no member of a map.
+        ("{% for x in m %}{{ loop.indx }}{% endfor %}", &["[1]"], ""),
+        ("{{ uper(m) }}", &[r#""a""#], ""),
+    ];
+    for (page, samples, wanted) in rows {
+        let hints = hints_of(alloc, page, samples)?;
+        assert!(&rt; hints.as_str() == wanted, "{hints} in place of {wanted}, of {page}");
+    }
+    Ok(())
+}
+
+// A picture with its hint, which is shown once.
+#[test]
+fn hinted_picture(rt: HostRuntime) -> Result<(), Fail> {
+    let templates = r#"{"row": "{{ prise }}", "page": "{% include \"row\" %}{% include \"row\" %}"}"#;
+    let wanted = "render error\n\n  --> row:1:4\n   |\n 1 | {{ prise }}\n   |    ^^^^^\n   |\n   = reason: may be missing: the value is a map with price\n   = hint: there is `price`\n";
+    let Err(Failure::Faults(pictures)) = check(rt.alloc(), templates.as_bytes(), b"{\"samples\": [{\"price\": 1}]}") else {
+        return Err(Fail::new("a fault is missing"));
+    };
+    assert!(&rt; pictures.as_str() == wanted, "{pictures}");
+    Ok(())
 }
 
 #[test]

@@ -1,7 +1,7 @@
 // What is said of the names that there are: "there is `a`", "there are `a` and `b`", or a list.
 ghost use Rattle.std.specs.Prelude.{◌≡◌, IfOk, option_map, string_bytes};
-ghost use Rattle.upon_tool_near.specs.Nearest.{nearest};
-ghost use Rattle.upon_tool_near.specs.Said.{list_text, names_text, two_text};
+ghost use Rattle.upon_near.specs.Nearest.{nearest};
+ghost use Rattle.upon_near.specs.Said.{list_text, names_text, two_text};
 
 use crate::nearest::nearest;
 use std::alloc::{AllocError, Global};

@@ -1,6 +1,6 @@
 use Rattle.std.proofs.Common.{rules}
 use Rattle.std.proofs.lemmas.Str.{chars_from_encodes}
-use Rattle.upon_tool_near.proofs.nearest.letters.Goals as goal
+use Rattle.upon_near.proofs.nearest.letters.Goals as goal
 
 pub returns : goal.returns
 returns c = search (rules, chars_from_encodes)

@@ -3,7 +3,7 @@ use Rattle.std.proofs.Common.{◌≡◌, ◌<◌, ◌+◌, ◌∙◌, ◌∷◌,
 use Rattle.std.specs.List.{filter, list_all}
 use Rattle.std.proofs.lemmas.List.Elements.{filter_more}
 use Rattle.std.proofs.lemmas.List.Folds.{list_all_more}
-use Rattle.upon_tool_near.specs.Nearest.{is_least, is_nearest, is_no_nearer, near_distance}
+use Rattle.upon_near.specs.Nearest.{is_least, is_nearest, is_no_nearer, near_distance}
 
 -- the names so far, and one more
 pub least_more : (name : List ℕ) (names : List (Bor (List ℕ))) (i : ℕ) (other : Bor (List ℕ)) (least lesser : Option ℕ) → i < length names

@@ -2,7 +2,7 @@
 ghost use Rattle.std.specs.Prelude.{◌≡◌, ◌&&◌, ℕ, IfOk, nat_le, length};
 ghost use Rattle.std.specs.List.{list_all};
 ghost use Rattle.std.specs.Str.{chars};
-ghost use Rattle.upon_tool_near.specs.Nearest.{is_least, is_no_nearer, is_short, near_distance, nearest, reach};
+ghost use Rattle.upon_near.specs.Nearest.{is_least, is_no_nearer, is_short, near_distance, nearest, reach};
 
 use std::alloc::{AllocError, Global};
 use strsim::osa_distance;
