@@ -8,7 +8,7 @@ use upon_quote::yaml::Yaml;
 
 /// A language into which values are written.
 #[derive(Clone, Copy, Debug, PartialEq, Eq)]
-pub(crate) enum Language {
+pub enum Language {
     /// HTML.
     Html,
     /// JSON.

@@ -16,17 +16,17 @@ use upon::{Limits, Syntax, Value};
 
 /// What a call asks for beside its templates.
 #[derive(Drop)]
-pub(crate) struct Options {
+pub struct Options {
     /// The language into which values are written, if it is one.
-    pub(crate) escape: Option<Language>,
+    pub escape: Option<Language>,
     /// The delimiters of the templates.
-    pub(crate) syntax: Syntax,
+    pub syntax: Syntax,
     /// How deep includes may go.
-    pub(crate) depth: usize,
+    pub depth: usize,
     /// Whether templates may call the standard functions.
-    pub(crate) functions: bool,
+    pub functions: bool,
     /// How far a rendering may go.
-    pub(crate) limits: Limits,
+    pub limits: Limits,
 }
 
 /// Which keys options may have.

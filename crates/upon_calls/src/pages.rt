@@ -76,7 +76,7 @@ fn first_missing<'n>(templates: &Value, names: &[&'n str]) -> Option<&'n str>
 
 /// Returns the empty text if pages end without a fault on each value of a shape, but that includes may be too deep one
 /// inside another, where an engine holds the templates. Else the failure has the pictures of where they may fail.
-pub(crate) fn check_pages(
+pub fn check_pages(
     alloc: Global,
     options: Options,
     sources: &[(&str, &str)],

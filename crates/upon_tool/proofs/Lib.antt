@@ -2,6 +2,7 @@ pub mod Calls
 pub mod Checked
 pub mod CheckedFiles
 pub mod Filled
+pub mod Fits
 pub mod FolderFiles
 pub mod Kept
 pub mod Outputs

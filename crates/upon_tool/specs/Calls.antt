@@ -12,9 +12,8 @@ use Rattle.upon_engine.specs.Changes.{with_text}
 use Rattle.upon_engine.specs.Faults.{IsSyntaxErrorOf}
 use Rattle.upon_engine.specs.Texts.{Texts}
 use Rattle.upon_tool_io.specs.declared.arguments.Call.{Call}
-use Rattle.upon_tool_io.specs.declared.arguments.Call.TheVariants.{Render as RenderAsked, Check as CheckAsked, Names as NamesAsked, Each as EachAsked, Build as BuildAsked}
+use Rattle.upon_tool_io.specs.declared.arguments.Call.TheVariants.{Render as RenderAsked, Check as CheckAsked, Fit as FitAsked, Shape as ShapeAsked, Names as NamesAsked, Each as EachAsked, Build as BuildAsked}
 use Rattle.upon_tool_io.specs.declared.arguments.BuildCall.{BuildCall}
-use Rattle.upon_tool_io.specs.declared.arguments.CheckCall.{CheckCall}
 use Rattle.upon_tool_io.specs.declared.arguments.EachCall.{EachCall}
 use Rattle.upon_tool_io.specs.declared.arguments.NamesCall.{NamesCall}
 use Rattle.upon_tool_io.specs.declared.arguments.RenderCall.{RenderCall}
@@ -27,11 +26,13 @@ use Rattle.upon_tool_many.specs.declared.build.Build.{Build}
 use Rattle.upon_tool_many.specs.declared.each.Each.{Each}
 use Rattle.upon_tool_messages.specs.Status.{end_status, status_of}
 use Rattle.upon_tool_messages.specs.declared.failure.Failure.{Failure}
+use Rattle.upon_tool.specs.Checked.{ChecksCall}
 use Rattle.upon_tool.specs.Filled.{engine_for, standard_functions, with_page, TakesFiles}
+use Rattle.upon_tool.specs.Fitting.{FitsCall, WritesShape}
 use Rattle.upon_tool.specs.ManyPages.{limits_set, BuildIsWell, EachIsWell}
 use Rattle.upon_tool.specs.Refusals.{Refuses}
 use Rattle.upon_tool.specs.Rendering.{Renders, SendsPage, StaysWithin}
-use Rattle.upon_tool.specs.Work.{to_standard, ChecksFiles, EachFileIsRight, ListsNames}
+use Rattle.upon_tool.specs.Work.{to_standard, ListsNames}
 use Rattle.upon_tool.specs.declared.sources.FolderFile.{FolderFile}
 
 -- the limits that a call asks for
@@ -87,16 +88,6 @@ pub record ListsCall (call : NamesCall) (input : Option (List ℕ)) (status : �
   pub no_folder : IsNone call.templates → files ≡ []
   pub taken : TakesFiles files (engine_for None []) folder
   pub listed : ListsNames (with_text call.file.now text folder) call.file.now call.json status old new
-
--- A call of `check` ends with a status, so. If that is 0, each FILE's text has a tree, and no include in it names
--- nothing, with the folder's files; and so it is of each file of the folder.
-pub record ChecksCall (call : CheckCall) (input : Option (List ℕ)) (status : ℕ) : Type 0 where
-  pub files : List FolderFile
-  pub folder : Texts
-  pub no_folder : IsNone call.templates → files ≡ []
-  pub taken : TakesFiles files (engine_for None []) folder
-  pub checked : ChecksFiles folder call.files.items input status
-  pub folder_checked : status ≡ 0 → EachFileIsRight folder files
 
 -- what is rendered for each item
 abbrev pub each_asked : EachCall → Each
@@ -187,6 +178,9 @@ RefusesCall (RenderAsked call) input = Refuses (IsNoContext (is_standard call.fi
     (λ name. (name ≡ call.file) ⊎ (call.templates ≡ Some name)) (IsFaultOf call.file input)
 RefusesCall (CheckAsked call) input =
     Refuses (λ fault. ⊥) (λ name. Contains call.files.items name ⊎ (call.templates ≡ Some name)) (λ error. ⊥)
+RefusesCall (FitAsked call) input = Refuses (λ fault. Unit {0})
+    (λ name. Contains call.check.files.items name ⊎ (call.check.templates ≡ Some name)) (λ error. ⊥)
+RefusesCall (ShapeAsked call) input = Refuses (λ fault. Unit {0}) (λ name. ⊥) (λ error. ⊥)
 RefusesCall (NamesAsked call) input =
     Refuses (λ fault. ⊥) (λ name. (name ≡ call.file) ⊎ (call.templates ≡ Some name)) (IsFaultOf call.file input)
 RefusesCall (EachAsked call) input = Refuses (IsNoContext (is_standard call.render.file.now) call.render input)
@@ -198,6 +192,8 @@ RefusesCall (BuildAsked call) input = Refuses (IsNoContext (is_input call.layout
 abbrev pub DoesCall : Call → Option (List ℕ) → ℕ → Option (List ℕ) → Option (List ℕ) → Type 0
 DoesCall (RenderAsked call) input status old new = RendersCall call input status old new
 DoesCall (CheckAsked call) input status old new = (new ≡ old) × ChecksCall call input status
+DoesCall (FitAsked call) input status old new = (new ≡ old) × FitsCall call input status
+DoesCall (ShapeAsked call) input status old new = WritesShape call input status old new
 DoesCall (NamesAsked call) input status old new = ListsCall call input status old new
 DoesCall (EachAsked call) input status old new = (new ≡ old) × RendersEachCall call input status
 DoesCall (BuildAsked call) input status old new = (new ≡ old) × BuildsCall call input status

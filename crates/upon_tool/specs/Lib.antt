@@ -7,4 +7,6 @@ pub mod Escaping
 pub mod Filled
 pub mod ManyPages
 pub mod Work
+pub mod Checked
+pub mod Fitting
 pub mod Calls

@@ -4,6 +4,7 @@
 
 pub mod check;
 mod escaping;
+mod fitting;
 mod many;
 pub mod names;
 pub mod names_text;

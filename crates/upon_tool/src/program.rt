@@ -1,12 +1,14 @@
 // The program: from its words to its status.
 ghost use Rattle.std.specs.Prelude.{◌≡◌, ◌≤◌, false, IfErr, IfOk, IsSomeAnd, OnErr, true};
+ghost use Rattle.upon_tool.specs.Checked.{ChecksCall};
 ghost use Rattle.upon_tool.specs.Filled.{standard_functions};
 ghost use Rattle.upon_tool.specs.ManyPages.{limits_set};
 ghost use Rattle.upon_tool.specs.Sources.{IsUnread};
-ghost use Rattle.upon_tool.specs.Calls.{is_input, limits_asked, AreWordsOf, BuildsCall, CallEnds, ChecksCall, IsLayout, ListsCall, RefusesCall, RendersCall, RendersEachCall, Runs};
+ghost use Rattle.upon_tool.specs.Calls.{is_input, limits_asked, AreWordsOf, BuildsCall, CallEnds, IsLayout, ListsCall, RefusesCall, RendersCall, RendersEachCall, Runs};
 ghost use Rattle.upon_tool_io.specs.declared.arguments.Color.TheVariants.{Auto, Always, Never};
 ghost use Rattle.upon_tool_io.specs.declared.arguments.Call.TheVariants.{Render as RenderAsked, Check as CheckAsked, Names as NamesAsked, Each as EachAsked, Build as BuildAsked};
 
+use crate::fitting::{run_fit, run_shape};
 use crate::rendering::{Page, is_limited};
 use crate::sources::{files_in, text_of};
 use crate::work::{Templates, Work, carry_out};
@@ -110,6 +112,8 @@ fn work_of<'a, R: Files + Env + Clock + AllocGlobal + Clone + Drop, I: Read, O: 
     match call {
         Call::Render(call) => run_render(rt, call, input, out, err),
         Call::Check(call) => run_check(rt, call, input, out, err),
+        Call::Fit(call) => run_fit(rt, call, input, out, err),
+        Call::Shape(call) => run_shape(rt, call, input, out, err),
         Call::Names(call) => run_names(rt, call, input, out, err),
         Call::Each(call) => run_each(rt, call, input, out, err, is_terminal),
         Call::Build(call) => run_build(rt, call, input, out, err, is_terminal),
@@ -189,14 +193,14 @@ fn standard(wanted: bool) -> &'static [StandardFunction]
     }
 }
 
-// Checks, and answers the status.
-fn run_check<'a, R: Files + Env + Clock + AllocGlobal + Clone + Drop, I: Read, O: Write, E: Write>(
-    rt: &R,
-    call: &CheckCall<'a>,
-    input: &mut I,
-    out: &mut O,
-    err: &mut E,
-) -> Result<u8, Failure<'a>>
+/// Checks, and returns the status.
+pub(crate) fn run_check<
+    'a,
+    R: Files + Env + Clock + AllocGlobal + Clone + Drop,
+    I: Read,
+    O: Write,
+    E: Write,
+>(rt: &R, call: &CheckCall<'a>, input: &mut I, out: &mut O, err: &mut E) -> Result<u8, Failure<'a>>
     ensures range { IfOk result (λ status. status ≤ 2) }
     ensures unsent { O.contents out.new ≡ O.contents out.old }
     ensures ends { IfOk result (ChecksCall call.now (I.remaining input.old)) }

@@ -4,3 +4,4 @@ pub mod Environment
 pub mod Files
 pub mod Settings
 pub mod Context
+pub mod Samples

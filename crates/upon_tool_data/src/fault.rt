@@ -40,6 +40,16 @@ impl<'a> From<AllocError> for ContextFault<'a> {
     }
 }
 
+impl<'a, T: Drop> From<AllocFailed<T>> for ContextFault<'a> {
+    ghost use Rattle.upon_tool_data.specs.declared.fault.ContextFault.TheVariants.{OutOfMemory};
+
+    ghost from_gives = { λ _ fault. fault ≡ OutOfMemory };
+
+    fn from(_: AllocFailed<T>) -> ContextFault<'a> {
+        ContextFault::OutOfMemory
+    }
+}
+
 impl fmt::Display for ContextFault<'_> {
     fn fmt<W: fmt::Write>(&self, f: &mut fmt::Formatter<W>) -> fmt::Result {
         match self {

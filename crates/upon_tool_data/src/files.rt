@@ -55,8 +55,10 @@ fn add_file<'a, R: Files + AllocGlobal, I: Read>(
     put(rt.alloc(), data, key, name, value)
 }
 
-// Reads the value that the file of a name has.
-fn read_value<'a, R: Files + AllocGlobal, I: Read>(
+/// Returns the value that the file of a name has, in a format if one is given, or in the one that the name says.
+///
+/// The error says why the file is not read, or why its text is not of the format.
+pub fn read_value<'a, R: Files + AllocGlobal, I: Read>(
     rt: &R,
     name: &'a str,
     given: Option<Format>,

@@ -5,7 +5,8 @@
 pub mod context;
 mod environment;
 pub mod fault;
-mod files;
+pub mod files;
+pub mod samples;
 mod settings;
 pub mod sources;
 pub mod words;

@@ -43,8 +43,8 @@ pub fn check<'a>(words: &DataWords<'a, '_>, is_input_taken: bool) -> Result<(), 
     }
 }
 
-// Whether standard input is asked for by words of `--data`, and was before, or is twice.
-fn asks_again(is_taken: bool, words: &[&str]) -> bool
+/// Returns whether standard input is asked for by words of `--data`, and was before, or is twice.
+pub(crate) fn asks_again(is_taken: bool, words: &[&str]) -> bool
     ensures { result ≡ asks_again is_taken words.now }
 {
     let mut is_asked = is_taken;

@@ -1,6 +1,6 @@
 // The arguments of the program.
 use clap::error::ErrorKind;
-use clap::{Arg, ArgAction, ArgMatches, Command, value_parser};
+use clap::{Arg, ArgAction, ArgGroup, ArgMatches, Command, value_parser};
 use std::alloc::{AllocError, Global};
 
 /// What a call of the program asks for.
@@ -10,6 +10,10 @@ pub enum Call<'a> {
     Render(RenderCall<'a>),
     /// To check templates.
     Check(CheckCall<'a>),
+    /// To check templates, and whether they end without a fault on contexts.
+    Fit(FitCall<'a>),
+    /// To write the shape of contexts as a JSON Schema.
+    Shape(ShapeCall<'a>),
     /// To list what a template needs.
     Names(NamesCall<'a>),
     /// To render a template once for each item of a list.
@@ -85,6 +89,41 @@ pub struct CheckCall<'a> {
     pub color: Color,
 }
 
+/// The contexts of a check: samples, or those that are valid by a schema.
+#[derive(Drop)]
+pub struct ContextsCall<'a> {
+    /// The file of a JSON Schema, if there is one; `-` is standard input.
+    pub schema: Option<&'a str>,
+    /// Whether the variables of the environment are data of each sample, a map at the key `env`.
+    pub env: bool,
+    /// The words of `--data`: each `FILE` is a sample, and each `KEY=FILE` is put into all of them.
+    pub data: Vec<&'a str>,
+    /// The name of the format that each file of the data has, if it is given.
+    pub format: Option<&'a str>,
+    /// The words of `--set-json`, for each sample.
+    pub set_json: Vec<&'a str>,
+    /// The words of `--set`, for each sample.
+    pub set: Vec<&'a str>,
+}
+
+/// A check on contexts that is asked for.
+#[derive(Drop)]
+pub struct FitCall<'a> {
+    /// What is checked.
+    pub check: CheckCall<'a>,
+    /// On which contexts.
+    pub contexts: ContextsCall<'a>,
+}
+
+/// A JSON Schema that is asked for, of the shape of contexts.
+#[derive(Drop)]
+pub struct ShapeCall<'a> {
+    /// The contexts.
+    pub contexts: ContextsCall<'a>,
+    /// When pictures of errors have colors.
+    pub color: Color,
+}
+
 /// A list that is asked for, of what a template needs.
 #[derive(Drop)]
 pub struct NamesCall<'a> {
@@ -117,6 +156,8 @@ impl<'a> Call<'a> {
         match self {
             Call::Render(call) => call.color,
             Call::Check(call) => call.color,
+            Call::Fit(call) => call.check.color,
+            Call::Shape(call) => call.color,
             Call::Names(call) => call.color,
             Call::Each(call) => call.render.color,
             Call::Build(call) => call.render.color,
@@ -169,6 +210,13 @@ const FORMATS: [&str; 4] = ["json", "jsonl", "csv", "toml"];
 const SET_JSON: &str = "set-json";
 
 const SET: &str = "set";
+
+const SCHEMA: &str = "schema";
+
+const SHAPE_OUT: &str = "shape-out";
+
+// The arguments of contexts.
+const CONTEXTS: &str = "contexts";
 
 const TEMPLATES: &str = "templates";
 
@@ -238,8 +286,24 @@ fn read_by<'a>(
     let asked = asked_for(alloc, &matches);
     drop(matches);
     match asked? {
+        Some(call) if lacks_file(&call) => {
+            drop(call);
+            let kind = ErrorKind::MissingRequiredArgument;
+            Err(command.error(
+                kind,
+                "a check on contexts wants the FILE that is rendered on them",
+            )?)
+        }
         Some(call) => Ok(call),
         None => Err(command.error(ErrorKind::MissingSubcommand, "a command is missing")?),
+    }
+}
+
+// Whether a call asks for a check on contexts, and for no file.
+fn lacks_file(call: &Call<'_>) -> bool {
+    match call {
+        Call::Fit(call) => call.check.files.is_empty(),
+        _ => false,
     }
 }
 
@@ -251,7 +315,7 @@ fn asked_for<'a>(alloc: Global, matches: &ArgMatches<'a>) -> Result<Option<Call<
             None => Ok(Some(Call::Render(render_call(alloc, found)?))),
         },
         Some((BUILD, found)) => Ok(Some(Call::Build(build_call(alloc, found)?))),
-        Some((CHECK, found)) => Ok(Some(Call::Check(check_call(alloc, found)?))),
+        Some((CHECK, found)) => Ok(Some(any_check(alloc, found)?)),
         Some((NAMES, found)) => Ok(Some(Call::Names(names_call(found)))),
         _ => Ok(None),
     }
@@ -324,6 +388,47 @@ fn color_of(word: Option<&str>) -> Color {
         Some("never") => Color::Never,
         _ => Color::Auto,
     }
+}
+
+// What the matches of a check ask for: to write a shape, or to check, on contexts if there are some.
+fn any_check<'a>(alloc: Global, matches: &ArgMatches<'a>) -> Result<Call<'a>, AllocError> {
+    if matches.get_flag(SHAPE_OUT) {
+        return Ok(Call::Shape(ShapeCall {
+            contexts: contexts_call(alloc, matches)?,
+            color: color_of(matches.get_str(COLOR)),
+        }));
+    }
+    let check = check_call(alloc, matches)?;
+    let contexts = contexts_call(alloc, matches)?;
+    Ok(if has_contexts(&contexts) {
+        Call::Fit(FitCall { check, contexts })
+    } else {
+        Call::Check(check)
+    })
+}
+
+// Whether there are contexts.
+fn has_contexts(contexts: &ContextsCall<'_>) -> bool {
+    contexts.schema.is_some()
+        || contexts.env
+        || !contexts.data.is_empty()
+        || !contexts.set_json.is_empty()
+        || !contexts.set.is_empty()
+}
+
+// The contexts that the matches of a check ask for.
+fn contexts_call<'a>(
+    alloc: Global,
+    matches: &ArgMatches<'a>,
+) -> Result<ContextsCall<'a>, AllocError> {
+    Ok(ContextsCall {
+        schema: matches.get_str(SCHEMA),
+        env: matches.get_flag(ENV),
+        data: words(alloc, matches.get_strs(DATA))?,
+        format: matches.get_str(FORMAT),
+        set_json: words(alloc, matches.get_strs(SET_JSON))?,
+        set: words(alloc, matches.get_strs(SET))?,
+    })
 }
 
 // What a check's matches ask for.
@@ -455,21 +560,51 @@ fn with_limits<'a>(alloc: Global, command: Command<'a>) -> Result<Command<'a>, A
 }
 
 fn check_command<'a>(alloc: Global) -> Result<Command<'a>, AllocError> {
-    let files = Arg::new(alloc, FILE)
-        .num_args(1..)
-        .action(ArgAction::Append)
-        .required_unless_present(TEMPLATES)?
-        .help("The templates, or - for standard input");
     let command = Command::new(alloc, CHECK)
         .about(
             "Shows each error of templates, each include that names none, and each call that fails",
         )
-        .arg(files)?
+        .arg(checked_files(alloc)?)?
         .arg(templates(alloc))?
         .arg(follow(alloc))?;
-    with_languages(alloc, command)?
-        .arg(function(alloc))?
-        .arg(colors(alloc))
+    let command = with_languages(alloc, command)?.arg(function(alloc))?;
+    with_contexts(alloc, command)?.arg(colors(alloc))
+}
+
+fn checked_files<'a>(alloc: Global) -> Result<Arg<'a>, AllocError> {
+    Ok(
+        Arg::new(alloc, FILE)
+            .num_args(1..)
+            .action(ArgAction::Append)
+            .required_unless_present(TEMPLATES)?
+            .required_unless_present(SHAPE_OUT)?
+            .help("The templates, or - for standard input"),
+    )
+}
+
+// A command with the arguments of contexts: samples, or a schema.
+fn with_contexts<'a>(alloc: Global, command: Command<'a>) -> Result<Command<'a>, AllocError> {
+    let contexts = ArgGroup::new(alloc, CONTEXTS)
+        .arg(SCHEMA)?
+        .arg(DATA)?
+        .arg(ENV)?
+        .arg(SET_JSON)?
+        .arg(SET)?
+        .multiple(true);
+    with_samples(alloc, command)?
+        .arg(schema(alloc)?)?
+        .arg(shape_out(alloc)?)?
+        .group(contexts)
+}
+
+// A command with the arguments of samples.
+fn with_samples<'a>(alloc: Global, command: Command<'a>) -> Result<Command<'a>, AllocError> {
+    command
+        .arg(env(alloc))?
+        .arg(samples(alloc))?
+        .arg(format(alloc))?
+        .arg(set_json(alloc))?
+        .arg(set(alloc))
 }
 
 fn names_command<'a>(alloc: Global) -> Result<Command<'a>, AllocError> {
@@ -515,6 +650,38 @@ fn data<'a>(alloc: Global) -> Arg<'a> {
         "A file of JSON, JSON lines, CSV or TOML for the context, FILE or KEY=FILE; - for standard input",
     )
     .action(ArgAction::Append)
+}
+
+fn samples<'a>(alloc: Global) -> Arg<'a> {
+    option(
+        alloc,
+        DATA,
+        "DATA",
+        "Check that each FILE ends well on data as FILE of DATA has; KEY=FILE is put into each sample",
+    )
+    .action(ArgAction::Append)
+}
+
+fn schema<'a>(alloc: Global) -> Result<Arg<'a>, AllocError> {
+    option(
+        alloc,
+        SCHEMA,
+        "SCHEMA",
+        "Check that each FILE ends well on data that are valid by a JSON Schema",
+    )
+    .conflicts_with(DATA)?
+    .conflicts_with(FORMAT)?
+    .conflicts_with(ENV)?
+    .conflicts_with(SET_JSON)?
+    .conflicts_with(SET)
+}
+
+fn shape_out<'a>(alloc: Global) -> Result<Arg<'a>, AllocError> {
+    let help = "Write the JSON Schema of the data, in place of a check";
+    flag(alloc, SHAPE_OUT, help)
+        .requires_arg(CONTEXTS)?
+        .conflicts_with(FILE)?
+        .conflicts_with(TEMPLATES)
 }
 
 fn format<'a>(alloc: Global) -> Arg<'a> {

@@ -10,5 +10,5 @@ pub mod includes;
 pub mod known;
 pub mod library;
 pub mod near;
-mod picture;
+pub mod picture;
 pub mod terminal;

@@ -7,8 +7,8 @@ use crate::library::Library;
 use std::alloc::{AllocError, Global};
 use std::io::Write;
 use upon::{Engine, Error, Value};
+use upon_near::said::{names_text, near_text};
 use upon_tool_calls::judge::Declared;
-use upon_tool_near::said::{names_text, near_text};
 use upon_types::value::look::entry;
 
 /// Says what an error is, with its picture, and which names there are in place of one that is not there.

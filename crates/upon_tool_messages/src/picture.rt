@@ -17,7 +17,7 @@ const MORE: char = '…';
 
 /// Returns what is told of an error, with a long line cut to what is around the place that is marked. The line has its
 /// control characters spelled, as the marks below it have to know. It fails if there is no memory.
-pub(crate) fn shown(alloc: Global, text: &str) -> Result<String, AllocError> {
+pub fn shown(alloc: Global, text: &str) -> Result<String, AllocError> {
     let mut shown = String::new(alloc);
     let mut last: Option<&str> = None;
     for line in text.lines() {

@@ -2,6 +2,7 @@
 pub mod calls;
 pub mod checks;
 pub mod colors;
+pub mod contexts;
 pub mod data;
 pub mod hints;
 pub mod libraries;

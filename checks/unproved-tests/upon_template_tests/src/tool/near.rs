@@ -7,13 +7,13 @@ use std::test::Fail;
 use upon::{Engine, Limits};
 use upon_data::lines::json;
 use upon_html::formatters::Verbatim;
+use upon_near::said::{names_text, near_text};
 use upon_std::table::{ALL, StandardFunction};
 use upon_tool::check::check_text;
 use upon_tool::rendering::{Page, show};
 use upon_tool_calls::judge::Declared;
 use upon_tool_messages::call_check::CallCheck;
 use upon_tool_messages::library::Library;
-use upon_tool_near::said::{names_text, near_text};
 
 #[test]
 fn nearest_names(rt: HostRuntime) -> Result<(), Fail> {

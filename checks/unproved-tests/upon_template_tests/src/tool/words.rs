@@ -2,7 +2,8 @@
 use std::alloc::{AllocError, Global};
 use std::test::Fail;
 use upon_tool_io::arguments::{
-    BuildCall, Call, CheckCall, Color, EachCall, Escape, NamesCall, RenderCall, read,
+    BuildCall, Call, CheckCall, Color, ContextsCall, EachCall, Escape, FitCall, NamesCall,
+    RenderCall, ShapeCall, read,
 };
 
 // The words ask for this, as one text.
@@ -14,6 +15,8 @@ fn asks(alloc: Global, words: &[&str], wanted: &str) -> Result<(), Fail> {
     let line = match read(alloc, owned.as_slice()) {
         Ok(Call::Render(call)) => render_line(alloc, &call)?,
         Ok(Call::Check(call)) => check_line(alloc, &call)?,
+        Ok(Call::Fit(call)) => fit_line(alloc, &call)?,
+        Ok(Call::Shape(call)) => shape_line(alloc, &call)?,
         Ok(Call::Names(call)) => names_line(alloc, &call)?,
         Ok(Call::Each(call)) => each_line(alloc, &call)?,
         Ok(Call::Build(call)) => build_line(alloc, &call)?,
@@ -78,6 +81,34 @@ fn check_line(alloc: Global, call: &CheckCall<'_>) -> Result<String, AllocError>
     let called = called_text(alloc, *escape, *standard, functions.as_slice())?;
     let color = color_text(*color);
     format!(in alloc; "{files:?} {templates:?} {follow}{called}{color}")
+}
+
+fn fit_line(alloc: Global, call: &FitCall<'_>) -> Result<String, AllocError> {
+    let FitCall { check, contexts } = call;
+    let check = check_line(alloc, check)?;
+    let contexts = contexts_text(alloc, contexts)?;
+    format!(in alloc; "{check} on {contexts}")
+}
+
+fn shape_line(alloc: Global, call: &ShapeCall<'_>) -> Result<String, AllocError> {
+    let ShapeCall { contexts, color } = call;
+    let contexts = contexts_text(alloc, contexts)?;
+    let color = color_text(*color);
+    format!(in alloc; "shape of {contexts}{color}")
+}
+
+// The contexts of a check.
+fn contexts_text(alloc: Global, contexts: &ContextsCall<'_>) -> Result<String, AllocError> {
+    let ContextsCall {
+        schema,
+        env,
+        data,
+        format,
+        set_json,
+        set,
+    } = contexts;
+    let env = env_text(*env);
+    format!(in alloc; "{schema:?} {data:?} {format:?} {set_json:?} {set:?}{env}")
 }
 
 // What a check says of what templates may call, if it does.
@@ -215,7 +246,8 @@ fn data(rt: HostRuntime) -> Result<(), Fail> {
     ] {
         let [first, second] = words;
         asks(alloc, &["t", "render", "a", first, second], wanted)?;
-        asks(alloc, &["t", "check", "a", first], "UnknownArgument")?;
+        asks(alloc, &["t", "check", "a", first, second], wanted)?;
+        asks(alloc, &["t", "names", "a", first], "UnknownArgument")?;
     }
     Ok(())
 }
@@ -246,7 +278,7 @@ fn environment_and_colors(rt: HostRuntime) -> Result<(), Fail> {
     }
     asks(alloc, &["t", "render", "a", "--env", "--env"], "ArgumentConflict")?;
     asks(alloc, &["t", "render", "a", "--env=PATH"], "TooManyValues")?;
-    asks(alloc, &["t", "check", "a", "--env"], "UnknownArgument")
+    asks(alloc, &["t", "names", "a", "--env"], "UnknownArgument")
 }
 
 #[test]
@@ -333,6 +365,83 @@ fn checks(rt: HostRuntime) -> Result<(), Fail> {
     asks(alloc, words.as_slice(), "[\"a\"] None false None true [\"f\", \"g\"]")?;
     asks(alloc, &["t", "render", "a", "--function=f"], "UnknownArgument")?;
     asks(alloc, &["t", "names", "a", "--std"], "UnknownArgument")
+}
+
+#[test]
+fn checks_on_contexts(rt: HostRuntime) -> Result<(), Fail> {
+    let alloc = rt.alloc();
+    let begins = "[\"a\"] None false on";
+    for (words, contexts) in [
+        (["--data", "b", "--data=k=c"], "None [\"b\", \"k=c\"] None [] []"),
+        (["--data=-", "--format", "toml"], "None [\"-\"] Some(\"toml\") [] []"),
+        (["--set-json=k=1", "--set", "k=v"], "None [] None [\"k=1\"] [\"k=v\"]"),
+        (["--set=", "--env", "--set=a"], "None [] None [] [\"\", \"a\"] env"),
+        (["--env", "--format", "csv"], "None [] Some(\"csv\") [] [] env"),
+        (["--schema", "s", "--color=auto"], "Some(\"s\") [] None [] []"),
+        (["--schema=-", "--color", "never"], "Some(\"-\") [] None [] [] never"),
+    ] {
+        let [first, second, third] = words;
+        let wanted = match contexts.strip_suffix(" never") {
+            Some(contexts) => format!(in alloc; "[\"a\"] None false never on {contexts}")?,
+            None => format!(in alloc; "{begins} {contexts}")?,
+        };
+        asks(alloc, &["t", "check", "a", first, second, third], wanted.as_str())?;
+    }
+    let words = [
+        "t", "check", "--std", "--data", "c", "a", "--templates=d", "--html", "b",
+    ];
+    asks(
+        alloc,
+        words.as_slice(),
+        "[\"a\", \"b\"] Some(\"d\") false Some(Html) true [] on None [\"c\"] None [] []",
+    )?;
+    asks(alloc, &["t", "check", "a", "--format=csv"], "[\"a\"] None false")
+}
+
+#[test]
+fn shapes(rt: HostRuntime) -> Result<(), Fail> {
+    let alloc = rt.alloc();
+    for (words, wanted) in [
+        (["--data=a", "--data=k=b"], "shape of None [\"a\", \"k=b\"] None [] []"),
+        (["--schema=s", "--html"], "shape of Some(\"s\") [] None [] []"),
+        (["--env", "--color=never"], "shape of None [] None [] [] env never"),
+        (["--set=a=b", "--format=toml"], "shape of None [] Some(\"toml\") [] [\"a=b\"]"),
+        (["--set-json=a=1", "--std"], "shape of None [] None [\"a=1\"] []"),
+    ] {
+        let [first, second] = words;
+        asks(alloc, &["t", "check", first, "--shape-out", second], wanted)?;
+    }
+    Ok(())
+}
+
+#[test]
+fn contexts_that_are_refused(rt: HostRuntime) -> Result<(), Fail> {
+    let alloc = rt.alloc();
+    for (words, wanted) in [
+        (["a", "--schema=s", "--data=b"], "ArgumentConflict"),
+        (["a", "--schema=s", "--env"], "ArgumentConflict"),
+        (["a", "--schema=s", "--set=a=b"], "ArgumentConflict"),
+        (["a", "--schema=s", "--set-json=a=1"], "ArgumentConflict"),
+        (["a", "--schema=s", "--format=csv"], "ArgumentConflict"),
+        (["a", "--schema=s", "--schema=t"], "ArgumentConflict"),
+        (["a", "--shape-out", "--data=b"], "ArgumentConflict"),
+        (["--templates=d", "--shape-out", "--data=b"], "ArgumentConflict"),
+        (["--data=b", "--shape-out", "--shape-out"], "ArgumentConflict"),
+        (["a", "--data=b", "--schema"], "InvalidValue"),
+        (["a", "--data=b", "--data"], "InvalidValue"),
+        (["--std", "--shape-out", "--format=csv"], "MissingRequiredArgument"),
+        (["--std", "--html", "--data=b"], "MissingRequiredArgument"),
+        (["--std", "--html", "--schema=s"], "MissingRequiredArgument"),
+        (["--follow", "--templates=d", "--data=b"], "MissingRequiredArgument"),
+        (["--follow", "--templates=d", "--schema=s"], "MissingRequiredArgument"),
+        (["a", "--data=b", "--out=c"], "UnknownArgument"),
+    ] {
+        let [first, second, third] = words;
+        asks(alloc, &["t", "check", first, second, third], wanted)?;
+    }
+    asks(alloc, &["t", "render", "a", "--schema=s"], "UnknownArgument")?;
+    asks(alloc, &["t", "build", "a", "--shape-out"], "UnknownArgument")?;
+    asks(alloc, &["t", "names", "a", "--data=b"], "UnknownArgument")
 }
 
 #[test]
