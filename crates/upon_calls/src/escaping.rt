@@ -43,9 +43,9 @@ impl Language {
 
 /// A formatter that writes each value so that it ends nothing of a language's text.
 #[derive(Clone, Copy)]
-pub(crate) struct Escaping {
+pub struct Escaping {
     /// The language.
-    pub(crate) language: Language,
+    pub language: Language,
 }
 
 impl Format for Escaping {

@@ -64,8 +64,8 @@ fn listed(alloc: Global, needs: Result<Needs<'_>, AllocError>) -> Result<String,
     Ok(object_text(alloc, &needs)?)
 }
 
-// The text of the object of JSON.
-fn object_text(alloc: Global, needs: &Needs<'_>) -> Result<String, AllocError>
+/// Returns the object of JSON that says what is needed, in a line. It fails if there is no memory.
+pub fn object_text(alloc: Global, needs: &Needs<'_>) -> Result<String, AllocError>
     ensures { IfOk result (λ text. string_bytes text ≡ compact_text (needs_data needs.now)) }
 {
     let json = object(alloc, needs)?;

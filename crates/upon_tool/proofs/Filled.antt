@@ -28,12 +28,16 @@ use Rattle.upon_tool_messages.specs.Status.{end_status}
 use Rattle.upon_tool_messages.specs.declared.failure.Failure.{Failure}
 use Rattle.upon_tool_messages.specs.declared.failure.Failure.TheVariants.{Fault}
 use Rattle.upon_tool_messages.specs.declared.library.Refusal.{Refusal}
-use Rattle.upon_tool.specs.Escaping.{format_for}
+use Rattle.upon_calls.specs.Escaping.{format_for}
+use Rattle.upon_calls.specs.Filled.{escaping_engine, with_functions}
+use Rattle.upon_calls.specs.Names.{NeededBy}
+use Rattle.upon_calls.specs.declared.escaping.Language.{Language}
+use Rattle.upon_tool_shapes.specs.Fitting.{language_for}
 use Rattle.upon_std.specs.Table.{standard_answer, standard_name}
 use Rattle.upon_std.specs.declared.table.StandardFunction.{StandardFunction}
-use Rattle.upon_tool.specs.Names.{needs_text, NeededBy}
+use Rattle.upon_tool.specs.Names.{needs_text}
 use Rattle.upon_tool.specs.Rendering.{Renders, SendsPage, StaysWithin}
-use Rattle.upon_tool.specs.Filled.{engine_for, escaping_engine, with_functions, with_page, EachHasTree, TakesFiles, TakesRead, TakesText}
+use Rattle.upon_tool.specs.Filled.{engine_for, with_page, EachHasTree, TakesFiles, TakesRead, TakesText}
 use Rattle.upon_tool.specs.Work.{IsCheck, ListsNames, RefusesWork, Works}
 use Rattle.upon_tool.specs.declared.sources.FolderFile.{FolderFile}
 use Rattle.upon_tool.specs.declared.work.Templates.{Templates}
@@ -54,7 +58,7 @@ takes_syntax : (files : List FolderFile) (old new : Texts) → TakesFiles files 
 takes_syntax [] old new is = ap (λ e. e.syntax) is
 takes_syntax (file ∷ files) old new takes = takes_syntax files takes.0 new takes.2 ∙ read_syntax (string_bytes file.name) file.read old takes.0 takes.1
 
-escaping_syntax : (escape : Option Escape) → (escaping_engine escape).syntax ≡ default_delimiters
+escaping_syntax : (escape : Option Language) → (escaping_engine escape).syntax ≡ default_delimiters
 escaping_syntax None = refl
 escaping_syntax (Some language) = refl
 
@@ -63,7 +67,7 @@ functions_syntax [] e = refl
 functions_syntax (f ∷ fs) e = functions_syntax fs (with_callable (standard_name f) (function (standard_answer f)) e)
 
 begun_syntax : (escape : Option Escape) (functions : List StandardFunction) → (engine_for escape functions).syntax ≡ default_delimiters
-begun_syntax escape functions = functions_syntax functions (escaping_engine escape) ∙ escaping_syntax escape
+begun_syntax escape functions = functions_syntax functions (escaping_engine (language_for escape)) ∙ escaping_syntax (language_for escape)
 
 -- ---- what is shown
 -- a page of this name is shown on this value
@@ -111,13 +115,13 @@ check_kept work same is check = subst IsCheck (sym is) check
 
 -- ---- how an engine is filled
 -- its formatters, if values are escaped
-pub with_escape : (b a e : Texts) (f g : Formatter) (escape : Option Escape) (language : Escape) → escape ≡ Some language → b ≡ empty_engine → a ≡ with_callable (codes "verbatim") (formatter f) b → f ≡ default_format → e ≡ with_default_formatter g a → g ≡ format_for language → e ≡ escaping_engine escape
+pub with_escape : (b a e : Texts) (f g : Formatter) (escape : Option Language) (language : Language) → escape ≡ Some language → b ≡ empty_engine → a ≡ with_callable (codes "verbatim") (formatter f) b → f ≡ default_format → e ≡ with_default_formatter g a → g ≡ format_for language → e ≡ escaping_engine escape
 with_escape b a e f g escape language so before added verbatim set escapes =
     set
     ∙ (λ i. with_default_formatter (escapes i) ((added ∙ λ j. with_callable (codes "verbatim") (formatter (verbatim j)) (before j)) i))
     ∙ ap escaping_engine (sym so)
 
-pub without_escape : (e : Texts) (escape : Option Escape) → escape ≡ None → e ≡ empty_engine → e ≡ escaping_engine escape
+pub without_escape : (e : Texts) (escape : Option Language) → escape ≡ None → e ≡ empty_engine → e ≡ escaping_engine escape
 without_escape e escape so is = is ∙ ap escaping_engine (sym so)
 
 -- its functions, one more
@@ -134,7 +138,7 @@ function_added functions i d f name answers first old new inside so_far is named
     ∙ ap (λ f. with_functions (take i functions ++ f ∷ []) first) (sym is)
     ∙ ap (λ fs. with_functions fs first) (sym (take_more functions i d inside))
 
-pub all_added : (functions : List StandardFunction) (i : ℕ) (escape : Option Escape) (first e : Texts) → length functions ≤ i → e ≡ with_functions (take i functions) first → first ≡ escaping_engine escape → e ≡ engine_for escape functions
+pub all_added : (functions : List StandardFunction) (i : ℕ) (escape : Option Escape) (first e : Texts) → length functions ≤ i → e ≡ with_functions (take i functions) first → first ≡ escaping_engine (language_for escape) → e ≡ engine_for escape functions
 all_added functions i escape first e done is begun =
     is
     ∙ ap (λ fs. with_functions fs first) (take_all i functions done)

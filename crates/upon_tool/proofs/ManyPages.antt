@@ -18,7 +18,7 @@ use Rattle.upon_tool_messages.specs.declared.failure.Failure.{Failure}
 use Rattle.upon_tool_messages.specs.declared.failure.Failure.TheVariants.{Data}
 use Rattle.upon_tool.specs.Calls.{is_input, IsFaultOfLayout, IsLayout, IsNoContext, RefusesCall}
 use Rattle.upon_tool.specs.ManyPages.{limits_set, BuildIsWell, EachIsWell}
-use Rattle.upon_tool.specs.Rendering.{is_limited}
+use Rattle.upon_calls.specs.Rendering.{is_limited}
 use Rattle.upon_tool.specs.Refusals.{Refuses}
 use Rattle.upon_tool.specs.Sources.{IsUnread}
 use Rattle.upon_tool.specs.Work.{Works}

@@ -19,7 +19,8 @@ use Rattle.upon_engine.specs.Within.{runs}
 use Rattle.upon_engine.specs.declared.engine.Engine.{Engine as Held}
 use Rattle.upon_tool_messages.specs.declared.failure.Failure.{Failure}
 use Rattle.upon_tool_messages.specs.declared.failure.Failure.TheVariants.{Unreadable, NotText, Data, Unwritable, Fault}
-use Rattle.upon_tool.specs.Rendering.{is_limited, Renders, SendsIf, SendsPage, StaysWithin}
+use Rattle.upon_calls.specs.Rendering.{is_limited}
+use Rattle.upon_tool.specs.Rendering.{Renders, SendsIf, SendsPage, StaysWithin}
 
 appends_kept : (old sent new : Option (List ℕ)) (text : List ℕ) → Appends old sent text → Keeps sent new → Appends old new text
 appends_kept None sent new text appends keeps = tt

@@ -57,9 +57,9 @@ abbrev pub engine_asked : RenderCall → Texts
 engine_asked call = engine_for call.escape (standard_functions call.standard)
 
 -- A call of `render` ends with a status, by what standard input had left, if that is known. FILE's text was read, and
--- the files of the context, after it, which is a value; and then the folder's files. If the output is standard output,
--- FILE's text has a tree, whose meaning was sent to it on that value, with FILE over the folder's files, up to an end of
--- this status; and no more bytes than the call allows.
+-- the files of the context, after it, which is a value; and then the folder's files. If the output is standard
+-- output, FILE's text has a tree, whose meaning was sent to it on that value, with FILE over the folder's files, up
+-- to an end of this status; and no more bytes than the call allows.
 pub record RendersCall (call : RenderCall) (input : Option (List ℕ)) (status : ℕ) (old new : Option (List ℕ))
     : Type 0 where
   pub text : List ℕ
@@ -78,7 +78,8 @@ pub record RendersCall (call : RenderCall) (input : Option (List ℕ)) (status :
       (λ r. SendsPage (limits_asked call) (with_text call.file.now text folder) (Some call.file.now) text tree value r
       old new) end × StaysWithin call.max_output old new)
 
--- A call of `names` ends with a status, so. If that is 0, it was listed what FILE's text needs, with the folder's files.
+-- A call of `names` ends with a status, so. If that is 0, it was listed what FILE's text needs, with the folder's
+-- files.
 pub record ListsCall (call : NamesCall) (input : Option (List ℕ)) (status : ℕ) (old new : Option (List ℕ))
     : Type 0 where
   pub text : List ℕ
@@ -100,9 +101,9 @@ each_asked call = record {
   keep_going = call.keep_going;
 }
 
--- A call of `render` with `--each` ends with a status, so. FILE's text was read, and the files of the context, after it,
--- and then the folder's files. If the status is 0, FILE was rendered for each item of the list, with the folder's files,
--- and no page failed.
+-- A call of `render` with `--each` ends with a status, so. FILE's text was read, and the files of the context, after
+-- it, and then the folder's files. If the status is 0, FILE was rendered for each item of the list, with the folder's
+-- files, and no page failed.
 pub record RendersEachCall (call : EachCall) (input : Option (List ℕ)) (status : ℕ) : Type 0 where
   pub text : List ℕ
   pub later : Option (List ℕ)
@@ -139,9 +140,9 @@ IsLayout None input page = page ≡ None
 IsLayout (Some name) input page =
     IsSomeAnd page (λ page. (page.0 ≡ name) × IsTextOf name.now input (string_bytes page.1))
 
--- A call of `build` ends with a status, so. The layout's text was read, and the files of the context, after it, and then
--- the files of the folder of templates. If the status is 0, the folder was built, with the layout over those files, and
--- no page failed.
+-- A call of `build` ends with a status, so. The layout's text was read, and the files of the context, after it, and
+-- then the files of the folder of templates. If the status is 0, the folder was built, with the layout over those
+-- files, and no page failed.
 pub record BuildsCall (call : BuildCall) (input : Option (List ℕ)) (status : ℕ) : Type 0 where
   pub layout : Option (Bor (List ℕ) × String Global)
   pub later : Option (List ℕ)

@@ -1,32 +1,19 @@
 -- What an engine holds as it is filled: its formatters, the files of a folder, and a template.
-use Rattle.std.specs.Prelude.{◌≡◌, ◌⊎◌, ℕ, List, [], ◌∷◌, Bool, if◌then◌else◌, codes, Option, Some, None, Result, Ok, Err, String, string_bytes}
+use Rattle.std.specs.Prelude.{◌≡◌, ◌⊎◌, ℕ, List, [], ◌∷◌, Bool, if◌then◌else◌, Option, Some, None, Result, Ok, Err, String, string_bytes}
 use Rattle.std.specs.Borrow.{Bor}
 use Rattle.std.specs.declared.alloc.Global.{Global}
-use Rattle.upon_types.specs.Answers.{formatter, function}
 use Rattle.upon_types.specs.Tree.{Statements}
 use Rattle.upon_language_spec.specs.Grammar.{HasTree}
-use Rattle.upon_meaning_spec.specs.DefaultFormat.{default_format}
-use Rattle.upon_engine.specs.Changes.{empty_engine, with_callable, with_default_formatter, with_text}
+use Rattle.upon_engine.specs.Changes.{with_text}
 use Rattle.upon_engine.specs.Texts.{Stored, Texts}
-use Rattle.upon_std.specs.Table.{standard_answer, standard_name}
 use Rattle.upon_std.specs.declared.table.TheConstants.{ALL}
 use Rattle.upon_std.specs.declared.table.StandardFunction.{StandardFunction}
+use Rattle.upon_calls.specs.Filled.{escaping_engine, with_functions}
 use Rattle.upon_tool_io.specs.declared.files.ReadFault.{ReadFault}
 use Rattle.upon_tool_io.specs.declared.arguments.Escape.{Escape}
-use Rattle.upon_tool.specs.Escaping.{format_for}
+use Rattle.upon_tool_shapes.specs.Fitting.{language_for}
 use Rattle.upon_tool.specs.declared.sources.FolderFile.{FolderFile}
 use Rattle.upon_tool.specs.declared.work.Templates.{Templates}
-
--- what an engine holds at first: if values are escaped, the formatter of the language, and `verbatim`
-abbrev pub escaping_engine : Option Escape → Texts
-escaping_engine None = empty_engine
-escaping_engine (Some language) = with_default_formatter (format_for language)
-    (with_callable (codes "verbatim") (formatter default_format) empty_engine)
-
--- with functions under their names, one after the other
-abbrev pub with_functions : List StandardFunction → Texts → Texts
-with_functions [] e = e
-with_functions (f ∷ fs) e = with_functions fs (with_callable (standard_name f) (function (standard_answer f)) e)
 
 -- the functions that templates may call: the standard ones if they are wanted, else none
 abbrev pub standard_functions : Bool → List StandardFunction
@@ -34,7 +21,7 @@ standard_functions wanted = if wanted then ALL else []
 
 -- what an engine holds before its templates: formatters and functions
 abbrev pub engine_for : Option Escape → List StandardFunction → Texts
-engine_for escape functions = with_functions functions (escaping_engine escape)
+engine_for escape functions = with_functions functions (escaping_engine (language_for escape))
 
 -- a text is held under a name, or it has no tree and nothing changes
 abbrev pub TakesText : List ℕ → List ℕ → Texts → Texts → Type 0
@@ -59,7 +46,8 @@ with_page (Some page) e = with_text page.0.now (string_bytes page.1) e
 
 -- an engine holds the files of a folder, and then a template in place of one of its name
 abbrev pub Fills : Templates → Texts → Type 0
-Fills templates e = (folder : Texts) × TakesFiles templates.files.items (engine_for templates.escape templates.functions.now) folder
+Fills templates e = (folder : Texts)
+    × TakesFiles templates.files.items (engine_for templates.escape templates.functions.now) folder
     × (e ≡ with_page templates.page folder)
 
 -- each text that is held has a tree

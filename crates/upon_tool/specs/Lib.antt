@@ -3,7 +3,6 @@ pub mod Missing
 pub mod Names
 pub mod Sources
 pub mod Refusals
-pub mod Escaping
 pub mod Filled
 pub mod ManyPages
 pub mod Work

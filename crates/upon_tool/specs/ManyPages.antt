@@ -10,7 +10,7 @@ use Rattle.upon_tool_many.specs.Pages.{is_failed}
 use Rattle.upon_tool_many.specs.declared.build.Build.{Build}
 use Rattle.upon_tool_many.specs.declared.each.Each.{Each}
 use Rattle.upon_tool_many.specs.declared.pages.DonePage.{DonePage}
-use Rattle.upon_tool.specs.Rendering.{is_limited}
+use Rattle.upon_calls.specs.Rendering.{is_limited}
 
 -- no page failed
 abbrev pub AreWell : List DonePage → Type 0

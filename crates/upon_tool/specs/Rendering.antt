@@ -1,5 +1,5 @@
 -- What a rendering on a value answers.
-use Rattle.std.specs.Prelude.{◌≡◌, ◌||◌, ℕ, List, Bool, true, false, Option, Some, None, is_some, Result, Ok, Err}
+use Rattle.std.specs.Prelude.{◌≡◌, ℕ, List, Bool, true, false, Option, Some, None, Result, Ok, Err}
 use Rattle.upon_types.specs.Tree.{Statements}
 use Rattle.upon_types.specs.Val.{Val}
 use Rattle.upon_types.specs.View.{view}
@@ -10,14 +10,11 @@ use Rattle.upon_vm.specs.declared.limits.Limits.{Limits}
 use Rattle.upon_engine.specs.Texts.{Stored, Texts}
 use Rattle.upon_engine.specs.Theorem.{Sends}
 use Rattle.upon_engine.specs.Within.{SendsWithin}
+use Rattle.upon_calls.specs.Rendering.{is_limited}
 use Rattle.upon_tool_messages.specs.Status.{end_status}
 use Rattle.upon_tool_messages.specs.declared.failure.Failure.{Failure}
 use Rattle.upon_tool_messages.specs.declared.failure.Failure.TheVariants.{Unreadable, NotText, Data, Unwritable, Fault}
 use Rattle.upon_tool.specs.declared.rendering.Page.{Page}
-
--- whether a limit is set
-abbrev pub is_limited : Limits → Bool
-is_limited limits = (is_some limits.steps || is_some limits.output) || is_some limits.values
 
 -- what was sent of the tree of a text: without limits, or within them
 abbrev pub SendsIf : Bool → Limits → Texts → Option (List ℕ) → List ℕ → Statements → Val → Result (Unit {0}) Error
@@ -25,7 +22,8 @@ abbrev pub SendsIf : Bool → Limits → Texts → Option (List ℕ) → List �
 SendsIf false limits e name text tree v result old new = Sends e name text tree v result old new
 SendsIf true limits e name text tree v result old new = SendsWithin e limits name text tree v result old new
 
--- What was sent, by the limits: what the theorem says if none is set, and else what is said of renderings within limits.
+-- What was sent, by the limits: what the theorem says if none is set, and else what is said of renderings within
+-- limits.
 abbrev pub SendsPage : Limits → Texts → Option (List ℕ) → List ℕ → Statements → Val → Result (Unit {0}) Error
     → Option (List ℕ) → Option (List ℕ) → Type 0
 SendsPage limits e name text tree v result old new =
@@ -45,8 +43,8 @@ Renders Sent (Err (Unreadable name error)) = ⊥
 Renders Sent (Err (NotText name)) = ⊥
 Renders Sent (Err (Unwritable name error)) = ⊥
 
--- A page is shown by an engine that holds these texts. If a text is held under its name, what its tree means was sent on
--- the value, up to an end that has this status, and no more bytes than a limit allows.
+-- A page is shown by an engine that holds these texts. If a text is held under its name, what its tree means was sent
+-- on the value, up to an end that has this status, and no more bytes than a limit allows.
 abbrev pub ShowsPage : Texts → Page → ℕ → Option (List ℕ) → Option (List ℕ) → Type 0
 ShowsPage e page status old new = (held : Stored) (tree : Statements) → e.texts page.name.now ≡ Some held
     → ∥ HasTree held.syntax held.text tree ∥₁

@@ -9,12 +9,13 @@ use Rattle.upon_engine.specs.Faults.{IsSyntaxErrorOf}
 use Rattle.upon_engine.specs.Texts.{Texts}
 use Rattle.upon_engine.specs.Theorem.{IsTable}
 use Rattle.upon_engine.specs.declared.needs.Needs.{Needs}
+use Rattle.upon_calls.specs.Names.{NeededBy}
 use Rattle.upon_tool_data.specs.Sources.{is_standard}
 use Rattle.upon_tool_messages.specs.declared.failure.Failure.{Failure}
 use Rattle.upon_tool.specs.Filled.{EachHasTree, Fills}
 use Rattle.upon_tool.specs.ManyPages.{BuildIsWell, EachIsWell}
 use Rattle.upon_tool.specs.Missing.{EachIsRight, EachName, HeldIsRight}
-use Rattle.upon_tool.specs.Names.{needs_text, NeededBy}
+use Rattle.upon_tool.specs.Names.{needs_text}
 use Rattle.upon_tool.specs.Refusals.{Refuses}
 use Rattle.upon_tool.specs.Rendering.{ShowsPage}
 use Rattle.upon_tool.specs.Sources.{AreTexts}
@@ -36,7 +37,8 @@ ListsNames e name json status old new =
 
 -- files are checked, by what standard input had left: if the status is 0, each of their texts is right
 abbrev pub ChecksFiles : Texts → List (Bor (List ℕ)) → Option (List ℕ) → ℕ → Type 0
-ChecksFiles e names input status = (texts : List (List ℕ)) × (later : Option (List ℕ)) × AreTexts names input texts later
+ChecksFiles e names input status = (texts : List (List ℕ)) × (later : Option (List ℕ))
+    × AreTexts names input texts later
     × (status ≡ 0 → (table : Table) → IsTable e.texts table → EachIsRight e.syntax table names texts)
 
 -- a piece of work ends with a status, by what standard input had left
@@ -45,7 +47,8 @@ Works (Render page path) e input status old new = to_standard path ≡ true → 
 Works (Check names callables) e input status old new = (new ≡ old) × ChecksFiles e names.now input status
 Works (Names name json) e input status old new = ListsNames e name.now json status old new
 Works (EachWork value asked terminal) e input status old new = (new ≡ old) × EachIsWell e (view value) asked.now status
-Works (BuildWork value asked terminal) e input status old new = (new ≡ old) × BuildIsWell e (view value.now) asked.now status
+Works (BuildWork value asked terminal) e input status old new =
+    (new ≡ old) × BuildIsWell e (view value.now) asked.now status
 
 -- the files that are checked
 abbrev pub checked_files : Work → List (Bor (List ℕ))
@@ -59,10 +62,12 @@ checked_files (BuildWork value asked terminal) = []
 abbrev pub IsUnreadOf : List (Bor (List ℕ)) → Failure → Type 0
 IsUnreadOf names failure = Refuses (λ fault. ⊥) (Contains names) (λ error. ⊥) failure
 
--- Why work was not done: a file that is to be checked was not read; or the template's text has a fault; or memory was out.
+-- Why work was not done: a file that is to be checked was not read; or the template's text has a fault; or memory was
+-- out.
 abbrev pub RefusesWork : Templates → Work → Failure → Type 0
 RefusesWork templates work failure = Refuses (λ fault. ⊥) (Contains (checked_files work))
-    (λ error. IsSomeAnd templates.page (λ page. IsSyntaxErrorOf page.0.now default_delimiters (string_bytes page.1) error))
+    (λ error. IsSomeAnd templates.page
+    (λ page. IsSyntaxErrorOf page.0.now default_delimiters (string_bytes page.1) error))
     failure
 
 -- files are to be checked
@@ -78,8 +83,8 @@ abbrev pub EachFileIsRight : Texts → List FolderFile → Type 0
 EachFileIsRight e files =
     EachName (λ name. IsSome (e.texts name) × HeldIsRight e name) (map (λ file. string_bytes file.name) files)
 
--- An engine is filled, and does a piece of work that ends with a status. If files were to be checked, and that is 0, those
--- of the folder are right too.
+-- An engine is filled, and does a piece of work that ends with a status. If files were to be checked, and that is 0,
+-- those of the folder are right too.
 abbrev pub CarriesOut : Templates → Work → Option (List ℕ) → ℕ → Option (List ℕ) → Option (List ℕ) → Type 0
 CarriesOut templates work input status old new =
     (e : Texts) × Fills templates e × EachHasTree e × Works work e input status old new

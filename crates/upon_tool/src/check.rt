@@ -48,8 +48,8 @@ fn is_missing(engine: &Engine<'_>, own: &str, name: &str) -> bool
     name != own && engine.get_template(name).is_none()
 }
 
-/// Says what is wrong with the text of a template, beside the files of a library, and returns whether nothing is but calls
-/// that fail, which `calls` keeps. It fails if there is no memory.
+/// Says what is wrong with the text of a template, beside the files of a library, and returns whether nothing is but
+/// calls that fail, which `calls` keeps. It fails if there is no memory.
 pub fn check_text<E: io::Write>(
     alloc: Global,
     engine: &Engine<'_>,

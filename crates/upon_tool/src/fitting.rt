@@ -17,6 +17,7 @@ use std::time::Clock;
 use upon_tool_data::fault::ContextFault;
 use upon_tool_data::sources::STANDARD;
 use upon_tool_io::arguments::{FitCall, ShapeCall};
+use upon_tool_io::files::ReadFault;
 use upon_tool_messages::failure::{Failure, report};
 use upon_tool_shapes::contexts::shape_of;
 use upon_tool_shapes::fitting::{OnShape, fits};
@@ -71,8 +72,10 @@ fn sources_of<'f>(
 {
     let mut sources = Vec::with_capacity(alloc, files.len())?;
     for file in files {
-        if let Ok(text) = &file.read {
-            sources.push((file.name.as_str(), text.as_str()))?;
+        match &file.read {
+            Ok(text) => sources.push((file.name.as_str(), text.as_str()))?,
+            Err(ReadFault::OutOfMemory) => return Err(AllocError),
+            Err(_) => {}
         }
     }
     Ok(sources)

@@ -3,7 +3,6 @@
 #![tactic(auto)]
 
 pub mod check;
-mod escaping;
 mod fitting;
 mod many;
 pub mod names;

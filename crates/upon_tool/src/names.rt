@@ -5,7 +5,8 @@ ghost use Rattle.upon_meaning_spec.specs.Engine.{Template as TemplateMeant};
 ghost use Rattle.upon_engine.specs.Engine.{engine_templates};
 ghost use Rattle.upon_engine.specs.declared.needs.Needs.{Needs as Listed};
 ghost use Rattle.upon_tool_messages.specs.Status.{status_of};
-ghost use Rattle.upon_tool.specs.Names.{needs_text, NeededBy};
+ghost use Rattle.upon_calls.specs.Names.{NeededBy};
+ghost use Rattle.upon_tool.specs.Names.{needs_text};
 
 use crate::names_text::needs_text;
 use std::alloc::Global;

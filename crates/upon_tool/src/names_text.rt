@@ -1,14 +1,11 @@
 // The texts in which it is shown what a template needs: lines, or JSON.
-ghost use Rattle.std.specs.Prelude.{◌≡◌, ◌++◌, map, IfOk, OnOk, string_bytes};
-ghost use Rattle.serde_json.specs.Data.{string};
-ghost use Rattle.serde_json.specs.View.{items_of, items_view, view};
-ghost use Rattle.serde_json.specs.Written.{compact_text};
+ghost use Rattle.std.specs.Prelude.{◌≡◌, ◌++◌, IfOk, OnOk};
 ghost use Rattle.upon_engine.specs.Names.{texts};
-ghost use Rattle.upon_tool.specs.Names.{in_line, lines_of, needs_data, needs_lines, needs_text, one_line};
+ghost use Rattle.upon_tool.specs.Names.{in_line, lines_of, needs_lines, needs_text, one_line};
 
-use serde_json::{Value as Json, json};
 use std::alloc::{AllocError, Global};
 use upon::Needs;
+use upon_calls::names::object_text;
 
 /// Returns what a template needs as one object of JSON in a line, or as lines. It fails if there is no memory.
 pub fn needs_text(alloc: Global, needs: &Needs<'_>, as_json: bool) -> Result<Vec<u8>, AllocError>
@@ -21,36 +18,6 @@ pub fn needs_text(alloc: Global, needs: &Needs<'_>, as_json: bool) -> Result<Vec
     } else {
         lines(alloc, needs)
     }
-}
-
-// The object of JSON.
-fn object_text(alloc: Global, needs: &Needs<'_>) -> Result<String, AllocError>
-    ensures { IfOk result (λ text. string_bytes text ≡ compact_text (needs_data needs.now)) }
-{
-    let json = object(alloc, needs)?;
-    json.to_string(alloc)
-}
-
-// Its members are the three lists, and whether the whole context counts.
-fn object(alloc: Global, needs: &Needs<'_>) -> Result<Json, AllocError>
-    ensures { IfOk result (λ json. view json ≡ needs_data needs.now) }
-{
-    let names = strings(alloc, needs.names())?;
-    let templates = strings(alloc, needs.templates())?;
-    let missing = strings(alloc, needs.missing())?;
-    let whole = needs.is_whole();
-    json!(in alloc; {"names": names, "templates": templates, "missing": missing, "whole": whole})
-}
-
-// Names as values of JSON.
-fn strings(alloc: Global, names: &[&str]) -> Result<Vec<Json>, AllocError>
-    ensures { IfOk result (λ items. items_view items.items ≡ items_of (map string (texts names.now))) }
-{
-    let mut items = Vec::new(alloc);
-    for name in names {
-        items.push(Json::try_from_str(alloc, name)?)?;
-    }
-    Ok(items)
 }
 
 // A line for each name, after its kind; and one more if the whole context counts.

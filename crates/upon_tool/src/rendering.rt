@@ -5,7 +5,8 @@ ghost use Rattle.upon_types.specs.View.{view};
 ghost use Rattle.upon_language_spec.specs.Grammar.{HasTree};
 ghost use Rattle.upon_engine.specs.Texts.{Stored};
 ghost use Rattle.upon_tool_messages.specs.Status.{status_of};
-ghost use Rattle.upon_tool.specs.Rendering.{is_limited, Renders, SendsPage, ShowsPage, StaysWithin};
+ghost use Rattle.upon_calls.specs.Rendering.{is_limited};
+ghost use Rattle.upon_tool.specs.Rendering.{Renders, SendsPage, ShowsPage, StaysWithin};
 
 use std::alloc::Global;
 use std::io;
@@ -36,8 +37,8 @@ pub fn render<'a, O: io::Write>(
     ensures means { let texts = ⟦<AnyEngine as EngineTexts>⟧.texts engine.now in
         (held : Stored) (tree : Statements) → texts.texts page.now.name.now ≡ Some held
         → ∥ HasTree held.syntax held.text tree ∥₁
-        → Renders (λ r. SendsPage page.now.limits texts (Some page.now.name.now) held.text tree (view page.now.value.now) r
-        (O.contents out.old) (O.contents out.new)) result }
+        → Renders (λ r. SendsPage page.now.limits texts (Some page.now.name.now) held.text tree
+        (view page.now.value.now) r (O.contents out.old) (O.contents out.new)) result }
     // It never receives more bytes than the limit is, if that is set.
     ensures bounded { StaysWithin page.now.limits.output (O.contents out.old) (O.contents out.new) }
     // If none is, there is an error.
@@ -92,8 +93,8 @@ pub fn send<'a, O: io::Write>(
     ensures means { let texts = ⟦<AnyEngine as EngineTexts>⟧.texts engine.now in
         (held : Stored) (tree : Statements) → texts.texts page.now.name.now ≡ Some held
         → ∥ HasTree held.syntax held.text tree ∥₁
-        → Renders (λ r. SendsPage page.now.limits texts (Some page.now.name.now) held.text tree (view page.now.value.now) r
-        (O.contents out.old) (O.contents out.new)) result }
+        → Renders (λ r. SendsPage page.now.limits texts (Some page.now.name.now) held.text tree
+        (view page.now.value.now) r (O.contents out.old) (O.contents out.new)) result }
     // It never receives more bytes than the limit is, if that is set.
     ensures bounded { StaysWithin page.now.limits.output (O.contents out.old) (O.contents out.new) }
     // If none is, there is an error.

@@ -10,7 +10,6 @@ ghost use Rattle.upon_tool.specs.Sources.{AreTexts};
 ghost use Rattle.upon_tool.specs.Work.{checked_files, to_standard, CarriesOut, ChecksFiles, IsCheck, IsUnreadOf, ListsNames, RefusesWork, Works};
 
 use crate::check::{check_file, check_text};
-use crate::escaping::Escaping;
 use crate::many::{show_build, show_each};
 use crate::names;
 use crate::rendering::{Page, explain, known_of, send, show};
@@ -21,6 +20,7 @@ use std::io::{BufWriter, Read, Write};
 use std::rt::Files;
 use std::time::Clock;
 use upon::{AnyEngine, Engine, EngineTexts, Value, theorem};
+use upon_calls::escaping::Escaping;
 use upon_engine::laws_of_templates;
 use upon_html::formatters::Verbatim;
 use upon_std::table::StandardFunction;
@@ -33,6 +33,7 @@ use upon_tool_many::each::Each;
 use upon_tool_messages::call_check::CallCheck;
 use upon_tool_messages::failure::Failure;
 use upon_tool_messages::library::{Library, Refusal};
+use upon_tool_shapes::fitting::language_for;
 
 /// What an engine is to hold.
 #[derive(Drop)]
@@ -97,7 +98,7 @@ pub(crate) fn carry_out<
         functions,
     } = templates;
     let mut engine = Engine::new(alloc);
-    if let Some(language) = escape {
+    if let Some(language) = language_for(escape) {
         engine.add_formatter(CowStr::Borrowed("verbatim"), Box::new(alloc, Verbatim)?)?;
         engine.set_default_formatter(Box::new(alloc, Escaping { language })?);
     }

@@ -43,8 +43,8 @@ pub enum CallFault {
     FormatterArguments,
 }
 
-/// Returns what is wrong with a call of what has a name, with so many arguments, if something is: on whatever values it is
-/// made, it fails. It fails if there is no memory.
+/// Returns what is wrong with a call of what has a name, with so many arguments, if something is: on whatever values
+/// it is made, it fails. It fails if there is no memory.
 pub fn fault_of(
     alloc: Global,
     declared: &Declared<'_>,

@@ -3,7 +3,8 @@ use Rattle.std.specs.Prelude.{ℕ, List, ◌∷◌, Option, Some, None, codes}
 use Rattle.upon_tool_messages.specs.declared.color.Tint.{Tint}
 use Rattle.upon_tool_messages.specs.declared.color.Tint.TheVariants.{Plain, Message, Margin, Place, Hint}
 
--- a control sequence that selects graphic renditions (ECMA-48, 8.3.117): these follow the control character and a bracket
+-- a control sequence that selects graphic renditions (ECMA-48, 8.3.117): these follow the control character and a
+-- bracket
 abbrev pub rendition : List ℕ → List ℕ
 rendition parameters = 27 ∷ parameters
 

@@ -1,5 +1,5 @@
-// Calls in templates that fail on any values: of functions that there are not, and with another number of arguments than a
-// function expects.
+// Calls in templates that fail on any values: of functions that there are not, and with another number of arguments
+// than a function expects.
 ghost use Rattle.std.specs.Prelude.{◌≡◌, ◌≤◌, true};
 ghost use Rattle.upon_types.specs.Span.{LiesIn};
 

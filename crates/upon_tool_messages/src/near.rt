@@ -135,8 +135,8 @@ fn of_member(
     }
 }
 
-// Whether an error lies where this name is one of the context: in the template itself that is rendered, or in one that it
-// includes, if it takes the name from its context there.
+// Whether an error lies where this name is one of the context: in the template itself that is rendered, or in one
+// that it includes, if it takes the name from its context there.
 fn is_of_context(
     engine: &Engine<'_>,
     known: &Known<'_>,

@@ -1,5 +1,5 @@
-// What the program says to its user, without control characters: names and templates may have them, and a terminal would
-// obey. With colors, a line is held until its end, as its form says how it is painted.
+// What the program says to its user, without control characters: names and templates may have them, and a terminal
+// would obey. With colors, a line is held until its end, as its form says how it is painted.
 use crate::color::{RESET, Tint, code, parts_of};
 use std::alloc::Global;
 use std::io::{self, Write};

@@ -94,8 +94,8 @@ fn options_of(escape: Option<Escape>, standard: bool) -> Options
 // How deep includes may go.
 const DEPTH: usize = 64;
 
-// The language that values are escaped for.
-fn language_for(escape: Option<Escape>) -> Option<Language>
+/// Returns the language that values are escaped for, if they are.
+pub fn language_for(escape: Option<Escape>) -> Option<Language>
     ensures { result ≡ language_for escape }
 {
     match escape {

@@ -5,8 +5,10 @@ use Rattle.std.specs.Vec.Iter.{into_iter_items}
 use Rattle.upon_engine.specs.Texts.{texts_of, Texts}
 use Rattle.upon_engine.proofs.Boxed.{boxed_reads}
 use Rattle.upon_std.specs.Table.{standard_answer}
-use Rattle.upon_tool.specs.Escaping.{format_for}
-use Rattle.upon_tool.specs.Filled.{engine_for, escaping_engine, with_page, TakesFiles, TakesRead}
+use Rattle.upon_calls.specs.Escaping.{format_for}
+use Rattle.upon_calls.specs.Filled.{escaping_engine}
+use Rattle.upon_tool_shapes.specs.Fitting.{language_for}
+use Rattle.upon_tool.specs.Filled.{engine_for, with_page, TakesFiles, TakesRead}
 use Rattle.upon_tool.specs.Work.{checked_files, IsUnreadOf}
 use Rattle.upon_tool.proofs.Calls.{work_out_of_memory, work_refused}
 use Rattle.upon_tool.proofs.Filled.{all_added, check_kept, file_taken, function_added, if_both, no_page, none_taken, page_put, page_refused, read_passed, read_taken, taken_from, with_escape, without_escape, work_kept}
@@ -48,9 +50,9 @@ returns-in_err-add-clause-refused g c = work_out_of_memory c.args.templates c.ar
 
 pub returns-in_err-add_template-clause-refused : goal.returns-in_err-add_template-clause-refused
 returns-in_err-add_template-clause-refused g c =
-    let start : texts_of (λ f. (own-1.entry f.vtable).1.formats f.value) (λ f. (own-2.entry f.vtable).1.answers f.value) c.match-escape.engine ≡ escaping_engine c.args.templates.escape = elim c.match-escape.branch [
-      | in-Some+in_ok-new+in_ok-add_formatter+in_ok-new-2 w ↦ ap (λ x. texts_of (λ f. (own-1.entry f.vtable).1.formats f.value) (λ f. (own-2.entry f.vtable).1.answers f.value) x) w.engine-is ∙ with_escape _ _ _ _ _ c.args.templates.escape w.in-Some.language w.in-Some.is c.new-engine.ensures w.in_ok-add_formatter.ensures.engine (boxed_reads own-1 at-1-1 _ (λ j v. j.1.formats v) _ _ _ w.into_dyn_box.ensures.1) w.set_default_formatter.ensures (boxed_reads own-1 at-1-2 _ (λ j v. j.1.formats v) _ _ _ w.into_dyn_box-in_ok-new-2.ensures.1 ∙ ap (λ e. format_for e.language) w.in_ok-new-2.ensures.ok)
-      | in_default w ↦ ap (λ x. texts_of (λ f. (own-1.entry f.vtable).1.formats f.value) (λ f. (own-2.entry f.vtable).1.answers f.value) x) w.engine-is ∙ without_escape _ c.args.templates.escape w.in_default.is c.new-engine.ensures
+    let start : texts_of (λ f. (own-1.entry f.vtable).1.formats f.value) (λ f. (own-2.entry f.vtable).1.answers f.value) c.match-language_for.engine ≡ escaping_engine (language_for c.args.templates.escape) = elim c.match-language_for.branch [
+      | in-Some+in_ok-new+in_ok-add_formatter+in_ok-new-2 w ↦ ap (λ x. texts_of (λ f. (own-1.entry f.vtable).1.formats f.value) (λ f. (own-2.entry f.vtable).1.answers f.value) x) w.engine-is ∙ with_escape _ _ _ _ _ (language_for c.args.templates.escape) w.in-Some.language (sym c.language_for.ensures ∙ w.in-Some.is) c.new-engine.ensures w.in_ok-add_formatter.ensures.engine (boxed_reads own-1 at-1-1 _ (λ j v. j.1.formats v) _ _ _ w.into_dyn_box.ensures.1) w.set_default_formatter.ensures (boxed_reads own-1 at-1-2 _ (λ j v. j.1.formats v) _ _ _ w.into_dyn_box-in_ok-new-2.ensures.1 ∙ ap (λ e. format_for e.language) w.in_ok-new-2.ensures.ok)
+      | in_default w ↦ ap (λ x. texts_of (λ f. (own-1.entry f.vtable).1.formats f.value) (λ f. (own-2.entry f.vtable).1.answers f.value) x) w.engine-is ∙ without_escape _ (language_for c.args.templates.escape) (sym c.language_for.ensures ∙ w.in_default.is) c.new-engine.ensures
     ] in
     let begun : texts_of (λ f. (own-1.entry f.vtable).1.formats f.value) (λ f. (own-2.entry f.vtable).1.answers f.value) c.loop-function.engine ≡ engine_for c.args.templates.escape c.args.templates.functions.now = all_added c.args.templates.functions.now c.loop-function.function-index c.args.templates.escape _ _ c.loop-function-test.false c.loop-function.invariant.1 start in
     let folder : Texts = texts_of (λ f. (own-1.entry f.vtable).1.formats f.value) (λ f. (own-2.entry f.vtable).1.answers f.value) c.loop-file.engine in
@@ -59,9 +61,9 @@ returns-in_err-add_template-clause-refused g c =
 
 pub returns-clause-ends : goal.returns-clause-ends
 returns-clause-ends g c =
-    let start : texts_of (λ f. (own-1.entry f.vtable).1.formats f.value) (λ f. (own-2.entry f.vtable).1.answers f.value) c.match-escape.engine ≡ escaping_engine c.args.templates.escape = elim c.match-escape.branch [
-      | in-Some+in_ok-new+in_ok-add_formatter+in_ok-new-2 w ↦ ap (λ x. texts_of (λ f. (own-1.entry f.vtable).1.formats f.value) (λ f. (own-2.entry f.vtable).1.answers f.value) x) w.engine-is ∙ with_escape _ _ _ _ _ c.args.templates.escape w.in-Some.language w.in-Some.is c.new-engine.ensures w.in_ok-add_formatter.ensures.engine (boxed_reads own-1 at-1-1 _ (λ j v. j.1.formats v) _ _ _ w.into_dyn_box.ensures.1) w.set_default_formatter.ensures (boxed_reads own-1 at-1-2 _ (λ j v. j.1.formats v) _ _ _ w.into_dyn_box-in_ok-new-2.ensures.1 ∙ ap (λ e. format_for e.language) w.in_ok-new-2.ensures.ok)
-      | in_default w ↦ ap (λ x. texts_of (λ f. (own-1.entry f.vtable).1.formats f.value) (λ f. (own-2.entry f.vtable).1.answers f.value) x) w.engine-is ∙ without_escape _ c.args.templates.escape w.in_default.is c.new-engine.ensures
+    let start : texts_of (λ f. (own-1.entry f.vtable).1.formats f.value) (λ f. (own-2.entry f.vtable).1.answers f.value) c.match-language_for.engine ≡ escaping_engine (language_for c.args.templates.escape) = elim c.match-language_for.branch [
+      | in-Some+in_ok-new+in_ok-add_formatter+in_ok-new-2 w ↦ ap (λ x. texts_of (λ f. (own-1.entry f.vtable).1.formats f.value) (λ f. (own-2.entry f.vtable).1.answers f.value) x) w.engine-is ∙ with_escape _ _ _ _ _ (language_for c.args.templates.escape) w.in-Some.language (sym c.language_for.ensures ∙ w.in-Some.is) c.new-engine.ensures w.in_ok-add_formatter.ensures.engine (boxed_reads own-1 at-1-1 _ (λ j v. j.1.formats v) _ _ _ w.into_dyn_box.ensures.1) w.set_default_formatter.ensures (boxed_reads own-1 at-1-2 _ (λ j v. j.1.formats v) _ _ _ w.into_dyn_box-in_ok-new-2.ensures.1 ∙ ap (λ e. format_for e.language) w.in_ok-new-2.ensures.ok)
+      | in_default w ↦ ap (λ x. texts_of (λ f. (own-1.entry f.vtable).1.formats f.value) (λ f. (own-2.entry f.vtable).1.answers f.value) x) w.engine-is ∙ without_escape _ (language_for c.args.templates.escape) (sym c.language_for.ensures ∙ w.in_default.is) c.new-engine.ensures
     ] in
     let begun : texts_of (λ f. (own-1.entry f.vtable).1.formats f.value) (λ f. (own-2.entry f.vtable).1.answers f.value) c.loop-function.engine ≡ engine_for c.args.templates.escape c.args.templates.functions.now = all_added c.args.templates.functions.now c.loop-function.function-index c.args.templates.escape _ _ c.loop-function-test.false c.loop-function.invariant.1 start in
     let folder : Texts = texts_of (λ f. (own-1.entry f.vtable).1.formats f.value) (λ f. (own-2.entry f.vtable).1.answers f.value) c.loop-file.engine in

@@ -1,7 +1,8 @@
 use Rattle.std.proofs.Common.{◌≡◌, take}
 use Rattle.std.specs.Vec.Iter.{into_iter_items}
 use Rattle.upon_engine.specs.Texts.{texts_of, Texts}
-use Rattle.upon_tool.specs.Filled.{with_functions, TakesFiles}
+use Rattle.upon_calls.specs.Filled.{with_functions}
+use Rattle.upon_tool.specs.Filled.{TakesFiles}
 use Rattle.upon_tool.proofs.FolderFiles.{FolderSoFar}
 use Rattle.upon_tool.proofs.work.carry_out.OwnLists.{own-1, own-2}
 use Rattle.upon_tool.proofs.work.carry_out.Given as goal
