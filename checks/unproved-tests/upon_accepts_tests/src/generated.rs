@@ -9,6 +9,9 @@ use upon_shape::shape::Shape;
 
 const TEMPLATES: u64 = 10_000;
 
+// How many of them docs/CHECKED.md tells of.
+const ALL: u64 = 10_000;
+
 // What came of a template: whether it is accepted, and whether a rendering of it failed.
 #[derive(Clone, Copy)]
 struct Outcome {
@@ -110,6 +113,8 @@ fn accepted_ones_end_well(rt: HostRuntime) -> Result<(), Fail> {
         refused += (!outcome.is_accepted && !outcome.has_failed) as usize;
     }
     // The numbers that docs/CHECKED.md has: of these so many are accepted; so many are not, and failed on no sample.
-    assert_eq!(&rt; (accepted, refused), (1082, 318));
+    if TEMPLATES == ALL {
+        assert_eq!(&rt; (accepted, refused), (1082, 318));
+    }
     Ok(())
 }
