@@ -10,6 +10,7 @@ pub mod Lines
 pub mod Spaces
 pub mod Starts
 pub mod Spelling
+pub mod Passing
 pub mod Siblings
 pub mod Leads
 pub mod Growth

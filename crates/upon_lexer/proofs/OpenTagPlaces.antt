@@ -12,7 +12,7 @@ module _ (s : List ℕ) (span : Span) (lies : LiesIn s span) where
   is_span : (begin : Span) → Some begin ≡ Some span → LiesIn s begin
   is_span begin e = let same : span ≡ begin = cc in subst (LiesIn s) same lies
 
-  kept : (tag : Option OpenTag) (begin : Span) → Some begin ≡ begin_of tag → ((t : OpenTag) → tag ≡ Some t → LiesIn s t.begin) → LiesIn s begin
+  pub kept : (tag : Option OpenTag) (begin : Span) → Some begin ≡ begin_of tag → ((t : OpenTag) → tag ≡ Some t → LiesIn s t.begin) → LiesIn s begin
   kept None begin e before = absurd (cc)
   kept (Some t) begin e before = let same : t.begin ≡ begin = cc in subst (LiesIn s) same (before t refl)
 

@@ -1,14 +1,14 @@
--- Each default delimiter has a pair at its begin or after its first byte.
-use Rattle.std.proofs.Common.{◌≡◌, ◌⊎◌, inl, inr, ℕ, zero, suc, ◌+◌, ◌-◌, ◌<◌, ◌≤◌, List, [], ◌∷◌, Bool, ◌==◌, ◌&&◌, ◌||◌, true, false, length, take, drop, get_or, max, arith, refl, sym, ap, subst, ◌∙◌, lit<, lit≤, length-take, length-drop, get_or-take, get_or-drop}
+-- Each default delimiter has a pair at its begin, or after the hyphen that it begins with.
+use Rattle.std.proofs.Common.{◌≡◌, ◌⊎◌, inl, inr, ℕ, zero, suc, ◌+◌, ◌-◌, ◌<◌, ◌≤◌, List, [], ◌∷◌, Bool, ◌==◌, ◌&&◌, ◌||◌, true, false, length, take, drop, get_or, arith, refl, sym, ap, subst, ◌∙◌, lit<, lit≤, length-take, length-drop, get_or-take, get_or-drop}
 use Rattle.memchr.specs.Find.{Passes, Nowhere, is_byte2}
 use Rattle.upon_language_spec.specs.DefaultDelimiters.{default_delimiters}
 use Rattle.upon_language_spec.specs.Search.{DelimiterText, NoneFrom, Occurs, text_at}
 use Rattle.upon_lexer.specs.Pairs.{is_pair, HasPair, NoPairIn, NoPairWith}
 use Rattle.upon_lexer.proofs.Ways.{occurs_reads}
 
--- a text has a pair at its begin or after its first byte
+-- a text has a pair at its begin, or after a hyphen
 abbrev PairNear : List ℕ → Type 0
-PairNear d = (k : ℕ) × (k ≤ 1) × (k + 1 < length d) × HasPair d k
+PairNear d = (k : ℕ) × (k ≤ 1) × (k + 1 < length d) × HasPair d k × (0 < k → get_or d 0 0 ≡ 45)
 
 abbrev EachPairNear : List DelimiterText → Type 0
 EachPairNear [] = Unit {0}
@@ -21,29 +21,29 @@ by_index (p ∷ ps) each (suc i) inside = by_index ps each.1 i (omega (arith, in
 
 default_pairs : EachPairNear default_delimiters
 default_pairs = (
-  (0, lit≤ tt, lit< tt, refl),
+  (0, lit≤ tt, lit< tt, refl, λ l. absurd (omega (arith, l))),
   (
-    (0, lit≤ tt, lit< tt, refl),
+    (0, lit≤ tt, lit< tt, refl, λ l. absurd (omega (arith, l))),
     (
-      (0, lit≤ tt, lit< tt, refl),
+      (0, lit≤ tt, lit< tt, refl, λ l. absurd (omega (arith, l))),
       (
-        (1, lit≤ tt, lit< tt, refl),
+        (1, lit≤ tt, lit< tt, refl, λ l. refl),
         (
-          (0, lit≤ tt, lit< tt, refl),
+          (0, lit≤ tt, lit< tt, refl, λ l. absurd (omega (arith, l))),
           (
-            (0, lit≤ tt, lit< tt, refl),
+            (0, lit≤ tt, lit< tt, refl, λ l. absurd (omega (arith, l))),
             (
-              (0, lit≤ tt, lit< tt, refl),
+              (0, lit≤ tt, lit< tt, refl, λ l. absurd (omega (arith, l))),
               (
-                (1, lit≤ tt, lit< tt, refl),
+                (1, lit≤ tt, lit< tt, refl, λ l. refl),
                 (
-                  (0, lit≤ tt, lit< tt, refl),
+                  (0, lit≤ tt, lit< tt, refl, λ l. absurd (omega (arith, l))),
                   (
-                    (0, lit≤ tt, lit< tt, refl),
+                    (0, lit≤ tt, lit< tt, refl, λ l. absurd (omega (arith, l))),
                     (
-                      (0, lit≤ tt, lit< tt, refl),
+                      (0, lit≤ tt, lit< tt, refl, λ l. absurd (omega (arith, l))),
                       (
-                        (1, lit≤ tt, lit< tt, refl),
+                        (1, lit≤ tt, lit< tt, refl, λ l. refl),
                         tt,
                       ),
                     ),
@@ -58,9 +58,9 @@ default_pairs = (
   ),
 )
 
--- where a default delimiter occurs, a pair is there or at the next offset
+-- where a default delimiter occurs, a pair is there, or after a hyphen
 pair_of : (s : List ℕ) (q i : ℕ) → i < length default_delimiters → Occurs s q (text_at default_delimiters i)
-    → (k : ℕ) × (k ≤ 1) × (q + k + 1 < length s) × HasPair s (q + k)
+    → (k : ℕ) × (k ≤ 1) × (q + k + 1 < length s) × HasPair s (q + k) × (0 < k → get_or s q 0 ≡ 45)
 pair_of s q i inside occurs =
     let d = text_at default_delimiters i in
     let near = by_index default_delimiters default_pairs i inside in
@@ -74,6 +74,10 @@ pair_of s q i inside occurs =
       near.1,
       omega (arith, fits, near.2),
       ap (λ b. is_pair b (get_or s (q + k + 1) 0)) (sym here) ∙ ap (λ b. is_pair (get_or d k 0) b) (sym after) ∙ near.3,
+      λ l.
+          let first : get_or d 0 0 ≡ get_or s (q + 0) 0 = occurs_reads s q d 0 occurs (omega (arith, near.2)) in
+          let begin : q + 0 ≡ q = omega arith in
+          sym (first ∙ ap (λ x. get_or s x 0) begin) ∙ near.4 l,
     )
 
 one_is : (opens leads ends closes x y : Bool) → (opens && leads || ends && closes) ≡ true → ((opens || x) ≡ true) ⊎ ((y || closes) ≡ true)
@@ -152,10 +156,16 @@ module _ (s : List ℕ) (at end pair : ℕ) (pairs : NoPairs s at end) (below : 
     | inr brace ↦ earlier p (p + 1) after before (omega arith) (omega arith) has brace
   ]
 
-  pub near_pair : (end' : ℕ) → end' ≤ max at (pair - 1) → NoneFrom default_delimiters s at end'
-  near_pair end' most q after low i inside occurs =
+  pub near_pair : (end' : ℕ) → end' ≤ pair → ((q : ℕ) → at ≤ q → q < end' → q + 1 ≡ pair → get_or s q 0 ≡ 45 → ⊥) → NoneFrom default_delimiters s at end'
+  near_pair end' most no_hyphen q after low i inside occurs =
       let has = pair_of s q i inside occurs in
-      none_there (q + has.0) (omega (arith, after)) (omega (arith, has.1, after, low, most)) has.3
+      elim (less_or_not (q + has.0) pair) [
+        | inl before ↦ none_there (q + has.0) (omega (arith, after)) before has.3
+        | inr behind ↦
+            let later : 0 < has.0 = omega (arith, behind, low, most) in
+            let next : q + 1 ≡ pair = omega (arith, behind, low, most, has.1) in
+            no_hyphen q after low next (has.4 later)
+      ]
 
 -- no delimiter begins in a text in which no brace belongs to a pair
 pub no_pair_none : (s : List ℕ) (at : ℕ) → NoPairs s at (length s) → NoneFrom default_delimiters s at (length s)

@@ -4,8 +4,8 @@ use Rattle.upon_language_spec.specs.Search.{DelimiterText, text_at}
 use Rattle.upon_lexer.specs.ByteSet.{IsIn}
 use Rattle.upon_lexer.specs.declared.compile.begins.Begins.{Begins}
 
--- a text of one byte is among those that are alone; of a longer one, the first byte is among the first ones, and the second
--- among the second ones
+-- a text of one byte is among those that are alone; of a longer one, the first byte is among the first ones, and the
+-- second among the second ones
 pub record BeginsText (begins : Begins) (text : List ℕ) : Type 0 where
   pub alone : length text ≡ 1 → IsIn begins.alone (slice_index text 0)
   pub first : 1 < length text → IsIn begins.first (slice_index text 0)

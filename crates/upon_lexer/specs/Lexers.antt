@@ -1,12 +1,14 @@
 -- What a lexer reads, and how far it has read it.
-use Rattle.std.specs.Prelude.{ℕ, List, Option, Result}
+use Rattle.std.specs.Prelude.{◌≡◌, ℕ, List, ◌++◌, Bool, Option, IfSome, MatchOption, Result}
 use Rattle.upon_types.specs.declared.types.Span.{Span}
 use Rattle.upon_types.specs.declared.types.token.Token.{Token}
+use Rattle.upon_types.specs.declared.types.Delimiter.{Delimiter}
+use Rattle.upon_types.specs.Span.{LiesIn}
 use Rattle.upon_types.specs.declared.error.Error.{Error}
-use Rattle.upon_language_spec.specs.Search.{DelimiterText}
+use Rattle.upon_language_spec.specs.Search.{DelimiterText, NoneAt, IsBestDelimiter}
 use Rattle.upon_lexer.specs.Searcher.{searcher_delimiters}
-use Rattle.upon_language_spec.specs.Lexing.{LexerState, HasRead, Lexes, LexesAfterSpace}
-use Rattle.upon_language_spec.specs.LexStep.{IsNext, IsWrong}
+use Rattle.upon_language_spec.specs.Lexing.{LexerState, HasRead, Lexes, LexesAfterSpace, EachIsSpace, IsGiven}
+use Rattle.upon_language_spec.specs.LexStep.{IsNext, IsWrong, state_after}
 use Rattle.upon_lexer.specs.OpenTags.{begin_of, mode_of}
 use Rattle.upon_lexer.specs.Brackets.{brackets_of}
 use Rattle.upon_lexer.specs.Reasons.{reason_of}
@@ -60,3 +62,28 @@ Finds lexer found = IsNext (lexer_delimiters lexer) (lexer_text lexer) (lexer_st
 abbrev pub GoesWrong : Lexer → Wrong → Type 0
 GoesWrong lexer wrong = IsWrong (lexer_delimiters lexer) (lexer_text lexer) (lexer_state lexer) wrong.span
     (reason_of wrong.fault)
+
+-- what is looked for is the delimiter where the lexer is, or none is there
+pub record IsDelimiterAt (lexer : Lexer) (delimiter : Option (Delimiter × Span)) : Type 0 where
+  pub best : MatchOption delimiter (NoneAt (lexer_delimiters lexer) (lexer_text lexer) lexer.offset)
+      (λ best. IsBestDelimiter (lexer_delimiters lexer) (lexer_text lexer) best.0 best.1.m best.1.n)
+  pub start : IfSome delimiter (λ best. best.1.m ≡ lexer.offset)
+  pub span : IfSome delimiter (λ best. LiesIn (lexer_text lexer) best.1)
+
+-- the lexer has passed the token where it was, for which this is given
+pub record Passes (before : Lexer) (given : Token × Span) (after : Lexer) : Type 0 where
+  pub found : Lexeme
+  pub of_token : found.token ≡ given.0
+  pub next : IsNext (lexer_delimiters before) (lexer_text before) (lexer_state before) found
+  pub of_span : IsGiven (lexer_delimiters before) (lexer_text before) (mode_of before.tag) before.trims found.token
+      found.span given.1
+  pub state : lexer_state after ≡ state_after (lexer_state before) found
+
+-- the span of a token that was found is given as it is
+abbrev pub IsGivenWhole : Lexer → NextToken → Type 0
+IsGivenWhole lexer found = IsGiven (lexer_delimiters lexer) (lexer_text lexer) (mode_of lexer.tag) lexer.trims
+    found.token found.span found.span
+
+-- after these tokens the lexer has passed whitespace alone
+abbrev pub HasPassedSpaces : Lexer → List Lexeme → Type 0
+HasPassedSpaces lexer ls = (spaces : List Lexeme) × EachIsSpace spaces × ReadSoFar lexer (ls ++ spaces)

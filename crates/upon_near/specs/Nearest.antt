@@ -5,8 +5,8 @@ use Rattle.std.specs.List.{list_all}
 use Rattle.std.specs.Str.{chars}
 use Rattle.strsim.specs.Edits.{osa_table, OsaState}
 
--- the distance of two names: how many times a letter is put in, left out or exchanged, or two letters next to each other
--- change their places, on the way from one to the other
+-- the distance of two names: how many times a letter is put in, left out or exchanged, or two letters next to each
+-- other change their places, on the way from one to the other
 abbrev pub distance : List ℕ → List ℕ → ℕ
 distance name other = (osa_table (chars name) (chars other)).last_row (length (chars other))
 

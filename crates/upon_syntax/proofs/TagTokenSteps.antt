@@ -3,7 +3,8 @@ use Rattle.std.proofs.Common.{◌≡◌, inl, inr, ℕ, List, [], ◌∷◌, ◌
 use Rattle.std.proofs.lemmas.List.{append-nil}
 use Rattle.upon_types.specs.declared.types.Span.{Span}
 use Rattle.upon_types.specs.declared.types.token.Token.{Token}
-use Rattle.upon_types.specs.declared.types.token.Token.TheVariants.{Whitespace}
+use Rattle.upon_types.specs.declared.types.token.Token.TheVariants.{Ident, Keyword, Dot, Pipe, Comma, Colon, Whitespace}
+use Rattle.upon_types.specs.Span.{LiesIn}
 use Rattle.upon_types.specs.declared.error.Error.{Error}
 use Rattle.upon_language_spec.specs.Search.{DelimiterText}
 use Rattle.upon_language_spec.specs.Delimiters.{Sort, end_token}
@@ -16,13 +17,14 @@ use Rattle.upon_language_spec.specs.Lexing.{LexerState, HasRead, IsGiven, IsCutE
 use Rattle.upon_language_spec.specs.CutFaults.{ClearTo}
 use Rattle.upon_language_spec.specs.InTags.{is_inside, EachInside, last_or}
 use Rattle.upon_language_spec.proofs.NoTreeWithFault.InsideTag.{extent_is_inside, inside_stays, spaces_append, space_step, no_space_step}
+use Rattle.upon_lexer.specs.Plain.{is_plain}
 use Rattle.upon_tag_parser.specs.declared.compile.parse.literal.Lexed.{Lexed}
 use Rattle.upon_syntax.specs.declared.compile.parse.tag_tokens.Ended.{Ended}
 use Rattle.upon_syntax.specs.declared.compile.parse.tag_tokens.Ended.TheVariants.{End, Fault as CutFault, Literal, Eof}
 use Rattle.upon_tag_parser.specs.declared.compile.parse.literal_fault.Refusal.{Refusal}
 use Rattle.upon_tag_parser.specs.Literals.{lexeme_of}
 use Rattle.upon_tag_parser.specs.LiteralReasons.{report_of}
-use Rattle.upon_syntax.specs.TagEnds.{DenotesNothing, StopsAt, ReportsCut, ReadsOn, ReadsUpTo, EndsBy}
+use Rattle.upon_syntax.specs.TagEnds.{DenotesNothing, StopsAt, ReportsCut, ReadsOn, ReadsTokens, ReadsUpTo, EndsBy}
 use Rattle.upon_tag_parser.specs.TagTokens.{IsTagToken, EachTagToken}
 use Rattle.upon_syntax.proofs.CutParts.{cut_rest}
 
@@ -66,6 +68,13 @@ module _ (delimiters : List DelimiterText) (s : List ℕ) (sort : Sort) (path : 
   spaces_stay : (m n : ℕ) (mode' : Mode) (ks : List Lexeme) → EachIsSpace ks → Cut delimiters s (in_tag sort path) m ks mode' n → mode' ≡ in_tag sort path
   spaces_stay m n mode' [] h cut = sym cut.0
   spaces_stay m n mode' (k ∷ ks) h cut = let F : Mode → Type 0 = λ x. Cut delimiters s x k.span.n ks mode' n in spaces_stay k.span.n n mode' ks h.1 (subst F (space_stays sort path k.token h.0) cut.2)
+
+  -- whitespace alone
+  pub reads_spaces : (spaces : List Lexeme) → EachIsSpace spaces → HasRead delimiters s after (ls ++ spaces) → ReadsOn delimiters s sort ls after []
+  reads_spaces spaces each more =
+      let cut = cut_rest delimiters s outside left.mode after.mode 0 left.offset after.offset ls spaces read.reads more.reads in
+      let F : Mode → Type 0 = λ x. Cut delimiters s x left.offset spaces after.mode after.offset in
+      record { inner = spaces; each = spaces_inside spaces each; path = path; mode = spaces_stay left.offset after.offset after.mode spaces each (subst F mode cut); read = more; same = no_spaces spaces each }
 
   module _ (result : Result (Option (Token × Span)) Error) (g : LexesAfterSpace delimiters s ls result after) where
     start_mode : g.start.mode ≡ in_tag sort path
@@ -185,6 +194,12 @@ reads_then delimiters s sort ls left after tokens more a b =
       same = spaces_append a.inner b.inner ∙ (λ i. a.same i ++ b.same i);
     }
 
+-- the same, whichever tokens were before
+pub reads_more : (delimiters : List DelimiterText) (s : List ℕ) (before left after : LexerState) (tokens more : List Lexeme) → ReadsTokens delimiters s before left tokens → ReadsTokens delimiters s left after more → ReadsTokens delimiters s before after (tokens ++ more)
+reads_more delimiters s before left after tokens more a b = λ sort path ls read mode.
+    let on = a sort path ls read mode in
+    reads_then delimiters s sort ls left after tokens more on (b sort on.path (ls ++ on.inner) on.read on.mode)
+
 -- and up to where the tokens end
 pub reads_up_to : (delimiters : List DelimiterText) (s : List ℕ) (sort : Sort) (ls : List Lexeme) (left after : LexerState) (tokens : List Lexeme) (before : Option Lexeme) (ended : Ended) (a : ReadsOn delimiters s sort ls left tokens) → ReadsUpTo delimiters s sort (ls ++ a.inner) [] before after ended → ReadsUpTo delimiters s sort ls tokens before after ended
 reads_up_to delimiters s sort ls left after tokens before ended a b =
@@ -210,3 +225,26 @@ each_token_more s before (k ∷ ks) l each h = (each.0, each_token_more s (Some 
 pub last_token : (before : Option Lexeme) (tokens : List Lexeme) (l : Lexeme) → last_or before (tokens ++ l ∷ []) ≡ Some l
 last_token before [] l = refl
 last_token before (k ∷ ks) l = last_token (Some k) ks l
+
+pub plain_is_inside : (t : Token) → is_plain t ≡ true → is_inside t ≡ true
+plain_is_inside Ident h = refl
+plain_is_inside Keyword h = refl
+plain_is_inside Dot h = refl
+plain_is_inside Pipe h = refl
+plain_is_inside Comma h = refl
+plain_is_inside Colon h = refl
+plain_is_inside t h = absurd cc
+
+-- a frequent token is one of a tag, after whichever token: it is no literal
+pub plain_token : (s : List ℕ) (before : Option Lexeme) (t : Token) (span : Span) → is_plain t ≡ true → LiesIn s span → IsTagToken s before (record { token = t; hyphen = false; span = span })
+plain_token s before t span plain lies = record {
+  inside = plain_is_inside t plain;
+  lies = lies;
+  quoted = λ e. let none = ap is_plain e in absurd cc;
+  digits = λ e. let none = ap is_plain e in absurd cc;
+  fine = record {
+    number = λ e. let none = ap is_plain e in absurd cc;
+    index = λ e. let none = ap is_plain e in absurd cc;
+    string = λ e. let none = ap is_plain e in absurd cc;
+  };
+}

@@ -23,6 +23,7 @@ use Rattle.upon_language_spec.specs.InTags.{is_inside, EachInside}
 use Rattle.upon_tag_parser.specs.declared.compile.parse.literal.Lexed.{Lexed}
 use Rattle.upon_tag_parser.specs.declared.compile.parse.literal_fault.Refusal.{Refusal}
 use Rattle.upon_tag_parser.specs.LiteralReasons.{report_of}
+use Rattle.upon_tag_parser.specs.Literals.{lexeme_of}
 use Rattle.upon_syntax.specs.declared.compile.parse.tag_tokens.Ended.{Ended}
 use Rattle.upon_syntax.specs.declared.compile.parse.tag_tokens.Ended.TheVariants.{End, Fault as CutFault, Literal, Eof}
 
@@ -64,6 +65,11 @@ pub record ReadsOn (delimiters : List DelimiterText) (s : List ℕ) (sort : Sort
   pub read : HasRead delimiters s left (ls ++ inner)
   pub same : without_spaces inner ≡ tokens
 
+-- whichever tokens were before, inside an open tag these were read from one state to another
+abbrev pub ReadsTokens : List DelimiterText → List ℕ → LexerState → LexerState → List Lexeme → Type 0
+ReadsTokens delimiters s before after tokens = (sort : Sort) (path : Bool) (ls : List Lexeme)
+    → HasRead delimiters s before ls → before.mode ≡ in_tag sort path → ReadsOn delimiters s sort ls after tokens
+
 -- the tag's end is where the lexer was, and it has read it
 pub record ReadsEnd (delimiters : List DelimiterText) (s : List ℕ) (sort : Sort) (ls : List Lexeme)
     (left after : LexerState) (l : Lexed) : Type 0 where
@@ -102,6 +108,11 @@ pub record ReadsUpTo (delimiters : List DelimiterText) (s : List ℕ) (sort : So
   pub left : LexerState
   pub reads : ReadsOn delimiters s sort ls left tokens
   pub ends : EndsBy delimiters s sort (ls ++ reads.inner) reads.path before left after ended
+
+-- the token that was found, or none
+abbrev pub found_tokens : Option Lexed → List Lexeme
+found_tokens None = []
+found_tokens (Some found) = lexeme_of found ∷ []
 
 -- the spans that are kept of where the tokens end lie in the text
 abbrev pub EndLies : List ℕ → Ended → Type 0

@@ -1,5 +1,5 @@
-// The bytes with which delimiters begin, by which a block of a text is seen to begin none: all its offsets are looked at
-// at once.
+// The bytes with which delimiters begin, by which a block of a text is seen to begin none: all its offsets are looked
+// at at once.
 ghost use Rattle.std.specs.Prelude.{◌≡◌, ℕ, ◌+◌, ◌<◌, ◌≤◌, List, length, slice_index, IfSome, true, false};
 ghost use Rattle.upon_language_spec.specs.Search.{DelimiterText, HasTexts, NoneFrom};
 ghost use Rattle.upon_lexer.specs.Begins.{BeginsText, BeginEach};

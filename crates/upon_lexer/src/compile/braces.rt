@@ -22,12 +22,27 @@ pub(crate) fn next(source: &str, at: usize) -> usize
     while let Some(found) = memchr::memchr2(b'{', b'}', &bytes[from..]) {
         let brace = from + found;
         if let Some(pair) = pair_with(bytes, at, brace) {
-            return at.max(pair.saturating_sub(1));
+            return begin_of(bytes, at, pair);
         }
         // More braces are often near then, and a search for each would cost more.
         from = pass_blocks(bytes, brace + 1);
     }
     bytes.len()
+}
+
+// Where a delimiter may begin that has a pair at an offset: there, or with a hyphen before it.
+fn begin_of(bytes: &[u8], at: usize, pair: usize) -> usize
+    requires after { at ≤ pair }
+    requires inside { pair < length bytes.now }
+    ensures after { at ≤ result }
+    ensures before { result ≤ pair }
+    ensures no_hyphen { (q : ℕ) → at ≤ q → q < result → q + 1 ≡ pair → slice_index bytes.now q ≡ 45 → ⊥ }
+{
+    if at < pair && bytes[pair - 1] == b'-' {
+        pair - 1
+    } else {
+        pair
+    }
 }
 
 // Where blocks end, from an offset on, in which no pair begins.

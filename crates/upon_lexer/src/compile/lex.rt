@@ -1,18 +1,21 @@
 // The tokens of a template's text, one by one.
-ghost use Rattle.std.specs.Prelude.{◌≡◌, ◌<◌, ◌↔◌, IsTrue, List, [], Bool, true, false, length, encode_utf8, Some, None, Ok, IfOk, IfErr, IfSome, MatchOption};
+ghost use Rattle.std.specs.Prelude.{◌≡◌, ℕ, ◌<◌, ◌≤◌, ◌↔◌, IsTrue, List, [], Bool, true, false, length, encode_utf8, Some, None, Ok, IfOk, IfErr, IfSome, MatchOption};
 ghost use Rattle.std.specs.Option.{ForSome};
 ghost use Rattle.std.specs.List.{Contains};
 ghost use Rattle.std.specs.Str.{IsCharBoundary};
 ghost use Rattle.upon_types.specs.Span.{LiesIn};
 ghost use Rattle.upon_types.specs.Fault.{bare_fault, fault_with_picture, syntax, OrMemory};
 ghost use Rattle.upon_types.specs.Error.{fault_of};
-ghost use Rattle.upon_language_spec.specs.Search.{Occurs, NoneAt, IsBestDelimiter};
-ghost use Rattle.upon_lexer.specs.Searcher.{searcher_delimiters};
+ghost use Rattle.upon_language_spec.specs.Search.{DelimiterText, Occurs, NoneAt, IsBestDelimiter};
+ghost use Rattle.upon_lexer.specs.Searcher.{searcher_delimiters, IsNextDelimiter};
+ghost use Rattle.upon_lexer.specs.Plain.{is_plain, is_frequent};
 ghost use Rattle.upon_types.specs.declared.types.token.Token.TheVariants.{Raw};
 ghost use Rattle.upon_language_spec.specs.Raw.{IsRaw};
 ghost use Rattle.upon_language_spec.specs.Cut.{Lexeme, in_tag};
 ghost use Rattle.upon_language_spec.specs.Inside.{IsInside};
-ghost use Rattle.upon_language_spec.specs.Faults.{awaited_sort};
+ghost use Rattle.upon_language_spec.specs.Faults.{awaited_sort, lexeme_at, span_of};
+ghost use Rattle.upon_language_spec.specs.LexStep.{IsNext, state_after};
+ghost use Rattle.upon_language_spec.specs.Lexing.{TrimsAt};
 ghost use Rattle.upon_language_spec.specs.Shown.{shown_span};
 ghost use Rattle.upon_lexer.specs.Roles.{sort_of};
 ghost use Rattle.upon_lexer.specs.Reasons.{reason_of};
@@ -30,7 +33,7 @@ use crate::compile::inside::token_inside;
 use crate::compile::plain::plain_at;
 use crate::compile::roles::{Role, Sort, has_hyphen, role_of};
 use crate::compile::search::Searcher;
-use crate::compile::tags::{OpenTag, end_trims, is_space, tag_after};
+use crate::compile::tags::{OpenTag, end_trims, is_space, pass_inner, tag_after};
 use crate::compile::trim::{trim_end, trim_start};
 use std::alloc::{AllocError, Global};
 use upon_types::error::{Error, ErrorKind, Result};
@@ -61,10 +64,9 @@ pub struct Lexer<'a> {
 }
 
 impl<'a> Lexer<'a> {
-    ghost use Rattle.upon_language_spec.specs.Lexing.{IsGiven, TrimsAt, opens_bracket};
-    ghost use Rattle.upon_language_spec.specs.LexStep.{state_after};
+    ghost use Rattle.upon_language_spec.specs.Lexing.{opens_bracket};
     ghost use Rattle.upon_lexer.specs.Spelling.{IsSpelled, LiesBetween};
-    ghost use Rattle.upon_lexer.specs.Lexers.{lexer_text, lexer_delimiters, lexer_state, next_lexeme, ReadSoFar, Gives, GivesAfterSpace, Finds, GoesWrong};
+    ghost use Rattle.upon_lexer.specs.Lexers.{lexer_text, lexer_delimiters, lexer_state, next_lexeme, ReadSoFar, Gives, GivesAfterSpace, Finds, GoesWrong, IsDelimiterAt, Passes, IsGivenWhole, HasPassedSpaces};
 
     /// Creates a lexer at the start of a text, over the delimiters of a searcher.
     pub fn new(alloc: Global, searcher: &'a Searcher, source: &'a str) -> Lexer<'a>
@@ -109,14 +111,15 @@ impl<'a> Lexer<'a> {
         if self.over {
             return Ok(None);
         }
-        match self.step() {
-            Ok(Some(found)) => {
-                let span = self.given_span(found.token, found.span);
-                match self.pass(found) {
-                    Ok(()) => Ok(Some((found.token, span))),
-                    Err(e) => Err(Error::from(e)),
-                }
-            }
+        let delimiter = self.searcher.starts_with(self.source, self.offset);
+        if let Some(given) = self.pass_frequent(delimiter) {
+            return Ok(Some(given));
+        }
+        match self.step(delimiter) {
+            Ok(Some(found)) => match self.pass(found) {
+                Ok(()) => Ok(Some((found.token, found.span))),
+                Err(e) => Err(Error::from(e)),
+            },
             Ok(None) => Ok(None),
             Err(wrong) => Err(self.refuse(wrong)),
         }
@@ -154,36 +157,44 @@ impl<'a> Lexer<'a> {
         }
     }
 
-    // The token where the lexer is; none at the text's end.
-    fn step(&self) -> std::result::Result<Option<NextToken>, Wrong>
-        ensures token { IfOk result (λ found. MatchOption
-            found
-            (self.now.offset ≡ length (lexer_text self.now))
-            (λ f. Finds self.now f)) }
-        ensures span { IfOk result (λ found. IfSome found (λ f. LiesIn (lexer_text self.now) f.span)) }
-        ensures wrong { IfErr result (λ wrong. GoesWrong self.now wrong) }
-        ensures wrong_span { IfErr result (λ wrong. LiesIn (lexer_text self.now) wrong.span) }
+    /// Returns the next token inside a tag that is no whitespace, if it is a frequent one, and where it is, in bytes.
+    /// `None` says nothing, but that the lexer may have passed whitespace.
+    pub fn next_plain(&mut self) -> Option<(Token, Span)>
+        ensures token { IfSome result (λ given. (ls : List Lexeme)
+            → ReadSoFar self.old ls
+            → GivesAfterSpace self.old ls (Ok (Some given)) self.new) }
+        ensures blanks { result ≡ None → (ls : List Lexeme)
+            → ReadSoFar self.old ls
+            → HasPassedSpaces self.new ls }
+        ensures plain { IfSome result (λ given. is_plain given.0 ≡ true) }
+        ensures span { IfSome result (λ given. LiesIn (lexer_text self.old) given.1) }
+        ensures before { IfSome result (λ given. given.1.n ≤ (lexer_state self.new).offset) }
+        ensures further { IfSome result (λ _. (lexer_state self.old).offset < (lexer_state self.new).offset) }
+        ensures onward { (lexer_state self.old).offset ≤ (lexer_state self.new).offset }
+        ensures text { lexer_text self.new ≡ lexer_text self.old }
+        ensures delimiters { lexer_delimiters self.new ≡ lexer_delimiters self.old }
     {
-        if let Some(found) = self.plain() {
-            return Ok(Some(found));
-        }
-        if let Some((kind, span)) = self.searcher.starts_with(self.source, self.offset) {
-            return self.delimiter(kind, span).map(Some);
-        }
-        let Some(first) = char_at(self.source, self.offset) else {
-            return Ok(None);
-        };
-        match self.tag {
-            Some(tag) if tag.sort != Sort::Comment => self.inside(first, tag).map(Some),
-            _ => Ok(Some(self.raw())),
+        'blanks: loop {
+            let start = self.offset;
+            let (token, end) = self.plain()?;
+            self.pass_plain(token, end);
+            if !is_space(token) {
+                return Some((token, Span { m: start, n: end }));
+            }
         }
     }
 
-    // The token where the lexer is, if it is a frequent one in a tag and no delimiter may begin there; `None` says
-    // nothing.
-    fn plain(&self) -> Option<NextToken>
-        ensures token { IfSome result (λ f. Finds self.now f) }
-        ensures span { IfSome result (λ f. LiesIn (lexer_text self.now) f.span) }
+    // The token where the lexer is, and where it ends, if it is a frequent one in a tag and no delimiter may begin
+    // there; `None` says nothing.
+    fn plain(&self) -> Option<(Token, usize)>
+        ensures token { IfSome result (λ found. IsNext
+            (lexer_delimiters self.now)
+            (lexer_text self.now)
+            (lexer_state self.now)
+            (lexeme_at found.0 false self.now.offset found.1)) }
+        ensures kind { IfSome result (λ found. is_frequent found.0 ≡ true) }
+        ensures span { IfSome result (λ found. LiesIn (lexer_text self.now) (span_of self.now.offset found.1)) }
+        ensures further { IfSome result (λ found. self.now.offset < found.1) }
     {
         let tag = self.tag?;
         if let Sort::Comment = tag.sort {
@@ -194,14 +205,149 @@ impl<'a> Lexer<'a> {
             return None;
         }
         let (token, end) = plain_at(self.source, self.offset)?;
-        Some(NextToken {
-            token,
-            hyphen: false,
-            span: Span {
-                m: self.offset,
-                n: end,
-            },
-        })
+        Some((token, end))
+    }
+
+    // Moves after a frequent token.
+    fn pass_plain(&mut self, token: Token, end: usize)
+        requires kind { is_frequent token ≡ true }
+        requires span { LiesIn (lexer_text self.now) (span_of self.now.offset end) }
+        ensures state { self.old.over ≡ false → lexer_state self.new
+            ≡ state_after (lexer_state self.old) (lexeme_at token false self.old.offset end) }
+        ensures offset { (lexer_state self.new).offset ≡ end }
+        ensures text { lexer_text self.new ≡ lexer_text self.old }
+        ensures delimiters { lexer_delimiters self.new ≡ lexer_delimiters self.old }
+    {
+        pass_inner(&mut self.tag, token);
+        self.trims = false;
+        self.offset = end;
+    }
+
+    // Passes what is there most often, and returns it with its span: outside tags a begin or a raw part, in a tag its
+    // end where no bracket is open. `None` says nothing, and leaves the lexer as it is.
+    fn pass_frequent(&mut self, delimiter: Option<(Delimiter, Span)>) -> Option<(Token, Span)>
+        requires best { IsDelimiterAt self.now delimiter }
+        requires not_over { self.now.over ≡ false }
+        ensures passed { IfSome result (λ given. Passes self.old given self.new) }
+        ensures span { IfSome result (λ given. LiesIn (lexer_text self.old) given.1) }
+        ensures stays { result ≡ None → self.new ≡ self.old }
+        ensures end { result ≡ None → delimiter ≡ None → self.old.tag ≡ None
+            → self.old.offset ≡ length (lexer_text self.old) }
+        ensures text { lexer_text self.new ≡ lexer_text self.old }
+        ensures delimiters { lexer_delimiters self.new ≡ lexer_delimiters self.old }
+    {
+        match (self.tag, delimiter) {
+            (None, Some((kind, span))) => self.pass_begin(kind, span),
+            (None, None) => self.pass_raw(),
+            (Some(tag), Some((kind, span))) => self.pass_end(tag.sort, kind, span),
+            (Some(_), None) => None,
+        }
+    }
+
+    // Passes a delimiter outside tags, if it is a begin.
+    fn pass_begin(&mut self, kind: Delimiter, span: Span) -> Option<(Token, Span)>
+        requires outside { self.now.tag ≡ None }
+        requires occurs { IsBestDelimiter (lexer_delimiters self.now) (lexer_text self.now) kind span.m span.n }
+        requires start { span.m ≡ self.now.offset }
+        requires span { LiesIn (lexer_text self.now) span }
+        requires not_over { self.now.over ≡ false }
+        ensures passed { IfSome result (λ given. Passes self.old given self.new) }
+        ensures span { IfSome result (λ given. given.1 ≡ span) }
+        ensures stays { result ≡ None → self.new ≡ self.old }
+        ensures text { lexer_text self.new ≡ lexer_text self.old }
+        ensures delimiters { lexer_delimiters self.new ≡ lexer_delimiters self.old }
+    {
+        let Role::Begin(sort) = role_of(kind) else {
+            return None;
+        };
+        let token = sort.begin_token();
+        self.tag = tag_after(self.tag, token, span);
+        self.trims = false;
+        self.offset = span.n;
+        Some((token, span))
+    }
+
+    // Passes a delimiter in an open tag, if it is the tag's end and no bracket is open.
+    fn pass_end(&mut self, sort: Sort, kind: Delimiter, span: Span) -> Option<(Token, Span)>
+        requires open { awaited_sort (mode_of self.now.tag) ≡ Some (sort_of sort) }
+        requires occurs { IsBestDelimiter (lexer_delimiters self.now) (lexer_text self.now) kind span.m span.n }
+        requires start { span.m ≡ self.now.offset }
+        requires span { LiesIn (lexer_text self.now) span }
+        requires not_over { self.now.over ≡ false }
+        ensures passed { IfSome result (λ given. Passes self.old given self.new) }
+        ensures span { IfSome result (λ given. given.1 ≡ span) }
+        ensures stays { result ≡ None → self.new ≡ self.old }
+        ensures text { lexer_text self.new ≡ lexer_text self.old }
+        ensures delimiters { lexer_delimiters self.new ≡ lexer_delimiters self.old }
+    {
+        let Role::End(ended) = role_of(kind) else {
+            return None;
+        };
+        if ended != sort || !self.brackets.is_empty() {
+            return None;
+        }
+        self.tag = None;
+        self.trims = has_hyphen(kind);
+        self.offset = span.n;
+        Some((sort.end_token(), span))
+    }
+
+    // Passes the raw part outside tags, and returns what the hyphens beside it leave; none is at the text's end.
+    fn pass_raw(&mut self) -> Option<(Token, Span)>
+        requires outside { self.now.tag ≡ None }
+        requires bare { NoneAt (lexer_delimiters self.now) (lexer_text self.now) self.now.offset }
+        requires not_over { self.now.over ≡ false }
+        ensures passed { IfSome result (λ given. Passes self.old given self.new) }
+        ensures span { IfSome result (λ given. LiesIn (lexer_text self.old) given.1) }
+        ensures stays { result ≡ None → self.new ≡ self.old }
+        ensures end { result ≡ None → self.old.offset ≡ length (lexer_text self.old) }
+        ensures text { lexer_text self.new ≡ lexer_text self.old }
+        ensures delimiters { lexer_delimiters self.new ≡ lexer_delimiters self.old }
+    {
+        if self.offset == self.source.len() {
+            return None;
+        }
+        let (end, next) = self.searcher.raw_end(self.source, self.offset);
+        let raw = Span {
+            m: self.offset,
+            n: end,
+        };
+        let given = shown(self.source, self.trims, begin_trims(next), raw);
+        self.trims = false;
+        self.offset = end;
+        Some((Token::Raw, given))
+    }
+
+    // The token where the lexer is, where it is none of the frequent ones; none at the text's end.
+    fn step(
+        &self,
+        delimiter: Option<(Delimiter, Span)>,
+    ) -> std::result::Result<Option<NextToken>, Wrong>
+        requires best { IsDelimiterAt self.now delimiter }
+        requires end { delimiter ≡ None → self.now.tag ≡ None → self.now.offset ≡ length (lexer_text self.now) }
+        ensures token { IfOk result (λ found. MatchOption
+            found
+            (self.now.offset ≡ length (lexer_text self.now))
+            (λ f. Finds self.now f)) }
+        ensures given { IfOk result (λ found. IfSome found (IsGivenWhole self.now)) }
+        ensures span { IfOk result (λ found. IfSome found (λ f. LiesIn (lexer_text self.now) f.span)) }
+        ensures wrong { IfErr result (λ wrong. GoesWrong self.now wrong) }
+        ensures wrong_span { IfErr result (λ wrong. LiesIn (lexer_text self.now) wrong.span) }
+    {
+        if let Some((kind, span)) = delimiter {
+            return self.delimiter(kind, span).map(Some);
+        }
+        let Some(tag) = self.tag else {
+            return Ok(None);
+        };
+        let Some(first) = char_at(self.source, self.offset) else {
+            return Ok(None);
+        };
+        if tag.sort == Sort::Comment {
+            Ok(Some(self.raw()))
+        } else {
+            self.inside(first, tag).map(Some)
+        }
     }
 
     // The token of the delimiter where the lexer is.
@@ -322,7 +468,7 @@ impl<'a> Lexer<'a> {
         })
     }
 
-    // The raw part where the lexer is.
+    // The raw part of a comment, where the lexer is.
     fn raw(&self) -> NextToken
         requires bare { NoneAt (lexer_delimiters self.now) (lexer_text self.now) self.now.offset }
         requires some { self.now.offset < length (lexer_text self.now) }
@@ -332,12 +478,13 @@ impl<'a> Lexer<'a> {
         ensures raw { IsRaw (lexer_delimiters self.now) (lexer_text self.now) self.now.offset result.span.n }
         ensures span { LiesIn (lexer_text self.now) result.span }
     {
+        let (end, _) = self.searcher.raw_end(self.source, self.offset);
         NextToken {
             token: Token::Raw,
             hyphen: false,
             span: Span {
                 m: self.offset,
-                n: self.searcher.raw_end(self.source, self.offset),
+                n: end,
             },
         }
     }
@@ -364,52 +511,6 @@ impl<'a> Lexer<'a> {
         Ok(())
     }
 
-    // The span that is given for a token: of a raw part outside tags what the hyphens beside it leave.
-    fn given_span(&self, token: Token, span: Span) -> Span
-        requires { LiesIn (lexer_text self.now) span }
-        ensures given { IsGiven
-            (lexer_delimiters self.now)
-            (lexer_text self.now)
-            (mode_of self.now.tag)
-            self.now.trims
-            token
-            span
-            result }
-        ensures span { LiesIn (lexer_text self.now) result }
-    {
-        match (self.tag, token) {
-            (None, Token::Raw) => self.trim(span),
-            _ => span,
-        }
-    }
-
-    // What the hyphens beside a raw part leave of it.
-    fn trim(&self, raw: Span) -> Span
-        requires { LiesIn (lexer_text self.now) raw }
-        ensures shown { (begin_behind : Bool)
-            × TrimsAt (lexer_delimiters self.now) (lexer_text self.now) raw.n begin_behind
-            × (result ≡ shown_span (lexer_text self.now) self.now.trims begin_behind raw) }
-        ensures span { LiesIn (lexer_text self.now) result }
-    {
-        match (self.trims, self.begin_trims(raw.n)) {
-            (false, false) => raw,
-            (false, true) => trim_end(self.source, raw),
-            (true, false) => trim_start(self.source, raw),
-            (true, true) => trim_start(self.source, trim_end(self.source, raw)),
-        }
-    }
-
-    // Whether a begin with the hyphen is at an offset.
-    fn begin_trims(&self, at: usize) -> bool
-        requires { IsCharBoundary (lexer_text self.now) at }
-        ensures { TrimsAt (lexer_delimiters self.now) (lexer_text self.now) at result }
-    {
-        match self.searcher.starts_with(self.source, at) {
-            Some((kind, _)) => has_hyphen(kind) && matches!(role_of(kind), Role::Begin(_)),
-            None => false,
-        }
-    }
-
     // The error that says what is wrong with the text. The lexer gives no more tokens then.
     fn refuse(&mut self, wrong: Wrong) -> Error
         requires { LiesIn (lexer_text self.now) wrong.span }
@@ -428,5 +529,30 @@ impl<'a> Lexer<'a> {
             Some(wrong.fault.reason()),
             Some((self.source, wrong.span)),
         )
+    }
+}
+
+// Whether the delimiter after a raw part is a begin with the hyphen.
+fn begin_trims(next: Option<Delimiter>) -> bool
+    ensures { (delimiters : List DelimiterText) (s : List ℕ) (p : ℕ)
+        → IsNextDelimiter delimiters s p next → TrimsAt delimiters s p result }
+{
+    match next {
+        Some(kind) => has_hyphen(kind) && matches!(role_of(kind), Role::Begin(_)),
+        None => false,
+    }
+}
+
+// What the hyphens before and after a raw part leave of it.
+fn shown(source: &str, trims: bool, begin_behind: bool, raw: Span) -> Span
+    requires { LiesIn source.now raw }
+    ensures shown { result ≡ shown_span source.now trims begin_behind raw }
+    ensures span { LiesIn source.now result }
+{
+    match (trims, begin_behind) {
+        (false, false) => raw,
+        (false, true) => trim_end(source, raw),
+        (true, false) => trim_start(source, raw),
+        (true, true) => trim_start(source, trim_end(source, raw)),
     }
 }

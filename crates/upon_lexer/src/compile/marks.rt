@@ -1,5 +1,5 @@
-// Marks of the first two bytes of delimiters, by which most offsets are seen to begin none, and whole blocks where these
-// bytes are few.
+// Marks of the first two bytes of delimiters, by which most offsets are seen to begin none, and whole blocks where
+// these bytes are few.
 ghost use Rattle.std.specs.Prelude.{◌≡◌, ℕ, ◌<◌, ◌≤◌, List, length, false};
 ghost use Rattle.upon_language_spec.specs.Search.{DelimiterText, HasTexts, NoneAt, NoneFrom};
 ghost use Rattle.upon_lexer.specs.Marks.{HasMark, MarksText, MarksEach};
@@ -9,7 +9,8 @@ use crate::compile::begins::{BLOCK, Begins};
 use crate::types::syntax::Syntax;
 
 /// For each byte, a bit for each delimiter that it is the first byte of, and for each that it may be the second byte
-/// of. A delimiter of one byte may have each byte as its second. Delimiters 16 apart in the list share a bit. And the bytes themselves, if they are few.
+/// of. A delimiter of one byte may have each byte as its second. Delimiters 16 apart in the list share a bit. And the
+/// bytes themselves, if they are few.
 #[derive(Drop)]
 pub(crate) struct Marks {
     first: [u16; 256],

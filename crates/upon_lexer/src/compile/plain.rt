@@ -10,7 +10,7 @@ ghost use Rattle.upon_language_spec.specs.LexStep.{Fits};
 ghost use Rattle.upon_language_spec.specs.Search.{Occurs};
 ghost use Rattle.upon_language_spec.specs.Words.{IsRun, is_tag_space};
 ghost use Rattle.upon_lexer.specs.Class.{class_test};
-ghost use Rattle.upon_lexer.specs.Plain.{IsLetter, IsPlain, mark_of};
+ghost use Rattle.upon_lexer.specs.Plain.{IsLetter, IsPlain, is_frequent, mark_of};
 
 use crate::compile::chars::{CharClass, is_keyword};
 use upon_types::types::{Span, Token, slice};
@@ -19,7 +19,8 @@ use upon_types::types::{Span, Token, slice};
 pub(crate) fn plain_at(source: &str, at: usize) -> Option<(Token, usize)>
     requires inside { at < length source.now }
     requires boundary { IsCharBoundary source.now at }
-    ensures { IfSome result (λ read. IsPlain source.now read.0 at read.1) }
+    ensures token { IfSome result (λ read. IsPlain source.now read.0 at read.1) }
+    ensures kind { IfSome result (λ read. is_frequent read.0 ≡ true) }
 {
     let byte = source.as_bytes()[at];
     if let Some(mark) = mark_of(byte) {
@@ -102,6 +103,7 @@ fn word_of(source: &str, at: usize, end: usize) -> Token
     ensures kind { start_kind result ≡ Ident }
     ensures extent { Extent source.now result at end }
     ensures fits { (brackets : List Lexeme) → Fits brackets result }
+    ensures plain { is_frequent result ≡ true }
 {
     if is_keyword(slice(source, Span { m: at, n: end })) {
         Token::Keyword

@@ -34,7 +34,7 @@ enum Way {
 }
 
 impl Searcher {
-    ghost use Rattle.upon_lexer.specs.Searcher.{searcher_delimiters};
+    ghost use Rattle.upon_lexer.specs.Searcher.{searcher_delimiters, IsNextDelimiter};
 
     /// Creates a searcher for the default syntax.
     pub fn new() -> Searcher
@@ -106,18 +106,20 @@ impl Searcher {
         }
     }
 
-    /// Returns the offset where the raw part that begins at an offset ends: at the next delimiter, or at the text's
-    /// end. It begins at a character boundary before the text's end if no delimiter occurs.
-    pub fn raw_end(&self, source: &str, at: usize) -> usize
+    /// Returns the offset where the raw part that begins at an offset ends: at the next delimiter, whose kind is
+    /// returned too, or at the text's end. It begins at a character boundary before the text's end if no delimiter
+    /// occurs.
+    pub fn raw_end(&self, source: &str, at: usize) -> (usize, Option<Delimiter>)
         requires inside { at < length source.now }
         requires boundary { IsCharBoundary source.now at }
         requires bare { NoneAt (searcher_delimiters self.now) source.now at }
-        ensures raw { IsRaw (searcher_delimiters self.now) source.now at result }
-        ensures span { LiesIn source.now (record { m = at; n = result }) }
+        ensures raw { IsRaw (searcher_delimiters self.now) source.now at result.0 }
+        ensures next { IsNextDelimiter (searcher_delimiters self.now) source.now result.0 result.1 }
+        ensures span { LiesIn source.now (record { m = at; n = result.0 }) }
     {
         match self.find_at(source, at) {
-            Some((_, next)) => next.m,
-            None => source.len(),
+            Some((kind, next)) => (next.m, Some(kind)),
+            None => (source.len(), None),
         }
     }
 

@@ -1,11 +1,12 @@
 // The tag that is open, and what a token does to it.
-ghost use Rattle.std.specs.Prelude.{◌≡◌, ◌&&◌, false};
+ghost use Rattle.std.specs.Prelude.{◌≡◌, ◌&&◌, true, false};
 ghost use Rattle.upon_language_spec.specs.Cut.{mode_after};
 ghost use Rattle.upon_language_spec.specs.Inside.{in_path_after};
 ghost use Rattle.upon_language_spec.specs.Shown.{is_end};
 ghost use Rattle.upon_language_spec.specs.Tokens.{is_space};
 ghost use Rattle.upon_lexer.specs.OpenTags.{mode_of, begin_of};
 ghost use Rattle.upon_language_spec.specs.LexStep.{begin_after};
+ghost use Rattle.upon_lexer.specs.Plain.{is_frequent};
 
 use crate::compile::roles::Sort;
 use upon_types::types::{Span, Token};
@@ -31,6 +32,17 @@ impl OpenTag {
             begin,
             in_path: false,
         }
+    }
+}
+
+/// Goes past a frequent token inside the tag that is open.
+pub fn pass_inner(tag: &mut Option<OpenTag>, token: Token)
+    requires { is_frequent token ≡ true }
+    ensures mode { mode_of tag.new ≡ mode_after (mode_of tag.old) token }
+    ensures begin { begin_of tag.new ≡ begin_of tag.old }
+{
+    if let Some(tag) = tag {
+        tag.in_path = path_after(tag.in_path, token);
     }
 }
 

@@ -1,5 +1,5 @@
 // The tokens inside a tag, up to where they end.
-ghost use Rattle.std.specs.Prelude.{◌≡◌, ◌<◌, List, [], ◌∷◌, Bool, true, false, Option, Some, None, IfOk, IfErr};
+ghost use Rattle.std.specs.Prelude.{◌≡◌, ◌<◌, ◌≤◌, List, [], ◌∷◌, Bool, true, false, Option, Some, None, IfOk, IfErr};
 ghost use Rattle.std.specs.Prelude.{IfSome, MatchOption};
 ghost use Rattle.std.specs.Char.{is_ascii_digit};
 ghost use Rattle.upon_types.specs.declared.types.token.Token.TheVariants.{Index, Number, String};
@@ -15,7 +15,7 @@ ghost use Rattle.upon_lexer.specs.Lexers.{lexer_text, lexer_delimiters, lexer_st
 ghost use Rattle.upon_tag_parser.specs.LiteralReasons.{report_of};
 ghost use Rattle.upon_tag_parser.specs.Literals.{lexeme_of, before_of};
 ghost use Rattle.upon_tag_parser.specs.TagTokens.{lexemes_of, IsTagToken, EachTagToken};
-ghost use Rattle.upon_syntax.specs.TagEnds.{DenotesNothing, SignLies, StopsAt, ReadsOn, ReadsUpTo, EndLies, tag_end};
+ghost use Rattle.upon_syntax.specs.TagEnds.{DenotesNothing, SignLies, StopsAt, ReadsTokens, ReadsUpTo, EndLies, tag_end, found_tokens};
 
 use std::alloc::AllocError;
 use upon_lexer::compile::lex::Lexer;
@@ -78,6 +78,11 @@ pub fn read_tokens(
     tokens.clear();
     let mut before = None;
     'tokens: loop {
+        if let Some(found) = plain_token(source, lexer) {
+            tokens.push(found)?;
+            before = Some(found);
+            continue 'tokens;
+        }
         match read_token(source, lexer, before) {
             Err(ended) => return Ok(ended),
             Ok(found) => {
@@ -88,6 +93,30 @@ pub fn read_tokens(
     }
 }
 
+// The next token inside a tag, if it is a frequent one; `None` says nothing, but that whitespace may have been read.
+fn plain_token(source: &str, lexer: &mut Lexer) -> Option<Lexed>
+    requires same { source.now ≡ lexer_text lexer.now }
+    ensures token { IfSome result
+        (λ found. (before : Option Lexeme) → IsTagToken source.now before (lexeme_of found)) }
+    ensures sign { IfSome result
+        (λ found. SignLies source.now (Some (lexeme_of found)) (lexer_state lexer.new).offset) }
+    ensures further { IfSome result (λ _. (lexer_state lexer.old).offset < (lexer_state lexer.new).offset) }
+    ensures onward { (lexer_state lexer.old).offset ≤ (lexer_state lexer.new).offset }
+    ensures inner { ReadsTokens
+        (lexer_delimiters lexer.old)
+        source.now
+        (lexer_state lexer.old)
+        (lexer_state lexer.new)
+        (found_tokens result) }
+    ensures text { lexer_text lexer.new ≡ lexer_text lexer.old }
+    ensures delimiters { lexer_delimiters lexer.new ≡ lexer_delimiters lexer.old }
+{
+    match lexer.next_plain() {
+        Some((token, span)) => Some(Lexed { token, span }),
+        None => None,
+    }
+}
+
 // The next token inside a tag, after the token before it; or where the tokens end.
 fn read_token(source: &str, lexer: &mut Lexer, before: Option<Lexed>) -> Result<Lexed, Ended>
     requires same { source.now ≡ lexer_text lexer.now }
@@ -95,14 +124,10 @@ fn read_token(source: &str, lexer: &mut Lexer, before: Option<Lexed>) -> Result<
     ensures token { IfOk result (λ found. IsTagToken source.now (before_of before) (lexeme_of found)) }
     ensures sign { IfOk result (λ found. SignLies source.now (Some (lexeme_of found)) (lexer_state lexer.new).offset) }
     ensures further { IfOk result (λ _. (lexer_state lexer.old).offset < (lexer_state lexer.new).offset) }
-    ensures inner { IfOk result (λ found. (sort : Sort) (path : Bool) (ls : List Lexeme)
-        → ReadSoFar lexer.old ls
-        → (lexer_state lexer.old).mode ≡ in_tag sort path
-        → ReadsOn
+    ensures inner { IfOk result (λ found. ReadsTokens
         (lexer_delimiters lexer.old)
         source.now
-        sort
-        ls
+        (lexer_state lexer.old)
         (lexer_state lexer.new)
         (lexeme_of found ∷ [])) }
     ensures ends { IfErr result (λ ended. (sort : Sort) (path : Bool) (ls : List Lexeme)

@@ -1,4 +1,4 @@
-use Rattle.std.proofs.Common.{◌≡◌, ℕ, ◌+◌, ◌-◌, ◌≤◌, List, sym, subst, length, max, take, drop, arith, ap, length-take, length-drop}
+use Rattle.std.proofs.Common.{◌≡◌, ℕ, ◌+◌, ◌-◌, ◌<◌, ◌≤◌, List, sym, subst, length, get_or, take, drop, arith, ap, length-take, length-drop}
 use Rattle.upon_language_spec.specs.DefaultDelimiters.{default_delimiters}
 use Rattle.upon_language_spec.specs.Search.{NoneFrom}
 use Rattle.upon_lexer.specs.Pairs.{NoPairIn, NoPairWith, IsFirstPairWith}
@@ -19,8 +19,8 @@ returns-in-Some-pair_with-clause-none c =
     let pair = c.in-Some-pair_with.pair in
     let First : List ℕ → Type 0 = λ x. IsFirstPairWith x at brace pair in
     let first : IsFirstPairWith s at brace pair = subst First same c.in-Some-pair_with.ensures in
-    let most : c.max.result ≤ max at (pair - 1) = omega (arith, c.max.ensures, c.saturating_sub.ensures) in
-    near_pair s at brace pair pairs first.before first.first c.max.result most
+    let Hyphens : List ℕ → Type 0 = λ x. (q : ℕ) → at ≤ q → q < c.begin_of.result → q + 1 ≡ pair → get_or x q 0 ≡ 45 → ⊥ in
+    near_pair s at brace pair pairs first.before first.first c.begin_of.result c.begin_of.ensures.before (subst Hyphens same c.begin_of.ensures.no_hyphen)
 
 pub loop-found-preserved : goal.loop-found-preserved
 loop-found-preserved c =

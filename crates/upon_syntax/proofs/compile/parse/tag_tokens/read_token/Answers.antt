@@ -1,7 +1,9 @@
-use Rattle.std.proofs.Common.{List, ℕ, sym, subst}
+use Rattle.std.proofs.Common.{List, [], ◌∷◌, ℕ, sym, subst}
+use Rattle.upon_language_spec.specs.Lexing.{HasRead}
 use Rattle.upon_lexer.specs.Lexers.{lexer_text, lexer_delimiters, lexer_state}
 use Rattle.upon_lexer.specs.Spelling.{IsSpelled}
-use Rattle.upon_tag_parser.specs.Literals.{before_of}
+use Rattle.upon_tag_parser.specs.Literals.{before_of, lexeme_of}
+use Rattle.upon_syntax.specs.TagEnds.{ReadsOn}
 use Rattle.upon_syntax.proofs.LiteralSpans.{index_digits}
 use Rattle.upon_syntax.proofs.TagTokenSteps.{ends_wrong, ends_eof, stops, goes_on}
 use Rattle.upon_syntax.proofs.compile.parse.tag_tokens.read_token.Goals as goal
@@ -34,9 +36,16 @@ returns-in-None-clause-token c =
 
 pub returns-in-None-clause-inner : goal.returns-in-None-clause-inner
 returns-in-None-clause-inner c = λ sort path ls read mode.
+    let delimiters = lexer_delimiters c.args.lexer.now in
     let s = lexer_text c.args.lexer.now in
-    let g = rw c.in-Ok-Some.field-0-is at c.in-Ok-Some.ensures.token ls read in
-    rw c.requires.same (goes_on (lexer_delimiters c.args.lexer.now) s sort path ls (lexer_state c.args.lexer.now) read mode (lexer_state c.next.new.self) c.in-Ok-Some.token c.in-Ok-Some.span g c.in-None.ensures.token.0)
+    let left = lexer_state c.args.lexer.now in
+    let after = lexer_state c.next.new.self in
+    let token = c.in-Ok-Some.token in
+    let span = c.in-Ok-Some.span in
+    let has_read = subst (λ x. HasRead delimiters x left ls) c.requires.same read in
+    let g = rw c.in-Ok-Some.field-0-is at c.in-Ok-Some.ensures.token ls has_read in
+    let on = goes_on delimiters s sort path ls left has_read mode after token span g c.in-None.ensures.token.0 in
+    subst (λ x. ReadsOn delimiters x sort ls after (lexeme_of (record { token = token; span = span }) ∷ [])) (sym c.requires.same) on
 
 pub returns-in-Some-clause-ends : goal.returns-in-Some-clause-ends
 returns-in-Some-clause-ends c = λ sort path ls read mode.
