@@ -194,13 +194,19 @@ fn turns_to<'a>(here: &mut Option<Here<'a>>, value: &'a Value)
             at.index += 1;
             puts_lent(&mut at.item, value);
         }
-        None => {
-            *here = Some(Here {
-                index: 0,
-                item: Item::Lone(ValueCow::Borrowed(value)),
-            });
-        }
+        None => begins(here, value),
     }
+}
+
+// The same at the first item.
+#[inline(never)]
+fn begins<'a>(here: &mut Option<Here<'a>>, value: &'a Value)
+    ensures { here.new ≡ Some (record { index = 0; item = Lone (Borrowed value.entry) }) }
+{
+    *here = Some(Here {
+        index: 0,
+        item: Item::Lone(ValueCow::Borrowed(value)),
+    });
 }
 
 // Puts a lent item in the place of another. Where that is lent too, only the reference is written.
@@ -210,8 +216,16 @@ fn puts_lent<'a>(item: &mut Item<'a>, value: &'a Value)
 {
     match item {
         Item::Lone(ValueCow::Borrowed(lent)) => *lent = value,
-        _ => *item = Item::Lone(ValueCow::Borrowed(value)),
+        _ => replaces(item, value),
     }
+}
+
+// The same in the place of an item that is let go.
+#[inline(never)]
+fn replaces<'a>(item: &mut Item<'a>, value: &'a Value)
+    ensures { item.new ≡ Lone (Borrowed value.entry) }
+{
+    *item = Item::Lone(ValueCow::Borrowed(value));
 }
 
 // What the members find in a loop's state, at the item of this index, of so many.
