@@ -139,6 +139,28 @@ impl Formatter {
         self.is_marked = true;
     }
 
+    /// Takes the text and the mark away. What memory there is for a text stays.
+    pub fn clear(&mut self)
+        ensures text { text_of self.new ≡ [] }
+        ensures mark { is_marked self.new ≡ false }
+    {
+        self.buffer.clear();
+        self.is_marked = false;
+    }
+
+    /// Returns the text, or `None` if the mark is set.
+    pub fn text(&self) -> Option<&str>
+        ensures { MatchOption
+            result
+            (is_marked self.now ≡ true)
+            (λ text. (is_marked self.now ≡ false) × (text.now ≡ text_of self.now)) }
+    {
+        if self.is_marked {
+            return None;
+        }
+        Some(self.buffer.as_str())
+    }
+
     /// Returns the text, or `None` if the mark is set.
     pub fn into_text(self) -> Option<String>
         ensures { MatchOption

@@ -1,5 +1,5 @@
 // Loops: the items that a loop goes over, and what a path finds at the item that it is at.
-ghost use Rattle.std.specs.Prelude.{◌≡◌, ◌∷◌, [], ◌+◌, ◌^◌, ◌<◌, true, None, length, map, option_map, IfOk};
+ghost use Rattle.std.specs.Prelude.{◌≡◌, ◌∷◌, [], ◌+◌, ◌^◌, ◌<◌, true, Some, None, length, map, option_map, IfOk};
 ghost use Rattle.upon_types.specs.AstPath.{member_of, first_member, rest_members, loop_vars_of, ident_of};
 ghost use Rattle.upon_types.specs.Cow.{cow_view};
 ghost use Rattle.upon_types.specs.Path.{item};
@@ -10,6 +10,8 @@ ghost use Rattle.upon_render.specs.Environment.{first_bound};
 ghost use Rattle.upon_render.specs.Cursor.{advance, has_begun, loop_bindings, loop_walk, lends_bound};
 ghost use Rattle.upon_render.specs.Items.{items_of};
 ghost use Rattle.upon_render.specs.Lookup.{bindings_walk, maybe_bound, key_walk, state_map, state_walk};
+ghost use Rattle.upon_render.specs.declared.items.Item.TheVariants.{Lone};
+ghost use Rattle.upon_types.specs.declared.value.cow.ValueCow.TheVariants.{Borrowed};
 ghost use Rattle.upon_render.specs.LoopItems.{names_of_both, IsNoList, IsNoMap, KeysRise, given, is_lent_here, is_lent_rest, is_lent_item, items_left, item_of, binds};
 ghost use Rattle.upon_render.specs.Lent.{TellsLent};
 ghost use Rattle.upon_render.specs.PathSpans.{StepsLieIn};
@@ -73,6 +75,25 @@ impl<'a> LoopState<'a> {
 
     /// Goes to the next item; at the end it stays at the last one. It takes no memory.
     pub fn iterate(&mut self) -> Option<()>
+        ensures next { option_map (λ _. cursor self.new) result ≡ advance (cursor self.old) }
+        ensures end { result ≡ None → cursor self.new ≡ cursor self.old }
+        ensures lent { is_lent_loop self.new ≡ is_lent_loop self.old }
+    {
+        match &mut self.rest {
+            Rest::ListLent(items) => match items.next() {
+                None => None,
+                Some(value) => {
+                    turns_to(&mut self.here, value);
+                    Some(())
+                }
+            },
+            _ => self.iterate_any(),
+        }
+    }
+
+    // Does the same over any items: the item that it was at is let go.
+    #[inline(never)]
+    fn iterate_any(&mut self) -> Option<()>
         ensures next { option_map (λ _. cursor self.new) result ≡ advance (cursor self.old) }
         ensures end { result ≡ None → cursor self.new ≡ cursor self.old }
         ensures lent { is_lent_loop self.new ≡ is_lent_loop self.old }
@@ -160,6 +181,51 @@ impl<'a> LoopState<'a> {
             _ => Ok(None),
         }
     }
+}
+
+// Goes on to a lent item of a list.
+#[inline(always)]
+fn turns_to<'a>(here: &mut Option<Here<'a>>, value: &'a Value)
+    requires { given here.old < 2 ^ 63 }
+    ensures { here.new ≡ Some (record { index = given here.old; item = Lone (Borrowed value.entry) }) }
+{
+    match here {
+        Some(at) => {
+            at.index += 1;
+            puts_lent(&mut at.item, value);
+        }
+        None => begins(here, value),
+    }
+}
+
+// The same at the first item.
+#[inline(never)]
+fn begins<'a>(here: &mut Option<Here<'a>>, value: &'a Value)
+    ensures { here.new ≡ Some (record { index = 0; item = Lone (Borrowed value.entry) }) }
+{
+    *here = Some(Here {
+        index: 0,
+        item: Item::Lone(ValueCow::Borrowed(value)),
+    });
+}
+
+// Puts a lent item in the place of another. Where that is lent too, only the reference is written.
+#[inline(always)]
+fn puts_lent<'a>(item: &mut Item<'a>, value: &'a Value)
+    ensures { item.new ≡ Lone (Borrowed value.entry) }
+{
+    match item {
+        Item::Lone(ValueCow::Borrowed(lent)) => *lent = value,
+        _ => replaces(item, value),
+    }
+}
+
+// The same in the place of an item that is let go.
+#[inline(never)]
+fn replaces<'a>(item: &mut Item<'a>, value: &'a Value)
+    ensures { item.new ≡ Lone (Borrowed value.entry) }
+{
+    *item = Item::Lone(ValueCow::Borrowed(value));
 }
 
 // What the members find in a loop's state, at the item of this index, of so many.

@@ -18,6 +18,7 @@ use crate::machine::{Machine, Running};
 use crate::run::{Ending, run};
 use crate::source::ProgramSource;
 use std::alloc::Global;
+use upon_fmt::fmt::Formatter;
 use upon_fmt::output::Output;
 use upon_render::source::ValueSource;
 use upon_render::stack::Stack;
@@ -67,6 +68,7 @@ pub fn render<'r, V: ValueSource, T: ProgramSource<'r>, C: Callables, W: Output>
         operands: Operands::new(alloc),
         stack,
         templates,
+        written: Formatter::new(alloc),
     };
     let ended = run(alloc, callables, &mut machine, out);
     let Machine {

@@ -62,9 +62,8 @@ pub(crate) fn run<'r, V: ValueSource, T: ProgramSource<'r>, C: Callables, W: Out
     let mut stop = None;
     let mut left = Steps::some::<_, _, Brand>(callables, &*machine);
     'steps: loop {
-        let running = machine.running;
         match step(alloc, callables, machine, out, &mut stop) {
-            None => return Err(stopped(alloc, running, stop)),
+            None => return Err(stopped(alloc, machine.running, stop)),
             Some(flow) => {
                 if let Some(end) = end_of(flow) {
                     return Ok(end);

@@ -36,6 +36,7 @@ use crate::steps::Steps;
 use crate::turn::{Turn, take_turn};
 use std::alloc::{AllocError, Global};
 use std::marker::Brand;
+use upon_fmt::fmt::Formatter;
 use upon_fmt::output::Output;
 use upon_render::source::ValueSource;
 use upon_render::stack::Stack;
@@ -206,6 +207,7 @@ pub fn render_within<'r, V: ValueSource, T: ProgramSource<'r>, C: Callables, W: 
         operands: Operands::new(alloc),
         stack,
         templates,
+        written: Formatter::new(alloc),
     };
     let ended = run_within(alloc, callables, &mut machine, limits, out);
     let Machine {

@@ -3,7 +3,9 @@ use Rattle.upon_render.specs.Roots.{pure_root}
 use Rattle.upon_render.specs.Stack.{root_of}
 use Rattle.upon_machine_spec.specs.Run.{steps}
 use Rattle.upon_vm.specs.Acts.{calls_of, stop_or_memory}
-use Rattle.upon_vm.specs.Machine.{state_of}
+use Rattle.upon_vm.specs.Failures.{FailsBy, StopLies}
+use Rattle.upon_vm.specs.Machine.{active_of, state_of}
+use Rattle.upon_vm.specs.declared.machine.Running.{Running}
 use Rattle.upon_vm.proofs.Keeps.{kept_on}
 use Rattle.upon_vm.proofs.OnTheWay.{way_asks, way_ended, way_failed, way_first, way_frames, way_nearer, way_not_stuck, way_on, way_stop}
 use Rattle.upon_vm.proofs.Fewer.{fewer}
@@ -57,13 +59,17 @@ stopped-requires g c =
     let h = c.steps.invariant.going known c.requires.starts.1 in
     let did = c.in-None.ensures.did known.values known.ask (way_asks h) in
     let next = state_of g.V.ValueSource.value_state g.T.ProgramSource.template_state known.values c.step.new.machine in
-    way_stop h (stop_or_memory c.step.new.stop) (g.W.Output.given c.step.new.out) next did
+    let stop = stop_or_memory c.step.new.stop in
+    subst (λ (running : Running). StopLies running.program.source.now stop) (sym c.in-None.ensures.running)
+    (way_stop h stop (g.W.Output.given c.step.new.out) next did)
 
 pub returns-in-None-clause-ran : goal.returns-in-None-clause-ran
 returns-in-None-clause-ran g c known starts =
     let h = c.steps.invariant.going known starts in
     let did = c.in-None.ensures.did known.values known.ask (way_asks h) in
-    way_failed h (stop_or_memory c.step.new.stop) c.stopped.result (g.W.Output.given c.step.new.out) c.step.new.machine did c.stopped.ensures
+    let stop = stop_or_memory c.step.new.stop in
+    way_failed h stop c.stopped.result (g.W.Output.given c.step.new.out) c.step.new.machine did
+    (subst (λ (running : Running). FailsBy (active_of running).running stop c.stopped.result) c.in-None.ensures.running c.stopped.ensures)
 
 pub returns-in-Some-end_of-clause-ran : goal.returns-in-Some-end_of-clause-ran
 returns-in-Some-end_of-clause-ran g c known starts =

@@ -21,7 +21,7 @@ run_within-ended-requires g c κs =
     let t = c.requires.program.0 in
     let ask = some_asking ask_of root in
     let q = some_state value_state root c.requires.state in
-    let m = machine_of c.args.running c.new.result c.new-2.result c.args.stack c.args.templates in (
+    let m = machine_of c.args.running c.new.result c.new-2.result c.args.stack c.args.templates c.new-3.result in (
       (refl, tt),
       (
         known_of ask_of value_state template_state resolve callables default m c.new.ensures.items refl c.new-2.ensures c.requires.frames t ask q,
@@ -38,7 +38,7 @@ returns-clause-ran g c t ask q program asks =
     let callables = g.C.Callables.callables c.args.callables.now in
     let default = g.C.Callables.default_formatter c.args.callables.now in
     let root = pure_root (root_of c.args.stack) in
-    let m = machine_of c.args.running c.new.result c.new-2.result c.args.stack c.args.templates in
+    let m = machine_of c.args.running c.new.result c.new-2.result c.args.stack c.args.templates c.new-3.result in
     let known = known_of ask_of value_state template_state resolve callables default m c.new.ensures.items refl c.new-2.ensures c.requires.frames t ask q in
     let from = starts ask_of value_state template_state resolve callables default m c.new.ensures.items refl c.new-2.ensures c.requires.frames c.requires.program t ask q program asks in
     let given = g.W.Output.given in
