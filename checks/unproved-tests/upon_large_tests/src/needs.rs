@@ -33,12 +33,14 @@ fn a_ring(rt: HostRuntime) -> Result<(), Fail> {
     Ok(())
 }
 
+const NAMES: usize = 2_000; // ./test: 200
+
 // Many names in one template, in loops too: each is needed.
 #[test]
 fn many_names(rt: HostRuntime) -> Result<(), Fail> {
     let alloc = rt.alloc();
     let mut source = String::new(alloc);
-    for i in 0..2_000 {
+    for i in 0..NAMES {
         let one = format!(in alloc; "{{{{ n{i} }}}}")?;
         source.push_str(one.as_str())?;
     }
@@ -46,7 +48,7 @@ fn many_names(rt: HostRuntime) -> Result<(), Fail> {
     let mut engine = Engine::new(alloc);
     engine.add_template(CowStr::Borrowed("plain"), CowStr::Owned(source))?;
     engine.add_template(CowStr::Borrowed("looped"), CowStr::Owned(looped))?;
-    for (name, many) in [("plain", 2_000), ("looped", 2_001)] {
+    for (name, many) in [("plain", NAMES), ("looped", NAMES + 1)] {
         let Some(needs) = engine.needs(name) else {
             return Err(Fail::new("there is such a template"));
         };
