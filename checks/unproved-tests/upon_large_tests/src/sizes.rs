@@ -6,9 +6,10 @@ use std::test::Fail;
 use upon::{Engine, Value};
 use upon_testing::answers::line_of;
 
-// How often a text is doubled, and a literal.
+// How often a text is doubled, a literal, and a list's items.
 const TEXTS: usize = 20; // ./test: 16
 const LITERALS: usize = 19; // ./test: 15
+const ITEMS: usize = 12; // ./test: 9
 
 // The bytes of the largest literal.
 const LARGEST: usize = 1 << 20; // ./test: 1 << 17
@@ -78,7 +79,7 @@ fn many_small_parts(rt: HostRuntime) -> Result<(), Fail> {
 fn large_literals(rt: HostRuntime) -> Result<(), Fail> {
     let alloc = rt.alloc();
     let mut times = 1usize;
-    for _ in 0..12 {
+    for _ in 0..ITEMS {
         times = times.wrapping_mul(2);
         let items = many(alloc, "1,", times)?;
         let source = format!(in alloc; "{{% for x in [{items}] %}}{{{{ x }}}}{{% endfor %}}")?;
