@@ -182,13 +182,15 @@ fn refused_includes(rt: HostRuntime) -> Result<(), Fail> {
     )
 }
 
-// A thousand templates, each of which includes the next one, and the last the first.
+const RING: usize = 1_000; // ./test: 100
+
+// So many templates, each of which includes the next one, and the last the first.
 #[test]
 fn a_ring(rt: HostRuntime) -> Result<(), Fail> {
     let alloc = rt.alloc();
     let mut engine = Engine::new(alloc);
-    for number in 0..1000 {
-        let next = (number + 1) % 1000;
+    for number in 0..RING {
+        let next = (number + 1) % RING;
         let name = if number == 0 {
             String::from_str(alloc, "main")?
         } else {

@@ -313,12 +313,14 @@ fn other_calls(rt: HostRuntime) -> Result<(), Fail> {
     Ok(())
 }
 
+const MISFITS: u32 = 300; // ./test: 101
+
 // A template with more misfits than are shown, and pictures with a blank line between two.
 #[test]
 fn pictures(rt: HostRuntime) -> Result<(), Fail> {
     let alloc = rt.alloc();
     let mut templates = String::from_str(alloc, "{\"a\": \"")?;
-    for i in 0..300u32 {
+    for i in 0..MISFITS {
         templates.push_str(format!(in alloc; "{{{{ x{i} }}}}")?.as_str())?;
     }
     templates.push_str("\"}")?;

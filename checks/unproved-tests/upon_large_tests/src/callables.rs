@@ -262,6 +262,9 @@ pub fn handing_on<'e>(alloc: Global) -> Result<Engine<'e>, AllocError> {
     Ok(engine)
 }
 
+// How often a text is doubled.
+const DOUBLED: usize = 20; // ./test: 16
+
 #[test]
 fn large_texts_are_handed_on(rt: HostRuntime) -> Result<(), Fail> {
     let alloc = rt.alloc();
@@ -269,7 +272,7 @@ fn large_texts_are_handed_on(rt: HostRuntime) -> Result<(), Fail> {
     let source = "{{ x | same }}{{ x | plain }}{{ x }}{% if not x | same | same %}!{% endif %}";
     let template = engine.compile(CowStr::Borrowed(source))?;
     let mut text = String::from_str(alloc, "x")?;
-    for _ in 0..20 {
+    for _ in 0..DOUBLED {
         let half = text.clone()?;
         text.push_str(half.as_str())?;
         let x = Value::from_text(alloc, text.as_str())?;

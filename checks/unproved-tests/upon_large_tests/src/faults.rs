@@ -7,6 +7,9 @@ use upon::error::ErrorKind;
 use upon::{Engine, Error, Value};
 use upon_testing::answers::{answer, describe};
 
+// How often the part before a fault is doubled.
+const DOUBLED: usize = 14; // ./test: 10
+
 // A part many times over, then an end.
 fn before(alloc: Global, part: &str, times: usize, end: &str) -> Result<String, AllocError> {
     let mut text = String::new(alloc);
@@ -36,7 +39,7 @@ fn faults_of_large_texts(rt: HostRuntime) -> Result<(), Fail> {
     let alloc = rt.alloc();
     for part in ["x", "x\n", "{# x #}\n"] {
         let mut times = 1usize;
-        for _ in 0..14 {
+        for _ in 0..DOUBLED {
             times = times.wrapping_mul(2);
             let at = times.wrapping_mul(part.len());
             let place = (at.wrapping_add(3), at.wrapping_add(4));

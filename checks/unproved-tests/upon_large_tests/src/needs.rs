@@ -1,4 +1,4 @@
-// What a template needs, of a thousand templates that include each other in a ring.
+// What a template needs, of many templates that include each other in a ring.
 use std::alloc::Global;
 use std::borrow::CowStr;
 use std::process::Abort;
@@ -18,27 +18,31 @@ fn ring(alloc: Global, many: usize) -> Result<Engine<'static>, Fail> {
     Ok(engine)
 }
 
+const RING: usize = 1_000; // ./test: 100
+
 #[test]
 fn a_ring(rt: HostRuntime) -> Result<(), Fail> {
     let alloc = rt.alloc();
-    let engine = ring(alloc, 1_000)?;
+    let engine = ring(alloc, RING)?;
     let Some(needs) = engine.needs("t7") else {
         return Err(Fail::new(format_args!("there is such a template")));
     };
     let needs = needs?;
     assert_eq!(&rt; needs.names().len(), 10);
-    assert_eq!(&rt; needs.templates().len(), 1_000);
+    assert_eq!(&rt; needs.templates().len(), RING);
     assert_eq!(&rt; needs.missing().len(), 0);
     assert!(&rt; !needs.is_whole());
     Ok(())
 }
+
+const NAMES: usize = 2_000; // ./test: 200
 
 // Many names in one template, in loops too: each is needed.
 #[test]
 fn many_names(rt: HostRuntime) -> Result<(), Fail> {
     let alloc = rt.alloc();
     let mut source = String::new(alloc);
-    for i in 0..2_000 {
+    for i in 0..NAMES {
         let one = format!(in alloc; "{{{{ n{i} }}}}")?;
         source.push_str(one.as_str())?;
     }
@@ -46,7 +50,7 @@ fn many_names(rt: HostRuntime) -> Result<(), Fail> {
     let mut engine = Engine::new(alloc);
     engine.add_template(CowStr::Borrowed("plain"), CowStr::Owned(source))?;
     engine.add_template(CowStr::Borrowed("looped"), CowStr::Owned(looped))?;
-    for (name, many) in [("plain", 2_000), ("looped", 2_001)] {
+    for (name, many) in [("plain", NAMES), ("looped", NAMES + 1)] {
         let Some(needs) = engine.needs(name) else {
             return Err(Fail::new("there is such a template"));
         };

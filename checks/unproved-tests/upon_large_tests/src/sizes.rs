@@ -6,6 +6,14 @@ use std::test::Fail;
 use upon::{Engine, Value};
 use upon_testing::answers::line_of;
 
+// How often a text is doubled, a literal, and a list's items.
+const TEXTS: usize = 20; // ./test: 16
+const LITERALS: usize = 19; // ./test: 15
+const ITEMS: usize = 12; // ./test: 9
+
+// The bytes of the largest literal.
+const LARGEST: usize = 1 << 20; // ./test: 1 << 17
+
 // A text many times over.
 fn many(alloc: Global, part: &str, times: usize) -> Result<String, AllocError> {
     let mut text = String::new(alloc);
@@ -47,7 +55,7 @@ fn is_long(rt: &impl Abort, alloc: Global, source: &str, length: usize) -> Resul
 fn large_texts(rt: HostRuntime) -> Result<(), Fail> {
     let alloc = rt.alloc();
     let mut times = 1usize;
-    for _ in 0..20 {
+    for _ in 0..TEXTS {
         times = times.wrapping_mul(2);
         is_long(&rt, alloc, many(alloc, "x", times)?.as_str(), times)?;
     }
@@ -71,7 +79,7 @@ fn many_small_parts(rt: HostRuntime) -> Result<(), Fail> {
 fn large_literals(rt: HostRuntime) -> Result<(), Fail> {
     let alloc = rt.alloc();
     let mut times = 1usize;
-    for _ in 0..12 {
+    for _ in 0..ITEMS {
         times = times.wrapping_mul(2);
         let items = many(alloc, "1,", times)?;
         let source = format!(in alloc; "{{% for x in [{items}] %}}{{{{ x }}}}{{% endfor %}}")?;
@@ -125,7 +133,7 @@ fn literal(alloc: Global, times: usize) -> Result<String, AllocError> {
 fn large_values(rt: HostRuntime) -> Result<(), Fail> {
     let alloc = rt.alloc();
     let mut times = 1usize;
-    for _ in 0..19 {
+    for _ in 0..LITERALS {
         times = times.wrapping_mul(2);
         is_long(&rt, alloc, literal(alloc, times)?.as_str(), times)?;
     }
@@ -136,7 +144,7 @@ fn large_values(rt: HostRuntime) -> Result<(), Fail> {
 #[test]
 fn a_value_of_a_mebibyte(rt: HostRuntime) -> Result<(), Fail> {
     let alloc = rt.alloc();
-    is_long(&rt, alloc, literal(alloc, 1 << 20)?.as_str(), 1 << 20)
+    is_long(&rt, alloc, literal(alloc, LARGEST)?.as_str(), LARGEST)
 }
 
 // How deep includes may be is said as it was set, whatever it is.

@@ -6,7 +6,7 @@ use upon_schema::read::shape_of_schema;
 use upon_schema::write::schema_of;
 use upon_shape::shape::{Keys, Plain, Shape};
 
-const SHAPES: u64 = 1_000;
+const SHAPES: u64 = 1_000; // ./test: 100
 
 const KEYS: [&str; 4] = ["a", "b", "c/d", "~"];
 

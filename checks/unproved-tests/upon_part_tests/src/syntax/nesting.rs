@@ -18,7 +18,7 @@ type Nest = (
 );
 
 // `check-program` has 1,000,000 of each.
-const DEPTH: usize = 4_000;
+const DEPTH: usize = 4_000; // ./test: 400
 
 const BRACKETS: &[Nest] = &[
     ("{{ ", "(", "a", ")", " }}", 0, 2),
