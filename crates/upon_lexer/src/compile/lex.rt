@@ -247,9 +247,7 @@ impl<'a> Lexer<'a> {
     // Passes a delimiter outside tags, if it is a begin.
     fn pass_begin(&mut self, kind: Delimiter, span: Span) -> Option<(Token, Span)>
         requires outside { self.now.tag ≡ None }
-        requires occurs { IsBestDelimiter (lexer_delimiters self.now) (lexer_text self.now) kind span.m span.n }
-        requires start { span.m ≡ self.now.offset }
-        requires span { LiesIn (lexer_text self.now) span }
+        requires best { IsDelimiterAt self.now (Some (kind, span)) }
         requires not_over { self.now.over ≡ false }
         ensures passed { IfSome result (λ given. Passes self.old given self.new) }
         ensures span { IfSome result (λ given. given.1 ≡ span) }
@@ -270,9 +268,7 @@ impl<'a> Lexer<'a> {
     // Passes a delimiter in an open tag, if it is the tag's end and no bracket is open.
     fn pass_end(&mut self, sort: Sort, kind: Delimiter, span: Span) -> Option<(Token, Span)>
         requires open { awaited_sort (mode_of self.now.tag) ≡ Some (sort_of sort) }
-        requires occurs { IsBestDelimiter (lexer_delimiters self.now) (lexer_text self.now) kind span.m span.n }
-        requires start { span.m ≡ self.now.offset }
-        requires span { LiesIn (lexer_text self.now) span }
+        requires best { IsDelimiterAt self.now (Some (kind, span)) }
         requires not_over { self.now.over ≡ false }
         ensures passed { IfSome result (λ given. Passes self.old given self.new) }
         ensures span { IfSome result (λ given. given.1 ≡ span) }

@@ -17,7 +17,7 @@ returns-clause-passed c =
     record {
       found = record { token = token; hyphen = has_hyphen c.args.kind; span = c.args.span };
       of_token = refl;
-      next = begin_next delimiters s left c.args.kind sort token c.args.span is (ap mode_of c.requires.outside) c.requires.occurs c.requires.start c.in-Begin.ensures;
+      next = begin_next delimiters s left c.args.kind sort token c.args.span is (ap mode_of c.requires.outside) c.requires.best.best c.requires.best.start c.in-Begin.ensures;
       of_span = begin_given delimiters s left c.args.kind sort token c.args.span is;
       state = begin_state delimiters s left c.args.kind sort token c.args.span is _ refl c.tag_after-self.ensures.mode c.tag_after-self.ensures.begin refl refl c.requires.not_over;
     }

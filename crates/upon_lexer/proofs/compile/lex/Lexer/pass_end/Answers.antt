@@ -26,7 +26,7 @@ returns-clause-passed c =
     record {
       found = end;
       of_token = sym c.end_token.ensures;
-      next = end_next delimiters s left c.args.kind sort c.args.span no_bracket c.requires.open c.requires.occurs c.requires.start of_sort;
+      next = end_next delimiters s left c.args.kind sort c.args.span no_bracket c.requires.open c.requires.best.best c.requires.best.start of_sort;
       of_span = given_whole delimiters s left.mode left.trims (end_token sort) c.args.span (end_is_no_raw sort);
       state = end_state delimiters s left c.args.kind sort c.args.span no_bracket _ refl refl refl refl c.has_hyphen-self.ensures c.requires.not_over;
     }
