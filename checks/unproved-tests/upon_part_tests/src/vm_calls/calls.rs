@@ -5,6 +5,7 @@ use crate::vm_calls::fixed::Fixed;
 use std::alloc::{AllocError, Global};
 use std::process::Abort;
 use std::test::Fail;
+use upon_fmt::fmt::Formatter;
 use upon_types::types::Span;
 use upon_types::types::ast::Ident;
 use upon_types::value::{Value, ValueCow};
@@ -92,7 +93,7 @@ fn results_are_256_deep_at_most(rt: HostRuntime) -> Result<(), Fail> {
     Ok(())
 }
 
-// What is shown of a call, and what is reported after it.
+// What is shown of a call, and what is reported after it. A formatter is given a buffer with another text.
 fn shown(
     alloc: Global,
     fixed: Fixed,
@@ -101,6 +102,8 @@ fn shown(
 ) -> Result<String, AllocError>
     requires { length values.now ≡ length spans.now }
 {
+    let mut written = Formatter::new(alloc);
+    drop(written.write_str("before"));
     let mut text = String::new(alloc);
     match emit_with(
         alloc,
@@ -109,6 +112,7 @@ fn shown(
         values,
         spans,
         WHOLE,
+        &mut written,
         &mut text,
     ) {
         Ok(()) => Ok(text),
