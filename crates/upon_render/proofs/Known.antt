@@ -12,10 +12,11 @@ use Rattle.upon_render.specs.Environment.{Bound, Binding, Root, Environment, bin
 use Rattle.upon_render.specs.Finding.{Finding, found, at_fault}
 use Rattle.upon_render.specs.Frames.{lends_bound_or}
 use Rattle.upon_render.specs.Lookup.{bound_value, maybe_bound, bindings_walk}
-use Rattle.upon_render.specs.Lent.{TellsLent, FindsLent}
+use Rattle.upon_render.specs.Seen.{FindsMade, FindsSeen, TellsMade, TellsSeen}
 use Rattle.upon_render.specs.Settled.{Known, known, or_root_settles, Finds}
 use Rattle.upon_render.specs.declared.value.Found.{Found}
-use Rattle.upon_render.specs.declared.value.Found.TheVariants.{Here, Unknown, Below}
+use Rattle.upon_render.specs.declared.value.Found.TheVariants.{Lent, Held, Unknown, Below}
+use Rattle.upon_render.specs.declared.value.Made.{Made}
 use Rattle.upon_render.specs.Walk.{as_some}
 
 -- ---- bindings ahead of others
@@ -84,18 +85,32 @@ frame_finds source r bs env own lent first rest answer lends =
 
 -- ---- the same of a search by references
 bound_lends : (r : Found) (x y : Option Bound) (own lent : Bool) (root : Root) (first : Member) (rest : List Member)
-    → TellsLent (maybe_bound x rest) r
-    → FindsLent (known_by (first_or x y) (lends_bound_or own x lent) root first rest) (known_by y lent root first rest) r
-bound_lends (Here v) None y own lent root first rest tells = absurd cc
+    → TellsSeen (maybe_bound x rest) r
+    → FindsSeen (known_by (first_or x y) (lends_bound_or own x lent) root first rest) (known_by y lent root first rest) r
+bound_lends (Lent v) None y own lent root first rest tells = absurd cc
+bound_lends (Held v) None y own lent root first rest tells = absurd cc
 bound_lends Unknown None y own lent root first rest tells = tt
 bound_lends Below None y own lent root first rest tells = refl
-bound_lends (Here v) (Some b) y own lent root first rest tells = rw tells refl
+bound_lends (Lent v) (Some b) y own lent root first rest tells = rw tells refl
+bound_lends (Held v) (Some b) y own lent root first rest tells = rw tells refl
 bound_lends Unknown (Some b) y own lent root first rest tells = tt
 bound_lends Below (Some b) y own lent root first rest tells = absurd (never_none (bound_value b rest) tells)
 
 -- a frame that binds these names, over an environment
 pub frame_lends_so : (r : Found) (bs : List Binding) (env : Environment) (own lent : Bool) (first : Member) (rest : List Member)
-    → TellsLent (bindings_walk bs first rest) r
-    → FindsLent (known (bind_all bs env) (lends_bound_or own (binding_of first.access bs) lent) first rest) (known env lent first rest) r
+    → TellsSeen (bindings_walk bs first rest) r
+    → FindsSeen (known (bind_all bs env) (lends_bound_or own (binding_of first.access bs) lent) first rest) (known env lent first rest) r
 frame_lends_so r bs env own lent first rest tells =
     rw (bound_to-append first.access bs env.bindings) (bound_lends r (binding_of first.access bs) (binding_of first.access env.bindings) own lent env.root first rest tells)
+
+-- ---- and of what a loop says of itself
+bound_made : (r : Option Made) (x y : Option Bound) (own lent : Bool) (root : Root) (first : Member) (rest : List Member)
+    → TellsMade (maybe_bound x rest) r → FindsMade (known_by (first_or x y) (lends_bound_or own x lent) root first rest) r
+bound_made None x y own lent root first rest tells = tt
+bound_made (Some made) None y own lent root first rest tells = absurd cc
+bound_made (Some made) (Some b) y own lent root first rest tells = rw tells refl
+
+pub frame_makes : (r : Option Made) (bs : List Binding) (env : Environment) (own lent : Bool) (first : Member) (rest : List Member)
+    → TellsMade (bindings_walk bs first rest) r → FindsMade (known (bind_all bs env) (lends_bound_or own (binding_of first.access bs) lent) first rest) r
+frame_makes r bs env own lent first rest tells =
+    rw (bound_to-append first.access bs env.bindings) (bound_made r (binding_of first.access bs) (binding_of first.access env.bindings) own lent env.root first rest tells)

@@ -5,6 +5,7 @@ use Rattle.std.proofs.lemmas.List.{take_more}
 use Rattle.upon_types.specs.Cow.{cow_view}
 use Rattle.upon_types.specs.Path.{Access, Member}
 use Rattle.upon_types.specs.Val.{Val}
+use Rattle.upon_types.specs.View.{view}
 use Rattle.upon_types.specs.declared.value.Value.{Value}
 use Rattle.upon_types.specs.declared.error.Error.{Error}
 use Rattle.upon_types.specs.declared.value.cow.ValueCow.{ValueCow}
@@ -12,11 +13,12 @@ use Rattle.upon_render.specs.Answer.{Answers, IsLent, Lends}
 use Rattle.upon_render.specs.Environment.{Root, context, value_source, nothing, Environment, root_environment}
 use Rattle.upon_render.specs.Finding.{Finding, found, at_fault, Reply, reply}
 use Rattle.upon_render.specs.Frames.{frame_over, frames_over, frame_lends, frames_lend}
-use Rattle.upon_render.specs.Lent.{LooksUp, WalksTo}
+use Rattle.upon_render.specs.Seen.{FindsMade, LooksUp, RootTells, made_view}
 use Rattle.upon_render.specs.Lookup.{or_not_in_scope, or_root, root_value, lookup}
 use Rattle.upon_render.specs.Settled.{Known, known, root_settles, or_root_settles, Settles, Finds}
 use Rattle.upon_render.specs.Source.{Source}
 use Rattle.upon_render.specs.declared.stack.State.{State}
+use Rattle.upon_render.specs.declared.value.Made.{Made}
 use Rattle.upon_render.proofs.Known.{bound_to-nil}
 
 -- ---- one frame more
@@ -161,8 +163,13 @@ looks_up_here ask env lent fs gs first rest q v same is =
     (subst (λ (l : List State). (known_by_frames env lent l first rest).settled ≡ Some (found v)) same is)
 
 -- one that the root has, where no frame binds the path
-pub looks_up_root : {Q : Type 0} (ask : Source Q) (env : Environment) (w : Val) (lent own : Bool) (first : Member) (rest : List Member) (q : Q) (r : Option (Bor Value))
-    → known env lent first rest ≡ known (root_environment (context w)) own first rest → WalksTo first rest w r → LooksUp ask env first rest q r
-looks_up_root ask env w lent own first rest q None same h = tt
-looks_up_root ask env w lent own first rest q (Some v) same h =
-    lookup_in_root ask env (context w) lent own first rest q same ∙ ap (λ (x : Finding (Option Val)). reply (or_not_in_scope x first.span) q) h
+pub looks_up_root : {Q : Type 0} (ask : Source Q) (env : Environment) (root : Root) (lent own : Bool) (first : Member) (rest : List Member) (q : Q) (r : Option (Bor Value))
+    → known env lent first rest ≡ known (root_environment root) own first rest → RootTells ask root first rest q r → LooksUp (λ v. view v.now) ask env first rest q r
+looks_up_root ask env root lent own first rest q None same h = tt
+looks_up_root ask env root lent own first rest q (Some v) same h = lookup_in_root ask env root lent own first rest q same ∙ h
+
+-- what a loop among them says of itself
+pub looks_up_made : {Q : Type 0} (ask : Source Q) (env : Environment) (lent : Bool) (fs gs : List State) (first : Member) (rest : List Member) (q : Q) (r : Option Made)
+    → gs ≡ fs → FindsMade (known_by_frames env lent gs first rest) r → LooksUp made_view ask (frames_over env fs) first rest q r
+looks_up_made ask env lent fs gs first rest q None same h = tt
+looks_up_made ask env lent fs gs first rest q (Some made) same h = looks_up_here ask env lent fs gs first rest q (made_view made) same h

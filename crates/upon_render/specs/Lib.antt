@@ -16,4 +16,4 @@ pub mod Frames
 pub mod Settled
 pub mod Roots
 pub mod Stack
-pub mod Lent
+pub mod Seen

@@ -13,13 +13,13 @@ ghost use Rattle.upon_render.specs.Lookup.{bindings_walk, maybe_bound, key_walk,
 ghost use Rattle.upon_render.specs.declared.items.Item.TheVariants.{Lone};
 ghost use Rattle.upon_types.specs.declared.value.cow.ValueCow.TheVariants.{Borrowed};
 ghost use Rattle.upon_render.specs.LoopItems.{names_of_both, IsNoList, IsNoMap, KeysRise, given, is_lent_here, is_lent_rest, is_lent_item, items_left, item_of, binds};
-ghost use Rattle.upon_render.specs.Lent.{TellsLent};
+ghost use Rattle.upon_render.specs.Seen.{TellsMade, TellsSeen};
 ghost use Rattle.upon_render.specs.PathSpans.{StepsLieIn};
 ghost use Rattle.upon_render.specs.Walk.{as_some};
 
 use crate::faults;
 use crate::items::{Here, Item, Rest};
-use crate::value::{Found, find_bound, lookup_bound};
+use crate::value::{Found, Made, find_bound, lookup_bound};
 use std::alloc::{AllocError, Global};
 use std::collections::BTreeMap;
 use upon_types::error::{Error, Result};
@@ -143,10 +143,10 @@ impl<'a> LoopState<'a> {
         }
     }
 
-    /// Returns what the loop binds to the path, if that is a lent value.
+    /// Returns what the loop binds to the path, where it is.
     #[inline(always)]
-    pub(crate) fn find(&self, var: &Var) -> Found<'a>
-        ensures { TellsLent
+    pub(crate) fn find<'s>(&'s self, var: &Var) -> Found<'s, 'a>
+        ensures { TellsSeen
             (bindings_walk (loop_bindings (cursor self.now)) (first_member var.now) (rest_members var.now))
             result }
     {
@@ -159,6 +159,25 @@ impl<'a> LoopState<'a> {
                 find_item(self.vars, &here.item, name, var.rest())
             }
             _ => Found::Below,
+        }
+    }
+
+    /// Returns what the path finds of the loop itself; `None` says nothing.
+    pub(crate) fn find_made(&self, var: &Var) -> Option<Made<'_>>
+        ensures { TellsMade
+            (bindings_walk (loop_bindings (cursor self.now)) (first_member var.now) (rest_members var.now))
+            result }
+    {
+        match (&var.first().access, &self.here) {
+            (Access::Key(ident), Some(here)) => {
+                let name = ident.name.as_str();
+                if name == "loop" {
+                    let count = here.index + 1 + self.rest.len();
+                    return made_of_state(here.index, count, var.rest());
+                }
+                made_of_key(self.vars, &here.item, name, var.rest())
+            }
+            _ => None,
         }
     }
 
@@ -361,10 +380,56 @@ fn lookup_item<'a>(
     }
 }
 
-// What the item binds to a name, with the members after it, if that is a lent value.
+// One of the three that a loop's state has, if the path ends there.
+fn made_of_state<'s>(index: usize, count: usize, path: &[Member]) -> Option<Made<'s>>
+    requires index { index < 2 ^ 63 }
+    requires count { index < count }
+    ensures { TellsMade (as_some (state_walk index count (map member_of path.now))) result }
+{
+    let [member] = path else {
+        return None;
+    };
+    let Access::Key(name) = &member.access else {
+        return None;
+    };
+    match name.name.as_str() {
+        "index" => Some(Made::Integer(index as i64)),
+        "first" => Some(Made::Bool(index == 0)),
+        "last" => Some(Made::Bool(index == count - 1)),
+        _ => None,
+    }
+}
+
+// The key of an entry, if that is the name and the path ends there.
+fn made_of_key<'s>(
+    vars: &LoopVars,
+    item: &'s Item<'_>,
+    name: &str,
+    path: &[Member],
+) -> Option<Made<'s>>
+    ensures { TellsMade
+        (maybe_bound (first_bound name.now (binds (loop_vars_of vars.now) (item_of item.now))) (map member_of path.now))
+        result }
+{
+    match (vars, item) {
+        (LoopVars::KeyValue(both), Item::Entry(key, _))
+            if name == both.key.name.as_str() && path.is_empty() =>
+        {
+            Some(Made::Text(key.as_str()))
+        }
+        _ => None,
+    }
+}
+
+// What the item binds to a name, with the members after it, where it is.
 #[inline(always)]
-fn find_item<'a>(vars: &LoopVars, item: &Item<'a>, name: &str, path: &[Member]) -> Found<'a>
-    ensures { TellsLent
+fn find_item<'s, 'a>(
+    vars: &LoopVars,
+    item: &'s Item<'a>,
+    name: &str,
+    path: &[Member],
+) -> Found<'s, 'a>
+    ensures { TellsSeen
         (maybe_bound (first_bound name.now (binds (loop_vars_of vars.now) (item_of item.now))) (map member_of path.now))
         result }
 {

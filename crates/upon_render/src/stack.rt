@@ -3,12 +3,13 @@ ghost use Rattle.std.specs.Prelude.{◌≡◌, ◌≢◌, ◌∷◌, [], ◌++�
 ghost use Rattle.upon_types.specs.AstPath.{member_of, first_member, rest_members, ident_of};
 ghost use Rattle.upon_types.specs.Cow.{cow_view};
 ghost use Rattle.upon_types.specs.Span.{LiesIn};
+ghost use Rattle.upon_types.specs.View.{view};
 ghost use Rattle.upon_render.specs.Answer.{Answers, maybe_view, is_borrowed, IsLent, IsLentIfAny, Lends};
 ghost use Rattle.upon_render.specs.Cursor.{lends_bound};
 ghost use Rattle.upon_render.specs.Loop.{cursor};
 ghost use Rattle.upon_render.specs.Environment.{Environment, value_source, binding, plain, binding_of};
 ghost use Rattle.upon_render.specs.Frames.{frame_over, frames_over, frame_lends, frames_lend};
-ghost use Rattle.upon_render.specs.Lent.{FindsLent, LooksUp, TellsLent};
+ghost use Rattle.upon_render.specs.Seen.{FindsMade, FindsSeen, LooksUp, RootTells, TellsSeen, made_view};
 ghost use Rattle.upon_render.specs.Lookup.{lookup, root_value, bindings_walk, or_not_in_scope};
 ghost use Rattle.upon_render.specs.PathSpans.{StepsLieIn};
 ghost use Rattle.upon_render.specs.Settled.{known, Finds};
@@ -19,7 +20,7 @@ ghost use Rattle.upon_render.specs.Walk.{context_walk};
 use crate::faults;
 use crate::iter::LoopState;
 use crate::source::{SourceError, ValueSource, members};
-use crate::value::{Found, find_bound, find_in_context, lookup_bound, lookup_in_context};
+use crate::value::{Found, Made, find_bound, find_in_context, lookup_bound, lookup_in_context};
 use std::alloc::{AllocError, Global};
 use upon_types::error::Result;
 use upon_types::types::ast::{Access, Ident, Member, Var};
@@ -109,10 +110,11 @@ impl<'a, V: ValueSource> Stack<'a, V> {
         }
     }
 
-    /// Returns what the path finds, if that is a lent value; `None` says nothing.
+    /// Returns what the path finds, where it is; `None` says nothing.
     #[inline(always)]
-    pub fn find_lent(&self, var: &Var) -> Option<&'a Value>
+    pub fn find<'s>(&'s self, var: &Var) -> Option<&'s Value>
         ensures { (ask : Source V.State) (q : V.State) → LooksUp
+            (λ value. view value.now)
             ask
             (environment_of self.now)
             (first_member var.now)
@@ -121,13 +123,45 @@ impl<'a, V: ValueSource> Stack<'a, V> {
             result }
     {
         match find_in_frames(self.frames.as_slice(), var) {
-            Found::Here(value) => Some(value),
+            Found::Lent(value) => Some(value),
+            Found::Held(value) => Some(value),
             Found::Unknown => None,
-            Found::Below => match &self.root {
-                Root::Value(context) => find_in_context(*context, var.first(), var.rest()),
-                Root::Source(_) => None,
-            },
+            Found::Below => find_in_root(&self.root, var),
         }
+    }
+
+    /// Returns what the path finds, if that is lent for longer than the frames; `None` says nothing.
+    #[inline(always)]
+    pub fn find_lent(&self, var: &Var) -> Option<&'a Value>
+        ensures { (ask : Source V.State) (q : V.State) → LooksUp
+            (λ value. view value.now)
+            ask
+            (environment_of self.now)
+            (first_member var.now)
+            (rest_members var.now)
+            q
+            result }
+    {
+        match find_in_frames(self.frames.as_slice(), var) {
+            Found::Lent(value) => Some(value),
+            Found::Held(_) => None,
+            Found::Unknown => None,
+            Found::Below => find_in_root(&self.root, var),
+        }
+    }
+
+    /// Returns what the path finds, if a loop says it of itself; `None` says nothing.
+    pub fn find_made(&self, var: &Var) -> Option<Made<'_>>
+        ensures { (ask : Source V.State) (q : V.State) → LooksUp
+            made_view
+            ask
+            (environment_of self.now)
+            (first_member var.now)
+            (rest_members var.now)
+            q
+            result }
+    {
+        made_in_frames(self.frames.as_slice(), var)
     }
 
     /// One frame more, the innermost. If there is no memory, nothing changes.
@@ -267,6 +301,23 @@ impl<'a, V: ValueSource> Stack<'a, V> {
     }
 }
 
+// What the root has at the path, if that is a context.
+#[inline(always)]
+fn find_in_root<'a, V: ValueSource>(root: &Root<'a, V>, var: &Var) -> Option<&'a Value>
+    ensures { (ask : Source V.State) (q : V.State) → RootTells
+        ask
+        (pure_root root.now)
+        (first_member var.now)
+        (rest_members var.now)
+        q
+        result }
+{
+    match root {
+        Root::Value(context) => find_in_context(*context, var.first(), var.rest()),
+        Root::Source(_) => None,
+    }
+}
+
 // What the root has at the path.
 fn lookup_root<'a, V: ValueSource>(
     alloc: Global,
@@ -365,10 +416,10 @@ fn search<'a>(
     Ok(None)
 }
 
-// What the frames have at the path, the innermost first, if that is a lent value.
+// What the frames have at the path, the innermost first, where it is.
 #[inline(always)]
-fn find_in_frames<'a>(frames: &[State<'a>], var: &Var) -> Found<'a>
-    ensures { (env : Environment) (lent : Bool) → FindsLent
+fn find_in_frames<'s, 'a>(frames: &'s [State<'a>], var: &Var) -> Found<'s, 'a>
+    ensures { (env : Environment) (lent : Bool) → FindsSeen
         (known (frames_over env frames.now) (frames_lend lent frames.now (first_member var.now).access)
         (first_member var.now) (rest_members var.now))
         (known env lent (first_member var.now) (rest_members var.now))
@@ -378,7 +429,8 @@ fn find_in_frames<'a>(frames: &[State<'a>], var: &Var) -> Found<'a>
     while left > 0 {
         left -= 1;
         match find_in_frame(&frames[left], var) {
-            Found::Here(value) => return Found::Here(value),
+            Found::Lent(value) => return Found::Lent(value),
+            Found::Held(value) => return Found::Held(value),
             Found::Unknown => return Found::Unknown,
             Found::Below => {}
         }
@@ -386,10 +438,29 @@ fn find_in_frames<'a>(frames: &[State<'a>], var: &Var) -> Found<'a>
     Found::Below
 }
 
-// What the frame has at the path, if that is a lent value.
+// What the innermost frame that binds the path says of itself, if that is a loop.
+fn made_in_frames<'s>(frames: &'s [State<'_>], var: &Var) -> Option<Made<'s>>
+    ensures { (env : Environment) (lent : Bool) → FindsMade
+        (known (frames_over env frames.now) (frames_lend lent frames.now (first_member var.now).access)
+        (first_member var.now) (rest_members var.now))
+        result }
+{
+    let mut left = frames.len();
+    while left > 0 {
+        left -= 1;
+        match (find_in_frame(&frames[left], var), &frames[left]) {
+            (Found::Below, _) => {}
+            (Found::Unknown, State::Loop(state)) => return state.find_made(var),
+            _ => return None,
+        }
+    }
+    None
+}
+
+// What the frame has at the path, where it is.
 #[inline(always)]
-fn find_in_frame<'a>(frame: &State<'a>, var: &Var) -> Found<'a>
-    ensures { (env : Environment) (lent : Bool) → FindsLent
+fn find_in_frame<'s, 'a>(frame: &'s State<'a>, var: &Var) -> Found<'s, 'a>
+    ensures { (env : Environment) (lent : Bool) → FindsSeen
         (known (frame_over frame.now env) (frame_lends frame.now (first_member var.now).access lent)
         (first_member var.now) (rest_members var.now))
         (known env lent (first_member var.now) (rest_members var.now))
@@ -399,11 +470,16 @@ fn find_in_frame<'a>(frame: &State<'a>, var: &Var) -> Found<'a>
         State::Scope(context) => match context {
             ValueCow::Borrowed(context) => {
                 match find_in_context(*context, var.first(), var.rest()) {
-                    Some(value) => Found::Here(value),
+                    Some(value) => Found::Lent(value),
                     None => Found::Unknown,
                 }
             }
-            ValueCow::Owned(_) => Found::Unknown,
+            ValueCow::Owned(context) => {
+                match find_in_context(context, var.first(), var.rest()) {
+                    Some(value) => Found::Held(value),
+                    None => Found::Unknown,
+                }
+            }
         },
         State::Var(ident, value) => find_named(*ident, value, var),
         State::Loop(state) => state.find(var),
@@ -411,10 +487,10 @@ fn find_in_frame<'a>(frame: &State<'a>, var: &Var) -> Found<'a>
     }
 }
 
-// What a name with its value binds to the path, if that is a lent value.
+// What a name with its value binds to the path, where it is.
 #[inline(always)]
-fn find_named<'a>(ident: &Ident, value: &ValueCow<'a>, var: &Var) -> Found<'a>
-    ensures { TellsLent
+fn find_named<'s, 'a>(ident: &Ident, value: &'s ValueCow<'a>, var: &Var) -> Found<'s, 'a>
+    ensures { TellsSeen
         (bindings_walk (binding (ident_of ident.now).text (plain (cow_view value.now)) ∷ []) (first_member var.now)
         (rest_members var.now))
         result }

@@ -1,19 +1,19 @@
 // Members of a value, and walks over members.
-ghost use Rattle.std.specs.Prelude.{◌≡◌, ◌<◌, true, Ok, None, length, map, option_map, slice_get};
+ghost use Rattle.std.specs.Prelude.{◌≡◌, ◌<◌, true, Ok, None, IfOk, length, map, option_map, slice_get};
 ghost use Rattle.upon_types.specs.AstPath.{member_of};
 ghost use Rattle.upon_types.specs.Cow.{cow_view};
 ghost use Rattle.upon_types.specs.Span.{LiesIn};
 ghost use Rattle.upon_types.specs.View.{view, vals_view};
 ghost use Rattle.upon_render.specs.Answer.{AnswersAlways, Answers, TellsFault, lent_view, lent_or_none, maybe_view, is_borrowed, IsLent, IsLentIfAny, Lends};
 ghost use Rattle.upon_render.specs.Finding.{found, found_only};
-ghost use Rattle.upon_render.specs.Lent.{IsFound, TellsLent, WalksTo};
+ghost use Rattle.upon_render.specs.Seen.{IsFound, TellsSeen, WalksTo, made_view};
 ghost use Rattle.upon_render.specs.PathSpans.{StepsLieIn};
 ghost use Rattle.upon_render.specs.Vals.{val_list};
 ghost use Rattle.upon_render.specs.Walk.{lookup_member as member_in, walk, as_some, context_walk, path_in_context, found_or_missed};
 ghost use Rattle.upon_types.specs.Fault.{Fault};
 
 use crate::faults;
-use std::alloc::Global;
+use std::alloc::{AllocError, Global};
 use upon_types::error::{Error, Result};
 use upon_types::types::ast::{Access, AccessOp, Member};
 use upon_types::value::look::entry;
@@ -143,14 +143,41 @@ pub(crate) fn lookup_in_context<'a>(
     }
 }
 
-/// What a search by references alone says of a path.
-pub(crate) enum Found<'a> {
-    /// A lent value.
-    Here(&'a Value),
+/// What a search that copies nothing says of a path.
+#[derive(Drop)]
+pub(crate) enum Found<'s, 'a> {
+    /// A value that is lent for longer than the frames.
+    Lent(&'a Value),
+    /// A value that a frame has.
+    Held(&'s Value),
     /// Nothing.
     Unknown,
     /// What is below answers.
     Below,
+}
+
+/// What a loop says of itself, which no frame has as a value.
+#[derive(Drop)]
+pub enum Made<'s> {
+    /// The key of its item.
+    Text(&'s str),
+    /// The index of its item.
+    Integer(i64),
+    /// Whether its item is the first, or the last.
+    Bool(bool),
+}
+
+impl Made<'_> {
+    /// Returns it as a value. Memory is taken for a text alone.
+    pub fn to_value(self, alloc: Global) -> std::result::Result<Value, AllocError>
+        ensures { IfOk result (λ value. view value ≡ made_view self.entry) }
+    {
+        match self {
+            Made::Text(text) => Value::from_text(alloc, text),
+            Made::Integer(number) => Ok(Value::Integer(number)),
+            Made::Bool(truth) => Ok(Value::Bool(truth)),
+        }
+    }
 }
 
 /// Returns the value that the members lead to from this one, if each is there; `None` says nothing.
@@ -171,15 +198,18 @@ pub(crate) fn find<'a>(value: &'a Value, path: &[Member]) -> Option<&'a Value>
 
 /// The same from a value that a name is bound to.
 #[inline(always)]
-pub(crate) fn find_bound<'a>(value: &ValueCow<'a>, path: &[Member]) -> Found<'a>
-    ensures { TellsLent (as_some (walk (map member_of path.now) (cow_view value.now))) result }
+pub(crate) fn find_bound<'s, 'a>(value: &'s ValueCow<'a>, path: &[Member]) -> Found<'s, 'a>
+    ensures { TellsSeen (as_some (walk (map member_of path.now) (cow_view value.now))) result }
 {
     match value {
         ValueCow::Borrowed(start) => match find(*start, path) {
-            Some(end) => Found::Here(end),
+            Some(end) => Found::Lent(end),
             None => Found::Unknown,
         },
-        ValueCow::Owned(_) => Found::Unknown,
+        ValueCow::Owned(start) => match find(start, path) {
+            Some(end) => Found::Held(end),
+            None => Found::Unknown,
+        },
     }
 }
 

@@ -1,14 +1,14 @@
 use Rattle.std.proofs.Common.{◌≡◌, ◌+◌, ◌-◌, take, arith, ap, sym, ◌∙◌, subst}
 use Rattle.upon_types.specs.AstPath.{first_member, rest_members}
 use Rattle.upon_render.specs.Frames.{frames_over, frames_lend}
-use Rattle.upon_render.specs.Lent.{FindsLent}
+use Rattle.upon_render.specs.Seen.{FindsSeen}
 use Rattle.upon_render.specs.Settled.{Known, known}
-use Rattle.upon_render.specs.declared.value.Found.TheVariants.{Here}
+use Rattle.upon_render.specs.declared.value.Found.TheVariants.{Lent, Held}
 use Rattle.upon_render.proofs.Searches.{known-step, known-passed, known_by_frames}
 use Rattle.upon_render.proofs.stack.find_in_frames.Goals as goal
 
-pub returns-in-Here : goal.returns-in-Here
-returns-in-Here c env lent =
+pub returns-in-Lent : goal.returns-in-Lent
+returns-in-Lent c env lent =
     let first = first_member c.args.var.now in
     let rest = rest_members c.args.var.now in
     let frames = c.args.frames.now in
@@ -16,8 +16,20 @@ returns-in-Here c env lent =
     let k = c.loop-left.left - 1 in
     let next : n ≡ k + 1 = omega arith in
     let same = known-step env lent frames n k c.index-frames-left.result first rest next c.loop-left.invariant.within c.index-frames-left.is (c.loop-left.invariant.same env lent) in
-    let P : Known → Type 0 = λ s. FindsLent s (known env lent first rest) (Here c.in-Here.value) in
-    subst P (sym same) (c.in-Here.ensures (frames_over env (take k frames)) (frames_lend lent (take k frames) first.access))
+    let P : Known → Type 0 = λ s. FindsSeen s (known env lent first rest) (Lent c.in-Lent.value) in
+    subst P (sym same) (c.in-Lent.ensures (frames_over env (take k frames)) (frames_lend lent (take k frames) first.access))
+
+pub returns-in-Held : goal.returns-in-Held
+returns-in-Held c env lent =
+    let first = first_member c.args.var.now in
+    let rest = rest_members c.args.var.now in
+    let frames = c.args.frames.now in
+    let n = c.loop-left.left in
+    let k = c.loop-left.left - 1 in
+    let next : n ≡ k + 1 = omega arith in
+    let same = known-step env lent frames n k c.index-frames-left.result first rest next c.loop-left.invariant.within c.index-frames-left.is (c.loop-left.invariant.same env lent) in
+    let P : Known → Type 0 = λ s. FindsSeen s (known env lent first rest) (Held c.in-Held.value) in
+    subst P (sym same) (c.in-Held.ensures (frames_over env (take k frames)) (frames_lend lent (take k frames) first.access))
 
 pub loop-left-preserved : goal.loop-left-preserved
 loop-left-preserved c =

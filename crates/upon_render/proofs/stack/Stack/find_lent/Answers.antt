@@ -1,9 +1,7 @@
 use Rattle.std.proofs.Common.{◌≡◌, List, ap, ◌∙◌, subst}
-use Rattle.upon_types.specs.AstPath.{first_member, member_of, rest_members}
-use Rattle.upon_types.specs.Path.{Member}
+use Rattle.upon_types.specs.AstPath.{first_member, rest_members}
 use Rattle.upon_types.specs.View.{view}
 use Rattle.upon_render.specs.Environment.{root_environment}
-use Rattle.upon_render.specs.Lent.{WalksTo}
 use Rattle.upon_render.specs.Roots.{pure_root, root_lends}
 use Rattle.upon_render.specs.Settled.{known}
 use Rattle.upon_render.specs.Stack.{environment_of, root_of, frames_of, stack_lends}
@@ -11,25 +9,20 @@ use Rattle.upon_render.specs.declared.stack.State.{State}
 use Rattle.upon_render.proofs.Searches.{known_by_frames, looks_up_here, looks_up_root}
 use Rattle.upon_render.proofs.stack.Stack.find_lent.Goals as goal
 
-pub returns-in-Here : goal.returns-in-Here
-returns-in-Here g c ask q =
+pub returns-in-Lent : goal.returns-in-Lent
+returns-in-Lent g c ask q =
     let stack = c.args.self.now in
     let root = root_of stack in
-    let env = root_environment (pure_root root) in
-    looks_up_here ask env (root_lends root) (frames_of stack) c.as_slice.result.now (first_member c.args.var.now) (rest_members c.args.var.now) q (view c.in-Here.value.now)
-    c.as_slice.ensures.value (c.in-Here.ensures env (root_lends root))
+    looks_up_here ask (root_environment (pure_root root)) (root_lends root) (frames_of stack) c.as_slice.result.now (first_member c.args.var.now) (rest_members c.args.var.now) q (view c.in-Lent.value.now)
+    c.as_slice.ensures.value (c.in-Lent.ensures (root_environment (pure_root root)) (root_lends root))
 
-pub returns-in-Value : goal.returns-in-Value
-returns-in-Value g c ask q =
+pub returns-in-Below : goal.returns-in-Below
+returns-in-Below g c ask q =
     let stack = c.args.self.now in
     let first = first_member c.args.var.now in
     let rest = rest_members c.args.var.now in
     let root = root_of stack in
     let env = root_environment (pure_root root) in
     let lent = root_lends root in
-    let w = view c.in-Value.context.now in
     let below = subst (λ (l : List State). known_by_frames env lent l first rest ≡ known env lent first rest) c.as_slice.ensures.value (c.in-Below.ensures env lent) in
-    let here = below ∙ ap (λ r. known (root_environment (pure_root r)) lent first rest) c.in-Value.is in
-    let found_so = subst (λ (f : Member). WalksTo f rest w c.find_in_context.result) c.first.ensures
-    (subst (λ (l : List Member). WalksTo (member_of c.first.result.now) l w c.find_in_context.result) c.rest.ensures c.find_in_context.ensures) in
-    looks_up_root ask (environment_of stack) w (stack_lends stack first.access) lent first rest q _ here found_so
+    looks_up_root ask (environment_of stack) (pure_root root) (stack_lends stack first.access) lent first rest q _ below (c.find_in_root.ensures ask q)
