@@ -2,9 +2,8 @@
 use crate::engine::{Callable, Engine};
 use std::alloc::Global;
 use upon_fmt::fmt::{self, Formatter};
-use upon_functions::function::CallError;
 use upon_types::value::{Value, ValueCow};
-use upon_vm_calls::callables::{Applied, Callables, EngineCallable};
+use upon_vm_calls::callables::{Applied, Called, Callables};
 
 impl<'r, 'e> Callables for &'r Engine<'e> {
     ghost use Rattle.upon_meaning_spec.specs.DefaultFormat.{formatter_or_default};
@@ -17,18 +16,11 @@ impl<'r, 'e> Callables for &'r Engine<'e> {
         (texts_of (λ f. (Format-box f).formats f.value) (λ f. (Function-box f).answers f.value)
         e.now).default_formatter };
 
-    fn get(&self, name: &str) -> Option<EngineCallable> {
+    fn call(&self, alloc: Global, name: &str, values: &[ValueCow]) -> Called {
         match self.callable(name) {
-            Some(callable) => Some(callable.kind()),
-            None => None,
-        }
-    }
-
-    fn call(&self, alloc: Global, name: &str, args: &[ValueCow]) -> Result<Value, CallError> {
-        match self.callable(name) {
-            Some(Callable::Function(function)) => function.call(alloc, args),
-            Some(Callable::Formatter(_)) => Err(CallError::Memory),
-            None => Err(CallError::Memory),
+            Some(Callable::Function(function)) => Called::Function(function.call(alloc, values)),
+            Some(Callable::Formatter(_)) => Called::Formatter,
+            None => Called::Unknown,
         }
     }
 

@@ -10,9 +10,8 @@ use crate::formatters::{Escape, write_escaped};
 use std::alloc::Global;
 use upon_fmt::fmt;
 use upon_fmt::fmt::{Format, Formatter};
-use upon_functions::function::CallError;
 use upon_types::value::{Value, ValueCow};
-use upon_vm_calls::callables::{Applied, Callables, EngineCallable};
+use upon_vm_calls::callables::{Applied, Called, Callables};
 
 /// The same functions and formatters, with the text that each formatter writes escaped, also that of the default one.
 #[derive(Drop)]
@@ -38,12 +37,8 @@ impl<C: Callables> Callables for Escaping<C> {
 
     ghost default_formatter = { λ e. escaping (C.default_formatter (callables_in e)) };
 
-    fn get(&self, name: &str) -> Option<EngineCallable> {
-        self.callables.get(name)
-    }
-
-    fn call(&self, alloc: Global, name: &str, args: &[ValueCow]) -> Result<Value, CallError> {
-        self.callables.call(alloc, name, args)
+    fn call(&self, alloc: Global, name: &str, values: &[ValueCow]) -> Called {
+        self.callables.call(alloc, name, values)
     }
 
     fn apply(&self, alloc: Global, name: &str, f: &mut Formatter, values: &[ValueCow]) -> Applied {

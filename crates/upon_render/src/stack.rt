@@ -1,5 +1,5 @@
 // The frames of a running template, and what a path finds in them.
-ghost use Rattle.std.specs.Prelude.{◌≡◌, ◌≢◌, ◌∷◌, [], ◌++◌, ◌<◌, List, Some, IsSome, OnOk, OnErr, true, Bool, MatchOption, length, map};
+ghost use Rattle.std.specs.Prelude.{◌≡◌, ◌≢◌, ◌∷◌, [], ◌++◌, ◌<◌, List, Some, IfOk, IfSome, IsSome, OnOk, OnErr, true, Bool, MatchOption, length, map};
 ghost use Rattle.upon_types.specs.AstPath.{member_of, first_member, rest_members, ident_of};
 ghost use Rattle.upon_types.specs.Cow.{cow_view};
 ghost use Rattle.upon_types.specs.Span.{LiesIn};
@@ -162,6 +162,27 @@ impl<'a, V: ValueSource> Stack<'a, V> {
             result }
     {
         made_in_frames(self.frames.as_slice(), var)
+    }
+
+    /// Returns a copy of what the path finds where it is, or of what a loop says of itself; `None` says nothing. It
+    /// fails if there is no memory for the copy.
+    pub fn find_copy(&self, var: &Var) -> Option<std::result::Result<Value, AllocError>>
+        ensures { (ask : Source V.State) (q : V.State) → IfSome result (λ copy. IfOk copy (λ value. LooksUp
+            view
+            ask
+            (environment_of self.now)
+            (first_member var.now)
+            (rest_members var.now)
+            q
+            (Some value))) }
+    {
+        match self.find(var) {
+            Some(value) => Some(value.try_clone()),
+            None => {
+                let made = self.find_made(var)?;
+                Some(made.to_value(*self.frames.allocator()))
+            }
+        }
     }
 
     /// One frame more, the innermost. If there is no memory, nothing changes.

@@ -1,12 +1,11 @@
 // What programs call: functions and formatters, by their names.
-ghost use Rattle.std.specs.Prelude.{◌≡◌, List, ℕ, Option, Some, IsTrue, option_map};
-ghost use Rattle.upon_functions.specs.Blames.{BlamesGiven};
-ghost use Rattle.upon_functions.specs.Says.{Says, arguments_view};
-ghost use Rattle.upon_types.specs.Answers.{Callable, Formatter as PureFormatter, Function as PureFunction, function};
+ghost use Rattle.std.specs.Prelude.{◌≡◌, List, ℕ, Option, IsTrue};
+ghost use Rattle.upon_functions.specs.Says.{arguments_view};
+ghost use Rattle.upon_types.specs.Answers.{Callable, Formatter as PureFormatter};
 ghost use Rattle.upon_types.specs.View.{view};
 ghost use Rattle.upon_meaning_spec.specs.DefaultFormat.{default_format};
 ghost use Rattle.upon_fmt.specs.Formatter.{Formats};
-ghost use Rattle.upon_vm_calls.specs.Calls.{Applies, sort_of};
+ghost use Rattle.upon_vm_calls.specs.Calls.{Applies, WasCalled};
 
 use std::alloc::Global;
 use upon_fmt::fmt::{self, Formatter};
@@ -35,6 +34,17 @@ pub enum Applied {
     Called(Result<Value, CallError>),
 }
 
+/// What was called by a name.
+#[derive(Drop)]
+pub enum Called {
+    /// Nothing: the name denotes nothing.
+    Unknown,
+    /// Nothing: the name is a formatter's.
+    Formatter,
+    /// The function, which answered so.
+    Function(Result<Value, CallError>),
+}
+
 /// Functions and formatters by their names, and the formatter of all values that are shown without one.
 pub trait Callables {
     // What each name denotes.
@@ -43,16 +53,9 @@ pub trait Callables {
     // What is written where no formatter is named.
     ghost default_formatter: { Self → PureFormatter };
 
-    /// Returns whether a name is a formatter's or a function's, or `None`.
-    fn get(&self, name: &str) -> Option<EngineCallable>
-        ensures { result ≡ option_map sort_of (callables self.now name.now) };
-
-    /// Calls the function of this name, and returns what it answers.
-    fn call(&self, alloc: Global, name: &str, args: &[ValueCow]) -> Result<Value, CallError>
-        ensures says { (f : PureFunction) → callables self.now name.now ≡ Some (function f)
-            → Says result (f (arguments_view args.now)) }
-        ensures blames_given { (f : PureFunction) → callables self.now name.now ≡ Some (function f)
-            → BlamesGiven (arguments_view args.now) (f (arguments_view args.now)) };
+    /// Calls the function that the name denotes on the values. The name is searched once.
+    fn call(&self, alloc: Global, name: &str, values: &[ValueCow]) -> Called
+        ensures { WasCalled result (arguments_view values.now) (callables self.now name.now) };
 
     /// Does what the name denotes, which is searched once: calls a function on the values, or appends what a formatter
     /// writes for the only value.

@@ -1,17 +1,16 @@
 // The calls of functions on operands, and their faults.
-ghost use Rattle.std.specs.Prelude.{◌≡◌, [], Some, length, slice_get, string_bytes};
-ghost use Rattle.upon_functions.specs.Blames.{BlamesGiven};
-ghost use Rattle.upon_functions.specs.Says.{Says, arguments_view, misfit_of};
-ghost use Rattle.upon_types.specs.Answers.{Answer, Function as PureFunction, function, wrong_type, out_of_range};
+ghost use Rattle.std.specs.Prelude.{◌≡◌, [], length, slice_get, string_bytes};
+ghost use Rattle.upon_functions.specs.Says.{Says, misfit_of};
+ghost use Rattle.upon_types.specs.Answers.{Answer, wrong_type, out_of_range};
 ghost use Rattle.upon_types.specs.AstPath.{ident_of};
 ghost use Rattle.upon_types.specs.Val.{int_val};
 ghost use Rattle.upon_types.specs.View.{view};
 ghost use Rattle.upon_meaning_spec.specs.CallFaults.{argument_misfits, number_text};
-ghost use Rattle.upon_meaning_spec.specs.Evaluation.{answer_value, call_value, misfit_at, values_of};
+ghost use Rattle.upon_meaning_spec.specs.Evaluation.{answer_value, call_value, misfit_at};
 ghost use Rattle.upon_vm_calls.specs.Halt.{IsHalt, Finds};
 ghost use Rattle.upon_vm_calls.specs.Operands.{row};
 
-use crate::callables::{Callables, EngineCallable};
+use crate::callables::{Called, Callables};
 use crate::depth::{DEPTH_LIMIT, fits};
 use crate::fault::{self, Halt};
 use std::alloc::Global;
@@ -36,35 +35,15 @@ pub fn call<C: Callables>(
         (call_value (ident_of name.now) whole (row values.now spans.now)
         (C.callables callables.now (string_bytes name.now.name))) }
 {
-    match callables.get(name.name.as_str()) {
-        None => Err(fault::wrong(alloc, "unknown function", name.span)),
-        Some(EngineCallable::Formatter) => Err(fault::wrong(
+    match callables.call(alloc, name.name.as_str(), values) {
+        Called::Unknown => Err(fault::wrong(alloc, "unknown function", name.span)),
+        Called::Formatter => Err(fault::wrong(
             alloc,
             "expected function, found formatter",
             name.span,
         )),
-        Some(EngineCallable::Function) => {
-            call_function(alloc, callables, name, values, spans, whole)
-        }
+        Called::Function(answer) => report(alloc, answer, name, values, spans, whole),
     }
-}
-
-// Does the same for a name that is a function's.
-fn call_function<C: Callables>(
-    alloc: Global,
-    callables: &C,
-    name: &Ident,
-    values: &[ValueCow],
-    spans: &[Span],
-    whole: Span,
-) -> Result<Value, Halt>
-    requires { length values.now ≡ length spans.now }
-    ensures { (f : PureFunction) → C.callables callables.now (string_bytes name.now.name) ≡ Some (function f) → Finds
-        result
-        (answer_value (ident_of name.now) whole (row values.now spans.now) (f (values_of (row values.now spans.now)))) }
-{
-    let answer = callables.call(alloc, name.name.as_str(), values);
-    report(alloc, answer, name, values, spans, whole)
 }
 
 // The value of an answer, or its fault; a value that is too deep is refused.
