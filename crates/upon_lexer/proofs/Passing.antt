@@ -1,5 +1,5 @@
 -- A lexer that passes a token: it is the token where the lexer was, and the lexer is behind it.
-use Rattle.std.proofs.Common.{◌≡◌, ℕ, ◌<◌, ◌≤◌, ◌&&◌, List, [], ◌∷◌, ◌++◌, Bool, true, false, Option, Some, None, Ok, inl, inr, refl, sym, ap, ◌∙◌, subst, arith}
+use Rattle.std.proofs.Common.{◌≡◌, ℕ, ◌<◌, ◌&&◌, List, [], ◌∷◌, ◌++◌, Bool, true, false, Option, Some, None, Ok, inl, inr, refl, sym, ap, ◌∙◌, subst, arith}
 use Rattle.upon_types.specs.declared.types.Span.{Span}
 use Rattle.upon_types.specs.declared.types.Delimiter.{Delimiter}
 use Rattle.upon_types.specs.declared.types.token.Token.{Token}
@@ -15,7 +15,7 @@ use Rattle.upon_language_spec.specs.Lexing.{LexerState, HasRead, IsGiven, Lexes,
 use Rattle.upon_language_spec.specs.LexStep.{Fits, IsNext, begin_after, state_after}
 use Rattle.upon_language_spec.proofs.Offsets.Clear.{clear_behind}
 use Rattle.upon_language_spec.proofs.OneCut.Token.{step_ends}
-use Rattle.upon_lexer.specs.Plain.{is_frequent, is_plain}
+use Rattle.upon_lexer.specs.Plain.{is_frequent}
 use Rattle.upon_lexer.specs.Spelling.{IsSpelled, LiesBetween}
 use Rattle.upon_lexer.proofs.ReadMore.{read_more}
 use Rattle.upon_lexer.proofs.Spelling.{spelled, given_same, given_spelled}
@@ -39,16 +39,6 @@ quiet Comma h = record { mode = λ mode. refl; begin = λ span begin. refl; brac
 quiet Colon h = record { mode = λ mode. refl; begin = λ span begin. refl; brackets = λ stack l. refl; no_end = refl }
 quiet Whitespace h = record { mode = λ mode. refl; begin = λ span begin. refl; brackets = λ stack l. refl; no_end = refl }
 quiet t h = absurd (cc)
-
-pub plain_or_space : (t : Token) → is_frequent t ≡ true → is_space t ≡ false → is_plain t ≡ true
-plain_or_space Whitespace h none = absurd (cc)
-plain_or_space Ident h none = refl
-plain_or_space Keyword h none = refl
-plain_or_space Dot h none = refl
-plain_or_space Pipe h none = refl
-plain_or_space Comma h none = refl
-plain_or_space Colon h none = refl
-plain_or_space t h none = absurd (cc)
 
 pub spaces_more : (spaces : List Lexeme) (l : Lexeme) → EachIsSpace spaces → is_space l.token ≡ true → EachIsSpace (spaces ++ l ∷ [])
 spaces_more [] l each h = (h, tt)
@@ -87,10 +77,6 @@ given_whole delimiters s outside trims t span no_raw = by_token t no_raw
     by_token u e = refl
 given_whole delimiters s (in_tag sort path) trims t span no_raw = refl
 given_whole delimiters s in_comment trims t span no_raw = refl
-
--- a raw part of a comment too
-pub given_in_comment : (delimiters : List DelimiterText) (s : List ℕ) (trims : Bool) (t : Token) (span : Span) → IsGiven delimiters s in_comment trims t span span
-given_in_comment delimiters s trims t span = refl
 
 module _ (delimiters : List DelimiterText) (s : List ℕ) (left : LexerState) where
   -- a frequent token

@@ -1,5 +1,5 @@
 -- What a lexer reads, and how far it has read it.
-use Rattle.std.specs.Prelude.{◌≡◌, ℕ, List, ◌++◌, Bool, Option, IfSome, MatchOption, Result}
+use Rattle.std.specs.Prelude.{◌≡◌, ℕ, ◌<◌, List, ◌++◌, true, false, Option, None, IfSome, MatchOption, Result, Ok, IfOk, IfErr}
 use Rattle.upon_types.specs.declared.types.Span.{Span}
 use Rattle.upon_types.specs.declared.types.token.Token.{Token}
 use Rattle.upon_types.specs.declared.types.Delimiter.{Delimiter}
@@ -13,6 +13,8 @@ use Rattle.upon_lexer.specs.OpenTags.{begin_of, mode_of}
 use Rattle.upon_lexer.specs.Brackets.{brackets_of}
 use Rattle.upon_lexer.specs.Reasons.{reason_of}
 use Rattle.upon_language_spec.specs.Cut.{Lexeme}
+use Rattle.upon_language_spec.specs.Tokens.{is_space}
+use Rattle.upon_lexer.specs.Spelling.{IsSpelled, LiesBetween}
 use Rattle.upon_lexer.specs.declared.compile.fault.Wrong.{Wrong}
 use Rattle.upon_lexer.specs.declared.compile.lex.NextToken.{NextToken}
 use Rattle.upon_lexer.specs.declared.compile.lex.Lexer.{Lexer}
@@ -54,6 +56,18 @@ abbrev pub GivesAfterSpace : Lexer → List Lexeme → Result (Option (Token × 
 GivesAfterSpace before ls result after = LexesAfterSpace (lexer_delimiters before) (lexer_text before) ls result
     (lexer_state after)
 
+-- what a call that passes whitespace gives, of what spelling and where, and when the lexer is over
+pub record GivesNext (delimiters : List DelimiterText) (s : List ℕ) (before : LexerState)
+    (result : Result (Option (Token × Span)) Error) (after : LexerState) : Type 0 where
+  pub token : (ls : List Lexeme) → HasRead delimiters s before ls → LexesAfterSpace delimiters s ls result after
+  pub span : IfOk result (λ found. IfSome found (λ given. LiesIn s given.1))
+  pub spelled : IfOk result (λ found. IfSome found (λ given. IsSpelled s given.0 given.1))
+  pub between : IfOk result (λ found. IfSome found
+      (λ given. LiesBetween before.offset after.offset given.0 given.1))
+  pub further : IfOk result (λ found. IfSome found (λ _. before.offset < after.offset))
+  pub stops : IfErr result (λ _. after.over ≡ true)
+  pub stopped : before.over ≡ true → (result ≡ Ok None) × (after.over ≡ true)
+
 -- what is where the lexer does: a token, or a fault that ends the cutting
 abbrev pub Finds : Lexer → NextToken → Type 0
 Finds lexer found = IsNext (lexer_delimiters lexer) (lexer_text lexer) (lexer_state lexer) (next_lexeme found)
@@ -70,13 +84,15 @@ pub record IsDelimiterAt (lexer : Lexer) (delimiter : Option (Delimiter × Span)
   pub start : IfSome delimiter (λ best. best.1.m ≡ lexer.offset)
   pub span : IfSome delimiter (λ best. LiesIn (lexer_text lexer) best.1)
 
--- the lexer has passed the token where it was, for which this is given
+-- the lexer has passed the token where it was, which is no whitespace, and for which this is given
 pub record Passes (before : Lexer) (given : Token × Span) (after : Lexer) : Type 0 where
   pub found : Lexeme
   pub of_token : found.token ≡ given.0
   pub next : IsNext (lexer_delimiters before) (lexer_text before) (lexer_state before) found
   pub of_span : IsGiven (lexer_delimiters before) (lexer_text before) (mode_of before.tag) before.trims found.token
       found.span given.1
+  pub counts : is_space given.0 ≡ false
+  pub not_over : before.over ≡ false
   pub state : lexer_state after ≡ state_after (lexer_state before) found
 
 -- the span of a token that was found is given as it is

@@ -10,8 +10,8 @@ pub mod Roles
 pub mod Brackets
 pub mod Reasons
 pub mod OpenTags
-pub mod Lexers
 pub mod Spelling
+pub mod Lexers
 pub mod Nodes
 pub mod Grown
 pub mod Trie

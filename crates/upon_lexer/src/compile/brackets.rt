@@ -81,6 +81,7 @@ pub fn apply(brackets: &mut Vec<OpenBracket>, token: Token, span: Span) -> Resul
         → Contains brackets.new.items b
         → Contains brackets.old.items b ⊎ (b.span ≡ span) }
     ensures opens { IfErr result (λ _. opens_bracket token ≡ true) }
+    ensures kept { IfErr result (λ _. brackets_of brackets.new.items ≡ brackets_of brackets.old.items) }
 {
     match effect_of(token) {
         BracketEffect::Opens(shape) => {

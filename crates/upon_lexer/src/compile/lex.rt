@@ -11,7 +11,7 @@ ghost use Rattle.upon_lexer.specs.Searcher.{searcher_delimiters, IsNextDelimiter
 ghost use Rattle.upon_lexer.specs.Plain.{is_plain, is_frequent};
 ghost use Rattle.upon_types.specs.declared.types.token.Token.TheVariants.{Raw};
 ghost use Rattle.upon_language_spec.specs.Raw.{IsRaw};
-ghost use Rattle.upon_language_spec.specs.Cut.{Lexeme, in_tag};
+ghost use Rattle.upon_language_spec.specs.Cut.{Lexeme, in_tag, in_comment};
 ghost use Rattle.upon_language_spec.specs.Inside.{IsInside};
 ghost use Rattle.upon_language_spec.specs.Faults.{awaited_sort, lexeme_at, span_of};
 ghost use Rattle.upon_language_spec.specs.LexStep.{IsNext, state_after};
@@ -33,7 +33,7 @@ use crate::compile::inside::token_inside;
 use crate::compile::plain::plain_at;
 use crate::compile::roles::{Role, Sort, has_hyphen, role_of};
 use crate::compile::search::Searcher;
-use crate::compile::tags::{OpenTag, end_trims, is_space, pass_inner, tag_after};
+use crate::compile::tags::{OpenTag, end_trims, is_space, pass_inner, pass_token};
 use crate::compile::trim::{trim_end, trim_start};
 use std::alloc::{AllocError, Global};
 use upon_types::error::{Error, ErrorKind, Result};
@@ -66,7 +66,7 @@ pub struct Lexer<'a> {
 impl<'a> Lexer<'a> {
     ghost use Rattle.upon_language_spec.specs.Lexing.{opens_bracket};
     ghost use Rattle.upon_lexer.specs.Spelling.{IsSpelled, LiesBetween};
-    ghost use Rattle.upon_lexer.specs.Lexers.{lexer_text, lexer_delimiters, lexer_state, next_lexeme, ReadSoFar, Gives, GivesAfterSpace, Finds, GoesWrong, IsDelimiterAt, Passes, IsGivenWhole, HasPassedSpaces};
+    ghost use Rattle.upon_lexer.specs.Lexers.{lexer_text, lexer_delimiters, lexer_state, next_lexeme, ReadSoFar, Gives, GivesAfterSpace, GivesNext, Finds, GoesWrong, IsDelimiterAt, Passes, IsGivenWhole, HasPassedSpaces};
 
     /// Creates a lexer at the start of a text, over the delimiters of a searcher.
     pub fn new(alloc: Global, searcher: &'a Searcher, source: &'a str) -> Lexer<'a>
@@ -118,7 +118,10 @@ impl<'a> Lexer<'a> {
         match self.step(delimiter) {
             Ok(Some(found)) => match self.pass(found) {
                 Ok(()) => Ok(Some((found.token, found.span))),
-                Err(e) => Err(Error::from(e)),
+                Err(e) => {
+                    self.over = true;
+                    Err(Error::from(e))
+                }
             },
             Ok(None) => Ok(None),
             Err(wrong) => Err(self.refuse(wrong)),
@@ -126,6 +129,7 @@ impl<'a> Lexer<'a> {
     }
 
     /// Returns the next token that is no whitespace inside a tag, as [`Lexer::lex`] gives it.
+    #[inline(always)]
     pub fn next(&mut self) -> Result<Option<(Token, Span)>>
         ensures token { (ls : List Lexeme) → ReadSoFar self.old ls → GivesAfterSpace self.old ls result self.new }
         ensures span { IfOk result (λ found. IfSome found (λ given. LiesIn (lexer_text self.old) given.1)) }
@@ -141,6 +145,25 @@ impl<'a> Lexer<'a> {
         ensures stops { IfErr result (λ _. (lexer_state self.new).over ≡ true) }
         ensures stopped { (lexer_state self.old).over ≡ true
             → (result ≡ Ok None) × ((lexer_state self.new).over ≡ true) }
+        ensures text { lexer_text self.new ≡ lexer_text self.old }
+        ensures delimiters { lexer_delimiters self.new ≡ lexer_delimiters self.old }
+    {
+        match self.pass_right() {
+            Some(given) => Ok(Some(given)),
+            None => self.next_rare(),
+        }
+    }
+
+    // The same where the token is whitespace, or none, or wrong.
+    #[cold]
+    #[inline(never)]
+    fn next_rare(&mut self) -> Result<Option<(Token, Span)>>
+        ensures gives { GivesNext
+            (lexer_delimiters self.old)
+            (lexer_text self.old)
+            (lexer_state self.old)
+            result
+            (lexer_state self.new) }
         ensures text { lexer_text self.new ≡ lexer_text self.old }
         ensures delimiters { lexer_delimiters self.new ≡ lexer_delimiters self.old }
     {
@@ -223,8 +246,62 @@ impl<'a> Lexer<'a> {
         self.offset = end;
     }
 
+    // Passes a token that is no whitespace, without a result that may be an error. `None` says nothing, and leaves the
+    // lexer where it is.
+    #[inline(always)]
+    fn pass_right(&mut self) -> Option<(Token, Span)>
+        ensures passed { IfSome result (λ given. Passes self.old given self.new) }
+        ensures span { IfSome result (λ given. LiesIn (lexer_text self.old) given.1) }
+        ensures stays { result ≡ None → lexer_state self.new ≡ lexer_state self.old }
+        ensures text { lexer_text self.new ≡ lexer_text self.old }
+        ensures delimiters { lexer_delimiters self.new ≡ lexer_delimiters self.old }
+    {
+        if self.over {
+            return None;
+        }
+        let delimiter = self.searcher.starts_with(self.source, self.offset);
+        match self.pass_frequent(delimiter) {
+            Some(given) => Some(given),
+            None => {
+                if delimiter.is_none() {
+                    self.pass_inside()
+                } else {
+                    None
+                }
+            }
+        }
+    }
+
+    // Passes what is no delimiter in an open tag, in the same way.
+    #[inline(never)]
+    fn pass_inside(&mut self) -> Option<(Token, Span)>
+        requires bare { NoneAt (lexer_delimiters self.now) (lexer_text self.now) self.now.offset }
+        requires not_over { self.now.over ≡ false }
+        ensures passed { IfSome result (λ given. Passes self.old given self.new) }
+        ensures span { IfSome result (λ given. LiesIn (lexer_text self.old) given.1) }
+        ensures stays { result ≡ None → lexer_state self.new ≡ lexer_state self.old }
+        ensures text { lexer_text self.new ≡ lexer_text self.old }
+        ensures delimiters { lexer_delimiters self.new ≡ lexer_delimiters self.old }
+    {
+        let tag = self.tag?;
+        if tag.sort == Sort::Comment {
+            return None;
+        }
+        let first = char_at(self.source, self.offset)?;
+        let Ok(found) = self.inside(first, tag) else {
+            return None;
+        };
+        if is_space(found.token) {
+            return None;
+        }
+        match self.pass(found) {
+            Ok(()) => Some((found.token, found.span)),
+            Err(_) => None,
+        }
+    }
+
     // Passes what is there most often, and returns it with its span: outside tags a begin or a raw part, in a tag its
-    // end where no bracket is open. `None` says nothing, and leaves the lexer as it is.
+    // end where no bracket is open, in a comment its raw part. `None` says nothing, and leaves the lexer as it is.
     fn pass_frequent(&mut self, delimiter: Option<(Delimiter, Span)>) -> Option<(Token, Span)>
         requires best { IsDelimiterAt self.now delimiter }
         requires not_over { self.now.over ≡ false }
@@ -240,7 +317,13 @@ impl<'a> Lexer<'a> {
             (None, Some((kind, span))) => self.pass_begin(kind, span),
             (None, None) => self.pass_raw(),
             (Some(tag), Some((kind, span))) => self.pass_end(tag.sort, kind, span),
-            (Some(_), None) => None,
+            (Some(tag), None) => {
+                if tag.sort == Sort::Comment {
+                    self.pass_comment()
+                } else {
+                    None
+                }
+            }
         }
     }
 
@@ -259,7 +342,7 @@ impl<'a> Lexer<'a> {
             return None;
         };
         let token = sort.begin_token();
-        self.tag = tag_after(self.tag, token, span);
+        pass_token(&mut self.tag, token, span);
         self.trims = false;
         self.offset = span.n;
         Some((token, span))
@@ -312,6 +395,26 @@ impl<'a> Lexer<'a> {
         self.trims = false;
         self.offset = end;
         Some((Token::Raw, given))
+    }
+
+    // Passes the raw part of a comment; none is at the text's end.
+    fn pass_comment(&mut self) -> Option<(Token, Span)>
+        requires inside { mode_of self.now.tag ≡ in_comment }
+        requires bare { NoneAt (lexer_delimiters self.now) (lexer_text self.now) self.now.offset }
+        requires not_over { self.now.over ≡ false }
+        ensures passed { IfSome result (λ given. Passes self.old given self.new) }
+        ensures span { IfSome result (λ given. LiesIn (lexer_text self.old) given.1) }
+        ensures stays { result ≡ None → self.new ≡ self.old }
+        ensures text { lexer_text self.new ≡ lexer_text self.old }
+        ensures delimiters { lexer_delimiters self.new ≡ lexer_delimiters self.old }
+    {
+        if self.offset == self.source.len() {
+            return None;
+        }
+        let raw = self.raw();
+        self.trims = false;
+        self.offset = raw.span.n;
+        Some((raw.token, raw.span))
     }
 
     // The token where the lexer is, where it is none of the frequent ones; none at the text's end.
@@ -485,23 +588,22 @@ impl<'a> Lexer<'a> {
         }
     }
 
-    // Moves after a token. Where there is no memory for its bracket, the lexer gives no more tokens.
+    // Moves after a token. Where there is no memory for its bracket, the lexer stays where it is.
     fn pass(&mut self, found: NextToken) -> std::result::Result<(), AllocError>
         requires next { Finds self.now found }
         requires span { LiesIn (lexer_text self.now) found.span }
         requires not_over { self.now.over ≡ false }
         ensures start { IfOk result
             (λ _. lexer_state self.new ≡ state_after (lexer_state self.old) (next_lexeme found)) }
-        ensures stops { IfErr result (λ _. (lexer_state self.new).over ≡ true) }
+        ensures stays { IfErr result (λ _. lexer_state self.new ≡ lexer_state self.old) }
         ensures opens { IfErr result (λ _. opens_bracket found.token ≡ true) }
         ensures text { lexer_text self.new ≡ lexer_text self.old }
         ensures delimiters { lexer_delimiters self.new ≡ lexer_delimiters self.old }
     {
         if let Err(e) = apply(&mut self.brackets, found.token, found.span) {
-            self.over = true;
             return Err(e);
         }
-        self.tag = tag_after(self.tag, found.token, found.span);
+        pass_token(&mut self.tag, found.token, found.span);
         self.trims = end_trims(found.token, found.hyphen);
         self.offset = found.span.n;
         Ok(())

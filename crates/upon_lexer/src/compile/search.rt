@@ -150,6 +150,7 @@ impl Searcher {
     }
 
     // The kind of the best delimiter at an offset, and the offset of its end.
+    #[inline(always)]
     fn best_at(&self, source: &str, at: usize) -> Option<(Delimiter, usize)>
         requires { at ≤ length source.now }
         ensures best { MatchOption

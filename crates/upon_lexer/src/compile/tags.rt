@@ -1,12 +1,11 @@
 // The tag that is open, and what a token does to it.
 ghost use Rattle.std.specs.Prelude.{◌≡◌, ◌&&◌, true, false};
-ghost use Rattle.upon_language_spec.specs.Cut.{mode_after};
+ghost use Rattle.upon_language_spec.specs.Cut.{mode_after, same_mode};
 ghost use Rattle.upon_language_spec.specs.Inside.{in_path_after};
 ghost use Rattle.upon_language_spec.specs.Shown.{is_end};
 ghost use Rattle.upon_language_spec.specs.Tokens.{is_space};
 ghost use Rattle.upon_lexer.specs.OpenTags.{mode_of, begin_of};
 ghost use Rattle.upon_language_spec.specs.LexStep.{begin_after};
-ghost use Rattle.upon_lexer.specs.Plain.{is_frequent};
 
 use crate::compile::roles::Sort;
 use upon_types::types::{Span, Token};
@@ -35,34 +34,27 @@ impl OpenTag {
     }
 }
 
-/// Goes past a frequent token inside the tag that is open.
-pub fn pass_inner(tag: &mut Option<OpenTag>, token: Token)
-    requires { is_frequent token ≡ true }
+/// Goes past a token at an offset: a tag may be open after it.
+pub fn pass_token(tag: &mut Option<OpenTag>, token: Token, span: Span)
     ensures mode { mode_of tag.new ≡ mode_after (mode_of tag.old) token }
+    ensures begin { begin_of tag.new ≡ begin_after token span (begin_of tag.old) }
+{
+    match token {
+        Token::BeginExpr => *tag = Some(OpenTag::new(Sort::Expr, span)),
+        Token::BeginBlock => *tag = Some(OpenTag::new(Sort::Block, span)),
+        Token::BeginComment => *tag = Some(OpenTag::new(Sort::Comment, span)),
+        Token::EndExpr | Token::EndBlock | Token::EndComment => *tag = None,
+        _ => pass_inner(tag, token),
+    }
+}
+
+/// Goes past a token that begins and ends no tag.
+pub fn pass_inner(tag: &mut Option<OpenTag>, token: Token)
+    ensures mode { mode_of tag.new ≡ same_mode (mode_of tag.old) token }
     ensures begin { begin_of tag.new ≡ begin_of tag.old }
 {
     if let Some(tag) = tag {
         tag.in_path = path_after(tag.in_path, token);
-    }
-}
-
-/// Returns the tag that is open after a token at an offset.
-pub fn tag_after(tag: Option<OpenTag>, token: Token, span: Span) -> Option<OpenTag>
-    ensures mode { mode_of result ≡ mode_after (mode_of tag) token }
-    ensures begin { begin_of result ≡ begin_after token span (begin_of tag) }
-{
-    match token {
-        Token::BeginExpr => Some(OpenTag::new(Sort::Expr, span)),
-        Token::BeginBlock => Some(OpenTag::new(Sort::Block, span)),
-        Token::BeginComment => Some(OpenTag::new(Sort::Comment, span)),
-        Token::EndExpr | Token::EndBlock | Token::EndComment => None,
-        _ => match tag {
-            Some(tag) => Some(OpenTag {
-                in_path: path_after(tag.in_path, token),
-                ..tag
-            }),
-            None => None,
-        },
     }
 }
 

@@ -1,4 +1,4 @@
-use Rattle.std.proofs.Common.{◌≡◌, ◌⊎◌, inl, inr, ℕ, ◌<◌, ◌+◌, List, length, sym, subst, ◌∙◌}
+use Rattle.std.proofs.Common.{inl, inr, ℕ, List, sym, subst, ◌∙◌}
 use Rattle.upon_language_spec.specs.Search.{text_at}
 use Rattle.upon_lexer.specs.Begins.{BeginsText}
 use Rattle.upon_lexer.specs.Syntax.{syntax_delimiters}

@@ -1,5 +1,4 @@
-use Rattle.std.proofs.Common.{◌≡◌, ◌≢◌, ℕ, ◌<◌, arith, ◌∙◌}
-use Rattle.upon_lexer.specs.ByteSet.{IsIn}
+use Rattle.std.proofs.Common.{◌≢◌, ℕ, ◌<◌, arith, ◌∙◌}
 use Rattle.upon_lexer.proofs.compile.byte_set.ByteSet.with.Goals as goal
 
 below_apart : (m n : ℕ) → m < n → m ≢ n

@@ -1,10 +1,8 @@
-use Rattle.std.proofs.Common.{◌≡◌, ℕ, ◌<◌, List, Option, Some, None, Ok, Err, Result, inl, refl, sym, ap, ◌∙◌, subst}
-use Rattle.upon_types.specs.declared.types.Span.{Span}
-use Rattle.upon_types.specs.declared.types.token.Token.{Token}
+use Rattle.std.proofs.Common.{◌<◌, List, Some, None, Ok, inl, refl, sym, subst}
 use Rattle.upon_language_spec.specs.Lexing.{IsCutError}
 use Rattle.upon_language_spec.specs.Lexing as language
 use Rattle.upon_language_spec.specs.Cut.{Lexeme}
-use Rattle.upon_lexer.specs.Lexers.{lexer_text, lexer_delimiters, lexer_state, next_lexeme, ReadSoFar, Gives}
+use Rattle.upon_lexer.specs.Lexers.{lexer_text, lexer_delimiters, lexer_state, next_lexeme, ReadSoFar}
 use Rattle.upon_lexer.specs.Spelling.{IsSpelled, LiesBetween}
 use Rattle.upon_lexer.specs.Reasons.{reason_of}
 use Rattle.upon_lexer.specs.declared.compile.lex.Lexer.{Lexer}

@@ -1,12 +1,10 @@
-use Rattle.std.proofs.Common.{◌≡◌, ℕ, List, [], ◌∷◌, ◌++◌, false, Some, Ok, append_assoc, refl, sym, ap, ◌∙◌, subst, arith}
-use Rattle.upon_types.specs.declared.types.Span.{Span}
-use Rattle.upon_types.specs.declared.types.token.Token.{Token}
+use Rattle.std.proofs.Common.{ℕ, List, [], ◌∷◌, ◌++◌, false, Some, Ok, append_assoc, refl, sym, ◌∙◌, subst, arith}
 use Rattle.upon_language_spec.specs.Cut.{Lexeme}
 use Rattle.upon_language_spec.specs.Faults.{lexeme_at, span_of}
-use Rattle.upon_language_spec.specs.Lexing.{LexerState, HasRead, Lexes}
+use Rattle.upon_language_spec.specs.Lexing.{HasRead, Lexes}
 use Rattle.upon_language_spec.specs.Search.{DelimiterText}
-use Rattle.upon_lexer.specs.Lexers.{lexer_text, lexer_delimiters, lexer_state, HasPassedSpaces}
-use Rattle.upon_lexer.proofs.Passing.{frequent_given, passed_gives, passed_read, plain_or_space, spaces_more}
+use Rattle.upon_lexer.specs.Lexers.{lexer_text, lexer_delimiters, lexer_state}
+use Rattle.upon_lexer.proofs.Passing.{frequent_given, passed_gives, passed_read, spaces_more}
 use Rattle.upon_lexer.proofs.compile.lex.Lexer.next_plain.Goals as goal
 
 pub returns-then-not-is_space-clause-token : goal.returns-then-not-is_space-clause-token

@@ -5,6 +5,8 @@ use Rattle.upon_language_spec.specs.Cut.{Lexeme}
 use Rattle.upon_language_spec.specs.Delimiters.{end_sort, has_hyphen, end_token}
 use Rattle.upon_lexer.specs.Lexers.{lexer_text, lexer_delimiters, lexer_state}
 use Rattle.upon_language_spec.proofs.Computation.Tests.{same_number}
+use Rattle.upon_language_spec.specs.Tokens.{is_space}
+use Rattle.upon_language_spec.proofs.NoTreeWithFault.InsideTag.{end_is_no_space}
 use Rattle.upon_lexer.proofs.Passing.{end_next, end_is_no_raw, end_state, given_whole}
 use Rattle.upon_lexer.proofs.compile.lex.Lexer.pass_end.Goals as goal
 
@@ -29,4 +31,6 @@ returns-clause-passed c =
       next = end_next delimiters s left c.args.kind sort c.args.span no_bracket c.requires.open c.requires.best.best c.requires.best.start of_sort;
       of_span = given_whole delimiters s left.mode left.trims (end_token sort) c.args.span (end_is_no_raw sort);
       state = end_state delimiters s left c.args.kind sort c.args.span no_bracket _ refl refl refl refl c.has_hyphen-self.ensures c.requires.not_over;
+      counts = ap is_space c.end_token.ensures ∙ end_is_no_space sort;
+      not_over = c.requires.not_over;
     }

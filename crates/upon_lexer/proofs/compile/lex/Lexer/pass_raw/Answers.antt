@@ -1,4 +1,4 @@
-use Rattle.std.proofs.Common.{◌≡◌, false, refl, sym, ap, ◌∙◌, inl, subst}
+use Rattle.std.proofs.Common.{◌≡◌, false, refl, sym, ap, inl, subst}
 use Rattle.upon_types.specs.declared.types.token.Token.TheVariants.{Raw}
 use Rattle.upon_language_spec.specs.Faults.{span_of}
 use Rattle.upon_language_spec.specs.Cut.{Mode, outside, IsToken, mode_after}
@@ -25,4 +25,6 @@ returns-clause-passed c =
       next = record { from = refl; step = subst In (sym mode) (inl (refl, refl, c.raw_end-end.ensures.raw)); fits = tt };
       of_span = subst Given (sym mode) (c.begin_trims.result, c.begin_trims.ensures delimiters s end c.raw_end-end.ensures.next, c.shown-given.ensures.shown);
       state = same_state _ (state_after left (record { token = Raw; hyphen = false; span = span_of left.offset end })) refl (subst Same (sym mode) refl) refl refl refl c.requires.not_over;
+      counts = refl;
+      not_over = c.requires.not_over;
     }
