@@ -310,26 +310,44 @@ fn lacks_file(call: &Call<'_>) -> bool {
 // What the matches ask for, if they have a command.
 fn asked_for<'a>(alloc: Global, matches: &ArgMatches<'a>) -> Result<Option<Call<'a>>, AllocError> {
     match matches.subcommand() {
-        Some((RENDER, found)) => match found.get_str(EACH) {
-            Some(key) => Ok(Some(Call::Each(each_call(alloc, found, key)?))),
-            None => Ok(Some(Call::Render(render_call(alloc, found)?))),
-        },
-        Some((BUILD, found)) => Ok(Some(Call::Build(build_call(alloc, found)?))),
-        Some((CHECK, found)) => Ok(Some(any_check(alloc, found)?)),
-        Some((NAMES, found)) => Ok(Some(Call::Names(names_call(found)))),
-        _ => Ok(None),
+        Some((command, found)) => asked_by(alloc, command, found).transpose(),
+        None => Ok(None),
+    }
+}
+
+// What the matches of a command ask for, if it is one of the program's.
+fn asked_by<'a>(
+    alloc: Global,
+    command: &str,
+    matches: &ArgMatches<'a>,
+) -> Option<Result<Call<'a>, AllocError>> {
+    match command {
+        RENDER => Some(any_rendering(alloc, matches)),
+        BUILD => Some(build_call(alloc, matches)),
+        CHECK => Some(any_check(alloc, matches)),
+        NAMES => Some(Ok(Call::Names(names_call(matches)))),
+        _ => None,
+    }
+}
+
+// What the matches of a rendering ask for: to render once, or for each item.
+fn any_rendering<'a>(alloc: Global, matches: &ArgMatches<'a>) -> Result<Call<'a>, AllocError> {
+    match matches.get_str(EACH) {
+        Some(key) => each_call(alloc, matches, key),
+        None => Ok(Call::Render(render_call(alloc, matches)?)),
     }
 }
 
 // What a rendering's matches ask for.
 fn render_call<'a>(alloc: Global, matches: &ArgMatches<'a>) -> Result<RenderCall<'a>, AllocError> {
+    let contexts = contexts_call(alloc, matches)?;
     Ok(RenderCall {
         file: matches.get_str(FILE).unwrap_or_default(),
-        env: matches.get_flag(ENV),
-        data: words(alloc, matches.get_strs(DATA))?,
-        format: matches.get_str(FORMAT),
-        set_json: words(alloc, matches.get_strs(SET_JSON))?,
-        set: words(alloc, matches.get_strs(SET))?,
+        env: contexts.env,
+        data: contexts.data,
+        format: contexts.format,
+        set_json: contexts.set_json,
+        set: contexts.set,
         templates: matches.get_str(TEMPLATES),
         follow: matches.get_flag(FOLLOW),
         escape: escape_of(matches.get_str(ESCAPE), matches.get_flag(HTML)),
@@ -347,26 +365,27 @@ fn each_call<'a>(
     alloc: Global,
     matches: &ArgMatches<'a>,
     key: &'a str,
-) -> Result<EachCall<'a>, AllocError> {
-    Ok(EachCall {
-        render: render_call(alloc, matches)?,
+) -> Result<Call<'a>, AllocError> {
+    let render = render_call(alloc, matches)?;
+    Ok(Call::Each(EachCall {
+        render,
         key,
         name: matches.get_str(NAME).unwrap_or_default(),
         out: matches.get_str(OUT).unwrap_or_default(),
         keep_going: matches.get_flag(KEEP_GOING),
-    })
+    }))
 }
 
 // What a build's matches ask for.
-fn build_call<'a>(alloc: Global, matches: &ArgMatches<'a>) -> Result<BuildCall<'a>, AllocError> {
+fn build_call<'a>(alloc: Global, matches: &ArgMatches<'a>) -> Result<Call<'a>, AllocError> {
     let mut render = render_call(alloc, matches)?;
     render.file = matches.get_str(SOURCE).unwrap_or_default();
-    Ok(BuildCall {
+    Ok(Call::Build(BuildCall {
         render,
         layout: matches.get_str(LAYOUT),
         out: matches.get_str(OUT).unwrap_or_default(),
         keep_going: matches.get_flag(KEEP_GOING),
-    })
+    }))
 }
 
 // The language of a name, or HTML if that is asked for by its own flag.
@@ -390,21 +409,42 @@ fn color_of(word: Option<&str>) -> Color {
     }
 }
 
-// What the matches of a check ask for: to write a shape, or to check, on contexts if there are some.
+// What the matches of a check ask for: to write a shape, or to check.
 fn any_check<'a>(alloc: Global, matches: &ArgMatches<'a>) -> Result<Call<'a>, AllocError> {
     if matches.get_flag(SHAPE_OUT) {
-        return Ok(Call::Shape(ShapeCall {
-            contexts: contexts_call(alloc, matches)?,
-            color: color_of(matches.get_str(COLOR)),
-        }));
+        shape_call(alloc, matches)
+    } else {
+        fit_or_check(alloc, matches)
     }
-    let check = check_call(alloc, matches)?;
+}
+
+// What the matches ask for, to write a shape.
+fn shape_call<'a>(alloc: Global, matches: &ArgMatches<'a>) -> Result<Call<'a>, AllocError> {
     let contexts = contexts_call(alloc, matches)?;
-    Ok(if has_contexts(&contexts) {
+    let color = color_of(matches.get_str(COLOR));
+    Ok(Call::Shape(ShapeCall { contexts, color }))
+}
+
+// What the matches ask for, to check.
+fn fit_or_check<'a>(alloc: Global, matches: &ArgMatches<'a>) -> Result<Call<'a>, AllocError> {
+    let check = check_call(alloc, matches)?;
+    match contexts_call(alloc, matches) {
+        Ok(contexts) => Ok(check_on(check, contexts)),
+        Err(error) => {
+            drop(check);
+            Err(error)
+        }
+    }
+}
+
+// A check on contexts, if there are some.
+fn check_on<'a>(check: CheckCall<'a>, contexts: ContextsCall<'a>) -> Call<'a> {
+    if has_contexts(&contexts) {
         Call::Fit(FitCall { check, contexts })
     } else {
+        drop(contexts);
         Call::Check(check)
-    })
+    }
 }
 
 // Whether there are contexts.
@@ -416,30 +456,35 @@ fn has_contexts(contexts: &ContextsCall<'_>) -> bool {
         || !contexts.set.is_empty()
 }
 
-// The contexts that the matches of a check ask for.
+// The contexts that the matches ask for; only a check has a schema.
 fn contexts_call<'a>(
     alloc: Global,
     matches: &ArgMatches<'a>,
 ) -> Result<ContextsCall<'a>, AllocError> {
+    let data = words(alloc, matches, DATA)?;
+    let set_json = words(alloc, matches, SET_JSON)?;
+    let set = words(alloc, matches, SET)?;
     Ok(ContextsCall {
         schema: matches.get_str(SCHEMA),
         env: matches.get_flag(ENV),
-        data: words(alloc, matches.get_strs(DATA))?,
+        data,
         format: matches.get_str(FORMAT),
-        set_json: words(alloc, matches.get_strs(SET_JSON))?,
-        set: words(alloc, matches.get_strs(SET))?,
+        set_json,
+        set,
     })
 }
 
 // What a check's matches ask for.
 fn check_call<'a>(alloc: Global, matches: &ArgMatches<'a>) -> Result<CheckCall<'a>, AllocError> {
+    let files = words(alloc, matches, FILE)?;
+    let functions = words(alloc, matches, FUNCTION)?;
     Ok(CheckCall {
-        files: words(alloc, matches.get_strs(FILE))?,
+        files,
         templates: matches.get_str(TEMPLATES),
         follow: matches.get_flag(FOLLOW),
         escape: escape_of(matches.get_str(ESCAPE), matches.get_flag(HTML)),
         standard: matches.get_flag(STD),
-        functions: words(alloc, matches.get_strs(FUNCTION))?,
+        functions,
         color: color_of(matches.get_str(COLOR)),
     })
 }
@@ -456,8 +501,12 @@ fn names_call<'a>(matches: &ArgMatches<'a>) -> NamesCall<'a> {
 }
 
 // The values of an argument that may be there several times.
-fn words<'a>(alloc: Global, found: Option<&[&'a str]>) -> Result<Vec<&'a str>, AllocError> {
-    match found {
+fn words<'a>(
+    alloc: Global,
+    matches: &ArgMatches<'a>,
+    name: &str,
+) -> Result<Vec<&'a str>, AllocError> {
+    match matches.get_strs(name) {
         Some(words) => Vec::from_slice(alloc, words),
         None => Ok(Vec::new(alloc)),
     }
@@ -490,133 +539,202 @@ fn with_command<'a>(
     }
 }
 
+// A command with arguments, if they could be made.
+fn with_args<'a>(
+    command: Command<'a>,
+    args: Result<Vec<Arg<'a>>, AllocError>,
+) -> Result<Command<'a>, AllocError> {
+    match args {
+        Ok(args) => command.args(args),
+        Err(error) => {
+            drop(command);
+            Err(error)
+        }
+    }
+}
+
+// A list of one argument, if that could be made.
+fn alone<'a>(alloc: Global, arg: Result<Arg<'a>, AllocError>) -> Result<Vec<Arg<'a>>, AllocError> {
+    match arg {
+        Ok(arg) => list_of(alloc, arg),
+        Err(error) => Err(error),
+    }
+}
+
+// A list of one argument.
+fn list_of<'a>(alloc: Global, arg: Arg<'a>) -> Result<Vec<Arg<'a>>, AllocError> {
+    let args = vec![in alloc; arg]?;
+    Ok(args)
+}
+
+// The arguments of a list and those of another, if all could be made.
+fn and_all<'a>(
+    args: Result<Vec<Arg<'a>>, AllocError>,
+    others: Result<Vec<Arg<'a>>, AllocError>,
+) -> Result<Vec<Arg<'a>>, AllocError> {
+    let mut args = args?;
+    let mut others = others?;
+    args.append(&mut others)?;
+    Ok(args)
+}
+
 fn render_command<'a>(alloc: Global) -> Result<Command<'a>, AllocError> {
-    let command = Command::new(alloc, RENDER)
-        .about("Renders a template on data")
-        .arg(file(alloc))?;
-    let command = with_data(alloc, command)?
-        .arg(templates(alloc))?
-        .arg(follow(alloc))?;
-    let command = with_languages(alloc, command)?.arg(option(
-        alloc,
-        OUT,
-        "OUT",
-        "Write to this file, which is replaced if all went well; with --each to this folder",
-    ))?;
-    with_limits(alloc, command)?
-        .arg(each(alloc).requires_arg(NAME)?.requires_arg(OUT)?)?
-        .arg(name(alloc).requires_arg(EACH)?)?
-        .arg(keep_going(alloc).requires_arg(EACH)?)?
-        .arg(colors(alloc))
+    let command = Command::new(alloc, RENDER).about("Renders a template on data");
+    with_args(command, render_args(alloc))
+}
+
+fn render_args<'a>(alloc: Global) -> Result<Vec<Arg<'a>>, AllocError> {
+    let args = and_all(list_of(alloc, file(alloc)), data_args(alloc));
+    let args = and_all(args, folder_args(alloc));
+    let args = and_all(args, language_args(alloc));
+    let args = and_all(args, list_of(alloc, out(alloc)));
+    let args = and_all(args, limit_args(alloc));
+    let args = and_all(args, each_args(alloc));
+    and_all(args, list_of(alloc, colors(alloc)))
+}
+
+// The arguments of a rendering for each item.
+fn each_args<'a>(alloc: Global) -> Result<Vec<Arg<'a>>, AllocError> {
+    let args = and_all(alone(alloc, each(alloc)), alone(alloc, name(alloc)));
+    and_all(args, alone(alloc, keep_going(alloc).requires_arg(EACH)))
 }
 
 fn build_command<'a>(alloc: Global) -> Result<Command<'a>, AllocError> {
-    let command = Command::new(alloc, BUILD)
-        .about("Builds a folder: renders its files NAME.upon to NAME, and copies the others")
-        .arg(
-            Arg::new(alloc, SOURCE)
-                .required(true)
-                .help("The folder of the templates and of the other files"),
-        )?;
-    let command = with_data(alloc, command)?
-        .arg(layout(alloc))?
-        .arg(templates(alloc))?
-        .arg(flag(alloc, FOLLOW, "Follow links that lead out of SRC and DIR"))?;
-    let command = with_languages(alloc, command)?.arg(option(
-        alloc,
-        OUT,
-        "DIR",
-        "The folder of the pages, which is made",
-    ).required(true))?;
-    with_limits(alloc, command)?
-        .arg(keep_going(alloc))?
-        .arg(colors(alloc))
+    let command = Command::new(alloc, BUILD).about(
+        "Builds a folder: renders its files NAME.upon to NAME, and copies the others",
+    );
+    with_args(command, build_args(alloc))
 }
 
-// A command with the arguments of a context.
-fn with_data<'a>(alloc: Global, command: Command<'a>) -> Result<Command<'a>, AllocError> {
-    command
-        .arg(env(alloc))?
-        .arg(data(alloc))?
-        .arg(format(alloc))?
-        .arg(set_json(alloc))?
-        .arg(set(alloc))
+fn build_args<'a>(alloc: Global) -> Result<Vec<Arg<'a>>, AllocError> {
+    let args = and_all(list_of(alloc, source(alloc)), data_args(alloc));
+    let args = and_all(args, layout_args(alloc));
+    let args = and_all(args, language_args(alloc));
+    let args = and_all(args, list_of(alloc, pages(alloc)));
+    let args = and_all(args, limit_args(alloc));
+    let args = and_all(args, list_of(alloc, keep_going(alloc)));
+    and_all(args, list_of(alloc, colors(alloc)))
 }
 
-// A command with the arguments of what values are escaped for, and of functions.
-fn with_languages<'a>(alloc: Global, command: Command<'a>) -> Result<Command<'a>, AllocError> {
-    command
-        .arg(html(alloc))?
-        .arg(language(alloc))?
-        .arg(standard(alloc))
+// The arguments of a context.
+fn data_args<'a>(alloc: Global) -> Result<Vec<Arg<'a>>, AllocError> {
+    let args = vec![in alloc;
+        env(alloc),
+        data(alloc),
+        format(alloc),
+        set_json(alloc),
+        set(alloc),
+    ]?;
+    Ok(args)
 }
 
-// A command with the arguments of limits.
-fn with_limits<'a>(alloc: Global, command: Command<'a>) -> Result<Command<'a>, AllocError> {
-    command
-        .arg(max_steps(alloc))?
-        .arg(max_output(alloc))?
-        .arg(max_memory(alloc))
+// The arguments of the folder of templates.
+fn folder_args<'a>(alloc: Global) -> Result<Vec<Arg<'a>>, AllocError> {
+    let args = vec![in alloc; templates(alloc), follow(alloc)]?;
+    Ok(args)
+}
+
+// The arguments of the layout of a build, and of the folder of its templates.
+fn layout_args<'a>(alloc: Global) -> Result<Vec<Arg<'a>>, AllocError> {
+    let follow = flag(alloc, FOLLOW, "Follow links that lead out of SRC and DIR");
+    let args = vec![in alloc; layout(alloc), templates(alloc), follow]?;
+    Ok(args)
+}
+
+// The arguments of what values are escaped for, and of functions.
+fn language_args<'a>(alloc: Global) -> Result<Vec<Arg<'a>>, AllocError> {
+    let args = vec![in alloc; html(alloc), language(alloc), standard(alloc)]?;
+    Ok(args)
+}
+
+// The arguments of limits.
+fn limit_args<'a>(alloc: Global) -> Result<Vec<Arg<'a>>, AllocError> {
+    let args = vec![in alloc; max_steps(alloc), max_output(alloc), max_memory(alloc)]?;
+    Ok(args)
 }
 
 fn check_command<'a>(alloc: Global) -> Result<Command<'a>, AllocError> {
+    let contexts = contexts(alloc)?;
     let command = Command::new(alloc, CHECK)
         .about(
             "Shows each error of templates, each include that names none, and each call that fails",
         )
-        .arg(checked_files(alloc)?)?
-        .arg(templates(alloc))?
-        .arg(follow(alloc))?;
-    let command = with_languages(alloc, command)?.arg(function(alloc))?;
-    with_contexts(alloc, command)?.arg(colors(alloc))
+        .group(contexts)?;
+    with_args(command, check_args(alloc))
 }
 
-fn checked_files<'a>(alloc: Global) -> Result<Arg<'a>, AllocError> {
-    Ok(
-        Arg::new(alloc, FILE)
-            .num_args(1..)
-            .action(ArgAction::Append)
-            .required_unless_present(TEMPLATES)?
-            .required_unless_present(SHAPE_OUT)?
-            .help("The templates, or - for standard input"),
-    )
+// The arguments of contexts: samples, or a schema.
+fn contexts<'a>(alloc: Global) -> Result<ArgGroup<'a>, AllocError> {
+    let names = [SCHEMA, DATA, ENV, SET_JSON, SET];
+    ArgGroup::new(alloc, CONTEXTS).multiple(true).args(&names)
 }
 
-// A command with the arguments of contexts: samples, or a schema.
-fn with_contexts<'a>(alloc: Global, command: Command<'a>) -> Result<Command<'a>, AllocError> {
-    let contexts = ArgGroup::new(alloc, CONTEXTS)
-        .arg(SCHEMA)?
-        .arg(DATA)?
-        .arg(ENV)?
-        .arg(SET_JSON)?
-        .arg(SET)?
-        .multiple(true);
-    with_samples(alloc, command)?
-        .arg(schema(alloc)?)?
-        .arg(shape_out(alloc)?)?
-        .group(contexts)
+fn check_args<'a>(alloc: Global) -> Result<Vec<Arg<'a>>, AllocError> {
+    let args = and_all(alone(alloc, checked_files(alloc)), folder_args(alloc));
+    let args = and_all(args, language_args(alloc));
+    let args = and_all(args, list_of(alloc, function(alloc)));
+    let args = and_all(args, sample_args(alloc));
+    let args = and_all(args, alone(alloc, schema(alloc)));
+    let args = and_all(args, alone(alloc, shape_out(alloc)));
+    and_all(args, list_of(alloc, colors(alloc)))
 }
 
-// A command with the arguments of samples.
-fn with_samples<'a>(alloc: Global, command: Command<'a>) -> Result<Command<'a>, AllocError> {
-    command
-        .arg(env(alloc))?
-        .arg(samples(alloc))?
-        .arg(format(alloc))?
-        .arg(set_json(alloc))?
-        .arg(set(alloc))
+// The arguments of samples.
+fn sample_args<'a>(alloc: Global) -> Result<Vec<Arg<'a>>, AllocError> {
+    let args = vec![in alloc;
+        env(alloc),
+        samples(alloc),
+        format(alloc),
+        set_json(alloc),
+        set(alloc),
+    ]?;
+    Ok(args)
 }
 
 fn names_command<'a>(alloc: Global) -> Result<Command<'a>, AllocError> {
-    Command::new(alloc, NAMES)
-        .about(
-            "Lists the names that a template needs of its context, and the templates that it includes",
-        )
-        .arg(file(alloc))?
-        .arg(templates(alloc))?
-        .arg(follow(alloc))?
-        .arg(json(alloc))?
-        .arg(colors(alloc))
+    let command = Command::new(alloc, NAMES).about(
+        "Lists the names that a template needs of its context, and the templates that it includes",
+    );
+    with_args(command, names_args(alloc))
+}
+
+fn names_args<'a>(alloc: Global) -> Result<Vec<Arg<'a>>, AllocError> {
+    let args = vec![in alloc;
+        file(alloc),
+        templates(alloc),
+        follow(alloc),
+        json(alloc),
+        colors(alloc),
+    ]?;
+    Ok(args)
+}
+
+fn source<'a>(alloc: Global) -> Arg<'a> {
+    Arg::new(alloc, SOURCE)
+        .required(true)
+        .help("The folder of the templates and of the other files")
+}
+
+fn out<'a>(alloc: Global) -> Arg<'a> {
+    option(
+        alloc,
+        OUT,
+        "OUT",
+        "Write to this file, which is replaced if all went well; with --each to this folder",
+    )
+}
+
+fn pages<'a>(alloc: Global) -> Arg<'a> {
+    option(alloc, OUT, "DIR", "The folder of the pages, which is made").required(true)
+}
+
+fn checked_files<'a>(alloc: Global) -> Result<Arg<'a>, AllocError> {
+    let others = [TEMPLATES, SHAPE_OUT];
+    Arg::new(alloc, FILE)
+        .num_args(1..)
+        .action(ArgAction::Append)
+        .help("The templates, or - for standard input")
+        .required_unless_present_any(&others)
 }
 
 fn file<'a>(alloc: Global) -> Arg<'a> {
@@ -643,75 +761,68 @@ fn env<'a>(alloc: Global) -> Arg<'a> {
 }
 
 fn data<'a>(alloc: Global) -> Arg<'a> {
-    option(
+    options(
         alloc,
         DATA,
         "DATA",
         "A file of JSON, JSON lines, CSV or TOML for the context, FILE or KEY=FILE; - for standard input",
     )
-    .action(ArgAction::Append)
 }
 
 fn samples<'a>(alloc: Global) -> Arg<'a> {
-    option(
+    options(
         alloc,
         DATA,
         "DATA",
         "Check that each FILE ends well on data as FILE of DATA has; KEY=FILE is put into each sample",
     )
-    .action(ArgAction::Append)
 }
 
 fn schema<'a>(alloc: Global) -> Result<Arg<'a>, AllocError> {
+    let others = [DATA, FORMAT, ENV, SET_JSON, SET];
     option(
         alloc,
         SCHEMA,
         "SCHEMA",
         "Check that each FILE ends well on data that are valid by a JSON Schema",
     )
-    .conflicts_with(DATA)?
-    .conflicts_with(FORMAT)?
-    .conflicts_with(ENV)?
-    .conflicts_with(SET_JSON)?
-    .conflicts_with(SET)
+    .conflicts_with_all(&others)
 }
 
 fn shape_out<'a>(alloc: Global) -> Result<Arg<'a>, AllocError> {
     let help = "Write the JSON Schema of the data, in place of a check";
+    let others = [FILE, TEMPLATES];
     flag(alloc, SHAPE_OUT, help)
         .requires_arg(CONTEXTS)?
-        .conflicts_with(FILE)?
-        .conflicts_with(TEMPLATES)
+        .conflicts_with_all(&others)
 }
 
 fn format<'a>(alloc: Global) -> Arg<'a> {
-    option(
+    choice(
         alloc,
         FORMAT,
         "FORMAT",
         "The format of all DATA, in place of the one that a file's name says",
+        FORMATS.as_slice(),
     )
-    .value_parser(FORMATS.as_slice())
 }
 
 fn set_json<'a>(alloc: Global) -> Arg<'a> {
-    option(
+    options(
         alloc,
         SET_JSON,
         "KEY=JSON",
         "Set a value of JSON at a key of the context, over DATA; a.b is the member b of a",
     )
-    .action(ArgAction::Append)
 }
 
 fn set<'a>(alloc: Global) -> Arg<'a> {
-    option(
+    options(
         alloc,
         SET,
         "KEY=TEXT",
         "Set a text so, over DATA and values of JSON",
     )
-    .action(ArgAction::Append)
 }
 
 fn follow<'a>(alloc: Global) -> Arg<'a> {
@@ -723,23 +834,23 @@ fn html<'a>(alloc: Global) -> Arg<'a> {
 }
 
 fn language<'a>(alloc: Global) -> Arg<'a> {
-    option(
+    choice(
         alloc,
         ESCAPE,
         "LANGUAGE",
         "Escape values for a language; the formatter verbatim leaves one as it is",
+        LANGUAGES.as_slice(),
     )
-    .value_parser(LANGUAGES.as_slice())
 }
 
 fn colors<'a>(alloc: Global) -> Arg<'a> {
-    option(
+    choice(
         alloc,
         COLOR,
         "WHEN",
         "Color pictures of errors; auto is on a terminal where NO_COLOR is not set",
+        COLORS.as_slice(),
     )
-    .value_parser(COLORS.as_slice())
 }
 
 fn standard<'a>(alloc: Global) -> Arg<'a> {
@@ -747,13 +858,12 @@ fn standard<'a>(alloc: Global) -> Arg<'a> {
 }
 
 fn function<'a>(alloc: Global) -> Arg<'a> {
-    option(
+    options(
         alloc,
         FUNCTION,
         "NAME",
         "Let templates call a function or formatter of this name, with any arguments",
     )
-    .action(ArgAction::Append)
 }
 
 fn max_steps<'a>(alloc: Global) -> Arg<'a> {
@@ -783,22 +893,25 @@ fn max_memory<'a>(alloc: Global) -> Arg<'a> {
     )
 }
 
-fn each<'a>(alloc: Global) -> Arg<'a> {
+fn each<'a>(alloc: Global) -> Result<Arg<'a>, AllocError> {
+    let others = [NAME, OUT];
     option(
         alloc,
         EACH,
         "KEY",
         "Render once for each item of the list at a key, which is item, and its entries are over the context's",
     )
+    .requires_all(&others)
 }
 
-fn name<'a>(alloc: Global) -> Arg<'a> {
+fn name<'a>(alloc: Global) -> Result<Arg<'a>, AllocError> {
     option(
         alloc,
         NAME,
         "TEMPLATE",
         "The name of an item's file in OUT, as {{ id }}.txt",
     )
+    .requires_arg(EACH)
 }
 
 fn keep_going<'a>(alloc: Global) -> Arg<'a> {
@@ -833,6 +946,22 @@ fn option<'a>(alloc: Global, name: &'a str, value: &'a str, help: &'a str) -> Ar
         .value_name(value)
         .help(help)
         .action(ArgAction::Set)
+}
+
+// An argument by a name, that may be there several times, each with one value.
+fn options<'a>(alloc: Global, name: &'a str, value: &'a str, help: &'a str) -> Arg<'a> {
+    option(alloc, name, value, help).action(ArgAction::Append)
+}
+
+// An argument by a name, with one of some words.
+fn choice<'a>(
+    alloc: Global,
+    name: &'a str,
+    value: &'a str,
+    help: &'a str,
+    words: &'a [&'a str],
+) -> Arg<'a> {
+    option(alloc, name, value, help).value_parser(words)
 }
 
 // An argument by a name, with a whole number.
