@@ -1,3 +1,4 @@
+pub mod Noting
 pub mod Reading
 pub mod Sent
 pub mod Again

@@ -6,15 +6,14 @@ ghost use Rattle.serde.specs.Spelling.{spelled};
 ghost use Rattle.upon_types.specs.Val.{int_val};
 ghost use Rattle.upon_types.specs.View.{view};
 ghost use Rattle.upon_serde.specs.Data.{key_text, value_of};
-ghost use Rattle.upon_serde.specs.Notes.{event_of, events_of};
+ghost use Rattle.upon_serde.specs.Notes.{event_of, noted, events_of};
 ghost use Rattle.upon_serde.specs.Reads.{ReadsDatum, ReadsItems, ReadsMembers, ReadsFlattened, ReadsKey, datum_of, key_of, pairs_of};
 
-use crate::fault::{fault, incomplete, integer};
+use crate::fault::{Refused, Result, integer};
 use crate::note::{Note, Notes};
 use serde::{Case, NameKind};
 use std::alloc::{AllocError, Global};
 use std::collections::BTreeMap;
-use upon_types::error::Result;
 use upon_types::value::Value;
 
 /// Returns the value of the data that the notes are.
@@ -25,7 +24,7 @@ pub fn whole_value(alloc: Global, mut notes: Notes) -> Result<Value>
     if notes.is_empty() {
         Ok(value)
     } else {
-        Err(incomplete(alloc))
+        Err(Refused::incomplete(alloc))
     }
 }
 
@@ -36,7 +35,7 @@ fn value(alloc: Global, notes: &mut Notes) -> Result<Value>
     ensures shorter { OnOk result (deque_len notes.new < deque_len notes.old) }
 {
     let Some(note) = notes.pop_front() else {
-        return Err(incomplete(alloc));
+        return Err(Refused::incomplete(alloc));
     };
     match note {
         Note::BeginSeq(_) => Ok(Value::List(items(alloc, notes)?)),
@@ -46,6 +45,7 @@ fn value(alloc: Global, notes: &mut Notes) -> Result<Value>
 }
 
 // The value of data that are one note.
+#[inline(always)]
 fn simple_value(alloc: Global, note: Note) -> Result<Value>
     ensures { IfOk result (λ v. option_map value_of (datum_of (event_of note)) ≡ Some (view v)) }
 {
@@ -58,9 +58,9 @@ fn simple_value(alloc: Global, note: Note) -> Result<Value>
         Note::Text(text) => Ok(Value::String(text)),
         Note::Bytes(bytes) => Ok(Value::List(integers(alloc, &bytes)?)),
         Note::UnitVariant(name, case) => {
-            Ok(Value::String(spelled(alloc, NameKind::Variant, &name, case)?))
+            Ok(Value::String(spelled(alloc, NameKind::Variant, name, case)?))
         }
-        _ => Err(incomplete(alloc)),
+        _ => Err(Refused::incomplete(alloc)),
     }
 }
 
@@ -72,7 +72,9 @@ fn items(alloc: Global, notes: &mut Notes) -> Result<Vec<Value>>
 {
     let mut items = Vec::new(alloc);
     while !takes_end_of_seq(notes) {
-        items.push(value(alloc, notes)?)?;
+        let item = value(alloc, notes)?;
+        items.reserve(1)?;
+        items.push_reserved(item);
     }
     Ok(items)
 }
@@ -111,7 +113,7 @@ fn members(alloc: Global, notes: &mut Notes, entries: &mut BTreeMap<String, Valu
             }
         }
     }
-    Err(incomplete(alloc))
+    Err(Refused::incomplete(alloc))
 }
 
 // Puts the members of a flattened map into the entries; a unit in its place has none.
@@ -128,37 +130,40 @@ fn flattened(alloc: Global, notes: &mut Notes, entries: &mut BTreeMap<String, Va
     match notes.pop_front() {
         Some(Note::BeginMap(_)) => members(alloc, notes, entries),
         Some(Note::Unit) => Ok(()),
-        _ => Err(fault(alloc, "can only flatten structs and maps")),
+        _ => Err(Refused::new(alloc, "can only flatten structs and maps")),
     }
 }
 
 // The text of a key that begins with a note, up to its end.
+#[inline(always)]
 fn key(alloc: Global, first: Note, notes: &mut Notes) -> Result<String>
     ensures reads { IfOk result
-        (λ s. ReadsKey (event_of first ∷ events_of notes.old) (events_of notes.new) (string_bytes s)) }
+        (λ s. ReadsKey (noted first (events_of notes.old)) (events_of notes.new) (string_bytes s)) }
     ensures shorter { OnOk result (deque_len notes.new ≤ deque_len notes.old) }
 {
     match first {
-        Note::FieldKey(name, case) => Ok(spelled(alloc, NameKind::Field, &name, case)?),
-        Note::VariantKey(name, case) => Ok(spelled(alloc, NameKind::Variant, &name, case)?),
+        Note::TextKey(text) => Ok(text),
+        Note::FieldKey(name, case) => Ok(spelled(alloc, NameKind::Field, name, case)?),
+        Note::VariantKey(name, case) => Ok(spelled(alloc, NameKind::Variant, name, case)?),
         Note::BeginKey => inner_key(alloc, notes),
-        _ => Err(incomplete(alloc)),
+        _ => Err(Refused::incomplete(alloc)),
     }
 }
 
 // The text of a key that has begun, up to its end.
+#[inline(never)]
 fn inner_key(alloc: Global, notes: &mut Notes) -> Result<String>
     ensures reads { IfOk result
         (λ s. ReadsKey (key_begins ∷ events_of notes.old) (events_of notes.new) (string_bytes s)) }
     ensures shorter { OnOk result (deque_len notes.new ≤ deque_len notes.old) }
 {
     let Some(note) = notes.pop_front() else {
-        return Err(incomplete(alloc));
+        return Err(Refused::incomplete(alloc));
     };
     let text = simple_key(alloc, note)?;
     match notes.pop_front() {
         Some(Note::EndKey) => Ok(text),
-        _ => Err(incomplete(alloc)),
+        _ => Err(Refused::incomplete(alloc)),
     }
 }
 
@@ -171,8 +176,8 @@ fn simple_key(alloc: Global, note: Note) -> Result<String>
         Note::Unsigned(number) => Ok(format!(in alloc; "{number}")?),
         Note::Char(character) => Ok(one_character(alloc, character)?),
         Note::Text(text) => Ok(text),
-        Note::UnitVariant(name, case) => Ok(spelled(alloc, NameKind::Variant, &name, case)?),
-        _ => Err(incomplete(alloc)),
+        Note::UnitVariant(name, case) => Ok(spelled(alloc, NameKind::Variant, name, case)?),
+        _ => Err(Refused::incomplete(alloc)),
     }
 }
 
@@ -212,12 +217,17 @@ fn integers(alloc: Global, bytes: &[u8]) -> std::result::Result<Vec<Value>, Allo
 fn spelled(
     alloc: Global,
     kind: NameKind,
-    name: &str,
+    name: String,
     case: Case,
 ) -> std::result::Result<String, AllocError>
-    ensures { IfOk result (λ s. string_bytes s ≡ spelled case kind name.now) }
+    ensures { IfOk result (λ s. string_bytes s ≡ spelled case kind (string_bytes name)) }
 {
-    let mut text = String::new(alloc);
-    case.append(kind, name, &mut text)?;
-    Ok(text)
+    match case {
+        Case::AsIs => Ok(name),
+        _ => {
+            let mut text = String::new(alloc);
+            case.append(kind, &name, &mut text)?;
+            Ok(text)
+        }
+    }
 }
