@@ -30,6 +30,7 @@ pub fn whole_value(alloc: Global, mut notes: Notes) -> Result<Value>
 
 // The value of the data that the notes begin with. The notes after that stay.
 #[cycle(build)]
+#[inline(always)]
 fn value(alloc: Global, notes: &mut Notes) -> Result<Value>
     ensures reads { IfOk result (λ v. ReadsDatum (events_of notes.old) (events_of notes.new) (view v)) }
     ensures shorter { OnOk result (deque_len notes.new < deque_len notes.old) }

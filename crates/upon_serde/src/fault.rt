@@ -61,7 +61,12 @@ pub fn refusal(alloc: Global, error: Error) -> Error
     match error.kind() {
         ErrorKind::Serialize => error,
         ErrorKind::OutOfMemory => AllocError.into(),
-        _ => Error::from_parts(alloc, ErrorKind::Serialize, Some("serde's data are incomplete"), None),
+        _ => Error::from_parts(
+            alloc,
+            ErrorKind::Serialize,
+            Some("serde's data are incomplete"),
+            None,
+        ),
     }
 }
 

@@ -13,5 +13,5 @@ returns c =
     let after = ap begun c.push.ensures.key ∙ settled in
     let is = ap (λ before. before ++ sends) (sym settled) in
     on_ok_weaker c.push.result (λ pushed.
-        one_more old.notes.items new.notes.items old.key new.key c.args.note sends after is pushed
-        ∙ ap (λ before. before ++ sends) c.in_ok-settle.ensures.sent) c.push.ensures.notes
+    one_more old.notes.items new.notes.items old.key new.key c.args.note sends after is pushed
+    ∙ ap (λ before. before ++ sends) c.in_ok-settle.ensures.sent) c.push.ensures.notes

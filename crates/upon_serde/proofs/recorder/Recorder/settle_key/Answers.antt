@@ -14,7 +14,7 @@ returns-in-Begun-clause-sent c =
     let settled = ap begun (c.push.ensures.key ∙ c.replace.ensures.after) in
     let is = ap (λ key. begun key ++ []) (sym was) in
     on_ok_weaker c.push.result (λ pushed.
-        one_more old.notes.items new.notes.items old.key new.key note.BeginKey [] settled is pushed ∙ append-nil _) c.push.ensures.notes
+    one_more old.notes.items new.notes.items old.key new.key note.BeginKey [] settled is pushed ∙ append-nil _) c.push.ensures.notes
 
 pub returns-in_ok-push-in-Text-clause-sent : goal.returns-in_ok-push-in-Text-clause-sent
 returns-in_ok-push-in-Text-clause-sent c =
@@ -25,5 +25,5 @@ returns-in_ok-push-in-Text-clause-sent c =
     let settled = ap begun (c.push-in-Text-2.ensures.key ∙ c.push-in-Text.ensures.key ∙ c.replace.ensures.after) in
     let is = ap (λ key. begun key ++ []) (sym was) in
     on_ok_weaker c.push-in-Text-2.result (λ pushed.
-        two_more old.notes.items mid.notes.items new.notes.items old.key new.key note.BeginKey (note.Text c.in-Text.text) [] settled is c.in_ok-push-in-Text.ensures.notes pushed
-        ∙ append-nil _) c.push-in-Text-2.ensures.notes
+    two_more old.notes.items mid.notes.items new.notes.items old.key new.key note.BeginKey (note.Text c.in-Text.text) [] settled is c.in_ok-push-in-Text.ensures.notes pushed
+    ∙ append-nil _) c.push-in-Text-2.ensures.notes

@@ -9,6 +9,6 @@ returns c =
     let settled = c.settle.new.self in
     let sends = event.key_begins ∷ [] in
     ap Some (
-      ap (λ before. events_from settled.notes.items (before ++ sends)) (sym c.in_ok-settle.ensures.noted)
-      ∙ events_then settled.notes.items (begun settled.key) sends
-      ∙ ap (λ before. before ++ sends) c.in_ok-settle.ensures.sent)
+    ap (λ before. events_from settled.notes.items (before ++ sends)) (sym c.in_ok-settle.ensures.noted)
+    ∙ events_then settled.notes.items (begun settled.key) sends
+    ∙ ap (λ before. before ++ sends) c.in_ok-settle.ensures.sent)
