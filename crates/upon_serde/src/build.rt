@@ -7,8 +7,10 @@ ghost use Rattle.upon_types.specs.Val.{int_val};
 ghost use Rattle.upon_types.specs.View.{view};
 ghost use Rattle.upon_serde.specs.Data.{key_text, value_of};
 ghost use Rattle.upon_serde.specs.Notes.{event_of, noted, events_of};
+ghost use Rattle.upon_serde.specs.Put.{pairs_in};
 ghost use Rattle.upon_serde.specs.Reads.{ReadsDatum, ReadsItems, ReadsMembers, ReadsFlattened, ReadsKey, datum_of, key_of, pairs_of};
 
+use crate::entries::Entries;
 use crate::fault::{Refused, Result, integer};
 use crate::note::{Note, Notes};
 use serde::{Case, NameKind};
@@ -40,7 +42,7 @@ fn value(alloc: Global, notes: &mut Notes) -> Result<Value>
     };
     match note {
         Note::BeginSeq(_) => Ok(Value::List(items(alloc, notes)?)),
-        Note::BeginMap(_) => Ok(Value::Map(map(alloc, notes)?)),
+        Note::BeginMap(len) => Ok(Value::Map(map(alloc, notes, len)?)),
         note => simple_value(alloc, note),
     }
 }
@@ -82,25 +84,25 @@ fn items(alloc: Global, notes: &mut Notes) -> Result<Vec<Value>>
 
 // The map of the members up to its end.
 #[cycle(build)]
-fn map(alloc: Global, notes: &mut Notes) -> Result<BTreeMap<String, Value>>
+fn map(alloc: Global, notes: &mut Notes, len: Option<usize>) -> Result<BTreeMap<String, Value>>
     ensures reads { IfOk result
         (λ m. ReadsMembers (events_of notes.old) (events_of notes.new) [] (pairs_of m.entries)) }
     ensures shorter { OnOk result (deque_len notes.new < deque_len notes.old) }
 {
-    let mut entries = BTreeMap::new(alloc);
+    let mut entries = Entries::new(alloc, len);
     members(alloc, notes, &mut entries)?;
-    Ok(entries)
+    entries.into_map(alloc)
 }
 
 // Puts the members up to the end of a map into the entries; of equal keys the last counts.
 #[cycle(build)]
-fn members(alloc: Global, notes: &mut Notes, entries: &mut BTreeMap<String, Value>) -> Result<()>
+fn members(alloc: Global, notes: &mut Notes, entries: &mut Entries) -> Result<()>
     ensures reads { OnOk result
         (ReadsMembers
         (events_of notes.old)
         (events_of notes.new)
-        (pairs_of entries.old.entries)
-        (pairs_of entries.new.entries)) }
+        (pairs_in entries.old)
+        (pairs_in entries.new)) }
     ensures shorter { OnOk result (deque_len notes.new < deque_len notes.old) }
 {
     while let Some(note) = notes.pop_front() {
@@ -110,7 +112,7 @@ fn members(alloc: Global, notes: &mut Notes, entries: &mut BTreeMap<String, Valu
             note => {
                 let key = key(alloc, note, notes)?;
                 let value = value(alloc, notes)?;
-                drop(entries.insert(key, value)?);
+                entries.put(key, value)?;
             }
         }
     }
@@ -119,13 +121,13 @@ fn members(alloc: Global, notes: &mut Notes, entries: &mut BTreeMap<String, Valu
 
 // Puts the members of a flattened map into the entries; a unit in its place has none.
 #[cycle(build)]
-fn flattened(alloc: Global, notes: &mut Notes, entries: &mut BTreeMap<String, Value>) -> Result<()>
+fn flattened(alloc: Global, notes: &mut Notes, entries: &mut Entries) -> Result<()>
     ensures reads { OnOk result
         (ReadsFlattened
         (events_of notes.old)
         (events_of notes.new)
-        (pairs_of entries.old.entries)
-        (pairs_of entries.new.entries)) }
+        (pairs_in entries.old)
+        (pairs_in entries.new)) }
     ensures shorter { OnOk result (deque_len notes.new < deque_len notes.old) }
 {
     match notes.pop_front() {
