@@ -23,7 +23,6 @@ pub enum Entries {
 
 impl Entries {
     /// Creates the entries of a map that says how many it has.
-    #[inline(always)]
     pub fn new(alloc: Global, len: Option<usize>) -> Entries
         ensures { pairs_in result ≡ [] }
     {
@@ -49,7 +48,6 @@ impl Entries {
     }
 
     /// Returns the map of the entries.
-    #[inline(always)]
     pub fn into_map(self, alloc: Global) -> Result<BTreeMap<String, Value>>
         ensures { IfOk result (λ map. pairs_of map.entries ≡ pairs_in self) }
     {
