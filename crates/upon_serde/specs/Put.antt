@@ -14,6 +14,6 @@ pairs_put [] pairs = pairs
 pairs_put (e ∷ es) pairs = pairs_put es (with_pair (string_bytes e.0) (view e.1) pairs)
 
 -- the pairs that entries make
-abbrev pub pairs_in : Entries → Pairs
-pairs_in (Map map) = pairs_of map.entries
-pairs_in (Row row) = pairs_put row.items []
+abbrev pub pairs_so_far : Entries → Pairs
+pairs_so_far (Map map) = pairs_of map.entries
+pairs_so_far (Row row) = pairs_put row.items []

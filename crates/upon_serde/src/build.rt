@@ -7,7 +7,7 @@ ghost use Rattle.upon_types.specs.Val.{int_val};
 ghost use Rattle.upon_types.specs.View.{view};
 ghost use Rattle.upon_serde.specs.Data.{key_text, value_of};
 ghost use Rattle.upon_serde.specs.Notes.{event_of, noted, events_of};
-ghost use Rattle.upon_serde.specs.Put.{pairs_in};
+ghost use Rattle.upon_serde.specs.Put.{pairs_so_far};
 ghost use Rattle.upon_serde.specs.Reads.{ReadsDatum, ReadsItems, ReadsMembers, ReadsFlattened, ReadsKey, datum_of, key_of, pairs_of};
 
 use crate::entries::Entries;
@@ -101,8 +101,8 @@ fn members(alloc: Global, notes: &mut Notes, entries: &mut Entries) -> Result<()
         (ReadsMembers
         (events_of notes.old)
         (events_of notes.new)
-        (pairs_in entries.old)
-        (pairs_in entries.new)) }
+        (pairs_so_far entries.old)
+        (pairs_so_far entries.new)) }
     ensures shorter { OnOk result (deque_len notes.new < deque_len notes.old) }
 {
     while let Some(note) = notes.pop_front() {
@@ -126,8 +126,8 @@ fn flattened(alloc: Global, notes: &mut Notes, entries: &mut Entries) -> Result<
         (ReadsFlattened
         (events_of notes.old)
         (events_of notes.new)
-        (pairs_in entries.old)
-        (pairs_in entries.new)) }
+        (pairs_so_far entries.old)
+        (pairs_so_far entries.new)) }
     ensures shorter { OnOk result (deque_len notes.new < deque_len notes.old) }
 {
     match notes.pop_front() {

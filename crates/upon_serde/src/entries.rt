@@ -3,7 +3,7 @@ ghost use Rattle.std.specs.Prelude.{◌≡◌, [], OnOk, IfOk, string_bytes, str
 ghost use Rattle.std.specs.BTreeMap.{IsFromIterResult};
 ghost use Rattle.upon_types.specs.View.{view};
 ghost use Rattle.upon_serde.specs.Data.{with_pair};
-ghost use Rattle.upon_serde.specs.Put.{pairs_in};
+ghost use Rattle.upon_serde.specs.Put.{pairs_so_far};
 ghost use Rattle.upon_serde.specs.Reads.{pairs_of};
 
 use crate::fault::Result;
@@ -24,7 +24,7 @@ pub enum Entries {
 impl Entries {
     /// Creates the entries of a map that says how many it has.
     pub fn new(alloc: Global, len: Option<usize>) -> Entries
-        ensures { pairs_in result ≡ [] }
+        ensures { pairs_so_far result ≡ [] }
     {
         match len {
             Some(len) if len > LARGE => Entries::Row(Vec::new(alloc)),
@@ -35,7 +35,8 @@ impl Entries {
     /// Puts a value at a key. Of equal keys the last counts.
     #[inline(always)]
     pub fn put(&mut self, key: String, value: Value) -> std::result::Result<(), AllocError>
-        ensures { OnOk result (pairs_in self.new ≡ with_pair (string_bytes key) (view value) (pairs_in self.old)) }
+        ensures { OnOk result
+            (pairs_so_far self.new ≡ with_pair (string_bytes key) (view value) (pairs_so_far self.old)) }
     {
         match self {
             Entries::Map(map) => drop(map.insert(key, value)?),
@@ -49,7 +50,7 @@ impl Entries {
 
     /// Returns the map of the entries.
     pub fn into_map(self, alloc: Global) -> Result<BTreeMap<String, Value>>
-        ensures { IfOk result (λ map. pairs_of map.entries ≡ pairs_in self) }
+        ensures { IfOk result (λ map. pairs_of map.entries ≡ pairs_so_far self) }
     {
         match self {
             Entries::Map(map) => Ok(map),

@@ -5,7 +5,7 @@ use Rattle.upon_types.specs.View.{view}
 use Rattle.upon_serde.specs.Data.{with_pair}
 use Rattle.upon_serde.specs.Notes.{noted, events_from, events_of}
 use Rattle.upon_serde.specs.Reads.{ReadsDatum, ReadsMembers, ReadsKey}
-use Rattle.upon_serde.specs.Put.{pairs_in}
+use Rattle.upon_serde.specs.Put.{pairs_so_far}
 use Rattle.upon_serde.proofs.Reading.{reads_note_ok, reads_list, reads_map, items_end, items_one, members_end, members_one, members_flattened}
 use Rattle.upon_serde.proofs.build.+build.Goals as goal
 
@@ -38,7 +38,7 @@ items-returns-clause-reads t c =
 pub members-returns-in-EndMap-clause-reads : goal.members-returns-in-EndMap-clause-reads
 members-returns-in-EndMap-clause-reads t c =
     let after = events_of c.pop_front.new.self in
-    let pairs = pairs_in c.loop-note.entries in
+    let pairs = pairs_so_far c.loop-note.entries in
     let end = ap (λ ns. events_from ns []) c.in-Some.ensures.items ∙ ap (λ n. noted n after) c.in-EndMap.is in
     c.loop-note.invariant.1 after pairs (members_end (events_of c.loop-note.notes) after pairs end)
 
@@ -46,8 +46,8 @@ pub members-loop-note-preserved-in-Continue-1 : goal.members-loop-note-preserved
 members-loop-note-preserved-in-Continue-1 t c =
     let flat = events_of c.pop_front.new.self in
     let mid = events_of c.flattened.new.notes in
-    let old = pairs_in c.loop-note.entries in
-    let between = pairs_in c.flattened.new.entries in
+    let old = pairs_so_far c.loop-note.entries in
+    let between = pairs_so_far c.flattened.new.entries in
     let begins = ap (λ ns. events_from ns []) c.in-Some.ensures.items ∙ ap (λ n. noted n flat) c.in-Flatten.is in
     let kept = c.loop-note.invariant.0 in
     let popped = c.in-Some.ensures.len in
@@ -64,10 +64,10 @@ members-loop-note-preserved t c =
     let rest_of_first = events_of c.pop_front.new.self in
     let named = events_of c.key.new.notes in
     let mid = events_of c.value.new.notes in
-    let old = pairs_in c.loop-note.entries in
+    let old = pairs_so_far c.loop-note.entries in
     let begins : events_of c.loop-note.notes ≡ noted c.in-Some.note rest_of_first = ap (λ ns. events_from ns []) c.in-Some.ensures.items in
     let key = subst (λ es. ReadsKey es named (string_bytes name)) (sym begins) c.in_ok-key-in_default-note.ensures.reads in
-    let put : pairs_in c.put.new.self ≡ with_pair (string_bytes name) (view value) old = c.in_ok-put-in_default-note.ensures in
+    let put : pairs_so_far c.put.new.self ≡ with_pair (string_bytes name) (view value) old = c.in_ok-put-in_default-note.ensures in
     let kept = c.loop-note.invariant.0 in
     let popped = c.in-Some.ensures.len in
     let shorter = c.in_ok-key-in_default-note.ensures.shorter in
