@@ -10,13 +10,16 @@ use Rattle.upon_types.specs.View.{view, vals_of, entries_view}
 use Rattle.upon_types.specs.declared.value.Value.{Value, List as ListValue, Map as MapValue}
 use Rattle.upon_types.proofs.Views.{view-List, view-Map}
 use Rattle.upon_serde.specs.Data.{signed_key, unsigned_key, character_key, text_key, unit_variant_key, key_events, key_text, unit, truth, signed, unsigned, character, text, octets, unit_variant, sequence, mapping, events, value_of, no_data, datum_then, no_members, member_then, flattened_then, flattened_unit_then, member_events, with_members, Pairs, with_pair, entries_from}
+use Rattle.upon_serde.specs.declared.note.Note.{Note}
+use Rattle.upon_serde.specs.Notes.{event_of, noted}
+use Rattle.upon_serde.proofs.Noting.{noted_one}
 use Rattle.upon_serde.specs.Reads.{ReadsDatum, ReadsItems, ReadsMembers, ReadsFlattened, ReadsKey, datum_of, key_of, pairs_of}
 
 abbrev pub Entry : Type 0
 Entry = String Global × Value
 
 -- ---- what is one event
-pub reads_one : (e : Event) (after : List Event) (v : Val) → option_map value_of (datum_of e) ≡ Some v → ReadsDatum (e ∷ after) after v
+reads_one : (e : Event) (after : List Event) (v : Val) → option_map value_of (datum_of e) ≡ Some v → ReadsDatum (e ∷ after) after v
 reads_one event.nothing after v is = (unit, refl, cc)
 reads_one (event.boolean b) after v is = (truth b, refl, cc)
 reads_one (event.signed z) after v is = (signed z, refl, cc)
@@ -35,14 +38,23 @@ reads_key (event.text s) after word is = (text_key s, refl, cc)
 reads_key (event.unit_variant name case) after word is = (unit_variant_key name case, refl, cc)
 reads_key _ after word is = absurd cc
 
-pub reads_inner_key : (e : Event) (before mid after : List Event) (word : List ℕ) → before ≡ e ∷ mid → mid ≡ event.key_ends ∷ after → option_map key_text (key_of e) ≡ Some word → ReadsKey (event.key_begins ∷ before) after word
-reads_inner_key e before mid after word first second is =
-    subst (λ es. ReadsKey (event.key_begins ∷ es) after word) (sym (first ∙ ap (λ es. e ∷ es) second)) (reads_key e after word is)
+no_key : (e : Event) (word : List ℕ) → e ≡ event.key_begins → option_map key_text (key_of e) ≡ Some word → ⊥
+no_key e word begins is = cc
+
+pub reads_inner_key : (n : Note) (before mid after : List Event) (word : List ℕ) → before ≡ noted n mid → mid ≡ event.key_ends ∷ after → option_map key_text (key_of (event_of n)) ≡ Some word → ReadsKey (event.key_begins ∷ before) after word
+reads_inner_key n before mid after word first second is =
+    let one = noted_one n mid (λ begins. no_key (event_of n) word begins is) in
+    subst (λ es. ReadsKey (event.key_begins ∷ es) after word) (sym (first ∙ one ∙ ap (λ es. event_of n ∷ es) second)) (reads_key (event_of n) after word is)
+
+no_datum : (e : Event) (v : Val) → e ≡ event.key_begins → option_map value_of (datum_of e) ≡ Some v → ⊥
+no_datum e v begins is = cc
 
 -- the same of a call that answers such a value
-pub reads_one_ok : {E : Type 0} (e : Event) (before after : List Event) (r : Result Value E) → before ≡ e ∷ after → IfOk r (λ v. option_map value_of (datum_of e) ≡ Some (view v)) → IfOk r (λ v. ReadsDatum before after (view v))
-reads_one_ok e before after (Ok v) begins is = subst (λ es. ReadsDatum es after (view v)) (sym begins) (reads_one e after (view v) is)
-reads_one_ok e before after (Err error) begins is = tt
+pub reads_note_ok : {E : Type 0} (n : Note) (before after : List Event) (r : Result Value E) → before ≡ noted n after → IfOk r (λ v. option_map value_of (datum_of (event_of n)) ≡ Some (view v)) → IfOk r (λ v. ReadsDatum before after (view v))
+reads_note_ok n before after (Ok v) begins is =
+    let one = noted_one n after (λ key. no_datum (event_of n) (view v) key is) in
+    subst (λ es. ReadsDatum es after (view v)) (sym (begins ∙ one)) (reads_one (event_of n) after (view v) is)
+reads_note_ok n before after (Err error) begins is = tt
 
 -- ---- items
 pub items_end : (before after : List Event) → before ≡ event.seq_ends ∷ after → ReadsItems before after []

@@ -1,13 +1,16 @@
--- What a note says that was sent.
-use Rattle.std.specs.Prelude.{List, map, string_bytes}
+-- What a note says that was sent, and what a recorder was sent.
+use Rattle.std.specs.Prelude.{List, [], ◌∷◌, string_bytes}
 use Rattle.std.specs.declared.alloc.Global.{Global}
 use Rattle.std.specs.declared.collections.VecDeque.{VecDeque}
 use Rattle.serde.specs.Event as event
 use Rattle.serde.specs.Event.{Event}
 use Rattle.upon_serde.specs.declared.note.Note.{Note}
 use Rattle.upon_serde.specs.declared.note.Note.TheVariants as note
+use Rattle.upon_serde.specs.declared.recorder.Key.{Key}
+use Rattle.upon_serde.specs.declared.recorder.Key.TheVariants as key
+use Rattle.upon_serde.specs.declared.recorder.Recorder.{Recorder}
 
--- the event that a note is of
+-- the event that a note is of; of a whole key, the first
 abbrev pub event_of : Note → Event
 event_of note.Unit = event.nothing
 event_of (note.Bool b) = event.boolean b
@@ -25,8 +28,30 @@ event_of (note.FieldKey name case) = event.field_key (string_bytes name) case
 event_of (note.VariantKey name case) = event.variant_key (string_bytes name) case
 event_of note.BeginKey = event.key_begins
 event_of note.EndKey = event.key_ends
+event_of (note.TextKey s) = event.key_begins
 event_of note.Flatten = event.flattens
+
+-- the events that a note is of, and then others
+abbrev pub noted : Note → List Event → List Event
+noted (note.TextKey s) after = event.key_begins ∷ event.text (string_bytes s) ∷ event.key_ends ∷ after
+noted n after = event_of n ∷ after
+
+-- the events that notes are of, and then others
+abbrev pub events_from : List Note → List Event → List Event
+events_from [] after = after
+events_from (n ∷ ns) after = noted n (events_from ns after)
 
 -- the events that notes are of
 abbrev pub events_of : VecDeque Note Global → List Event
-events_of notes = map event_of notes.items
+events_of notes = events_from notes.items []
+
+-- the events of a key that are not noted yet
+abbrev pub begun : Key → List Event
+begun key.None = []
+begun key.Begun = event.key_begins ∷ []
+begun (key.Text s) = event.key_begins ∷ event.text (string_bytes s) ∷ []
+begun key.Noted = []
+
+-- what a recorder was sent
+abbrev pub sent : Recorder → List Event
+sent recorder = events_from recorder.notes.items (begun recorder.key)

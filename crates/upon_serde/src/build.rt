@@ -6,15 +6,16 @@ ghost use Rattle.serde.specs.Spelling.{spelled};
 ghost use Rattle.upon_types.specs.Val.{int_val};
 ghost use Rattle.upon_types.specs.View.{view};
 ghost use Rattle.upon_serde.specs.Data.{key_text, value_of};
-ghost use Rattle.upon_serde.specs.Notes.{event_of, events_of};
+ghost use Rattle.upon_serde.specs.Notes.{event_of, noted, events_of};
+ghost use Rattle.upon_serde.specs.Put.{pairs_so_far};
 ghost use Rattle.upon_serde.specs.Reads.{ReadsDatum, ReadsItems, ReadsMembers, ReadsFlattened, ReadsKey, datum_of, key_of, pairs_of};
 
-use crate::fault::{fault, incomplete, integer};
+use crate::entries::Entries;
+use crate::fault::{Refused, Result, integer};
 use crate::note::{Note, Notes};
 use serde::{Case, NameKind};
 use std::alloc::{AllocError, Global};
 use std::collections::BTreeMap;
-use upon_types::error::Result;
 use upon_types::value::Value;
 
 /// Returns the value of the data that the notes are.
@@ -25,27 +26,29 @@ pub fn whole_value(alloc: Global, mut notes: Notes) -> Result<Value>
     if notes.is_empty() {
         Ok(value)
     } else {
-        Err(incomplete(alloc))
+        Err(Refused::incomplete(alloc))
     }
 }
 
 // The value of the data that the notes begin with. The notes after that stay.
 #[cycle(build)]
+#[inline(always)]
 fn value(alloc: Global, notes: &mut Notes) -> Result<Value>
     ensures reads { IfOk result (λ v. ReadsDatum (events_of notes.old) (events_of notes.new) (view v)) }
     ensures shorter { OnOk result (deque_len notes.new < deque_len notes.old) }
 {
     let Some(note) = notes.pop_front() else {
-        return Err(incomplete(alloc));
+        return Err(Refused::incomplete(alloc));
     };
     match note {
         Note::BeginSeq(_) => Ok(Value::List(items(alloc, notes)?)),
-        Note::BeginMap(_) => Ok(Value::Map(map(alloc, notes)?)),
+        Note::BeginMap(len) => Ok(Value::Map(map(alloc, notes, len)?)),
         note => simple_value(alloc, note),
     }
 }
 
 // The value of data that are one note.
+#[inline(always)]
 fn simple_value(alloc: Global, note: Note) -> Result<Value>
     ensures { IfOk result (λ v. option_map value_of (datum_of (event_of note)) ≡ Some (view v)) }
 {
@@ -58,9 +61,9 @@ fn simple_value(alloc: Global, note: Note) -> Result<Value>
         Note::Text(text) => Ok(Value::String(text)),
         Note::Bytes(bytes) => Ok(Value::List(integers(alloc, &bytes)?)),
         Note::UnitVariant(name, case) => {
-            Ok(Value::String(spelled(alloc, NameKind::Variant, &name, case)?))
+            Ok(Value::String(spelled(alloc, NameKind::Variant, name, case)?))
         }
-        _ => Err(incomplete(alloc)),
+        _ => Err(Refused::incomplete(alloc)),
     }
 }
 
@@ -72,32 +75,34 @@ fn items(alloc: Global, notes: &mut Notes) -> Result<Vec<Value>>
 {
     let mut items = Vec::new(alloc);
     while !takes_end_of_seq(notes) {
-        items.push(value(alloc, notes)?)?;
+        let item = value(alloc, notes)?;
+        items.reserve(1)?;
+        items.push_reserved(item);
     }
     Ok(items)
 }
 
 // The map of the members up to its end.
 #[cycle(build)]
-fn map(alloc: Global, notes: &mut Notes) -> Result<BTreeMap<String, Value>>
+fn map(alloc: Global, notes: &mut Notes, len: Option<usize>) -> Result<BTreeMap<String, Value>>
     ensures reads { IfOk result
         (λ m. ReadsMembers (events_of notes.old) (events_of notes.new) [] (pairs_of m.entries)) }
     ensures shorter { OnOk result (deque_len notes.new < deque_len notes.old) }
 {
-    let mut entries = BTreeMap::new(alloc);
+    let mut entries = Entries::new(alloc, len);
     members(alloc, notes, &mut entries)?;
-    Ok(entries)
+    entries.into_map(alloc)
 }
 
 // Puts the members up to the end of a map into the entries; of equal keys the last counts.
 #[cycle(build)]
-fn members(alloc: Global, notes: &mut Notes, entries: &mut BTreeMap<String, Value>) -> Result<()>
+fn members(alloc: Global, notes: &mut Notes, entries: &mut Entries) -> Result<()>
     ensures reads { OnOk result
         (ReadsMembers
         (events_of notes.old)
         (events_of notes.new)
-        (pairs_of entries.old.entries)
-        (pairs_of entries.new.entries)) }
+        (pairs_so_far entries.old)
+        (pairs_so_far entries.new)) }
     ensures shorter { OnOk result (deque_len notes.new < deque_len notes.old) }
 {
     while let Some(note) = notes.pop_front() {
@@ -107,58 +112,61 @@ fn members(alloc: Global, notes: &mut Notes, entries: &mut BTreeMap<String, Valu
             note => {
                 let key = key(alloc, note, notes)?;
                 let value = value(alloc, notes)?;
-                drop(entries.insert(key, value)?);
+                entries.put(key, value)?;
             }
         }
     }
-    Err(incomplete(alloc))
+    Err(Refused::incomplete(alloc))
 }
 
 // Puts the members of a flattened map into the entries; a unit in its place has none.
 #[cycle(build)]
-fn flattened(alloc: Global, notes: &mut Notes, entries: &mut BTreeMap<String, Value>) -> Result<()>
+fn flattened(alloc: Global, notes: &mut Notes, entries: &mut Entries) -> Result<()>
     ensures reads { OnOk result
         (ReadsFlattened
         (events_of notes.old)
         (events_of notes.new)
-        (pairs_of entries.old.entries)
-        (pairs_of entries.new.entries)) }
+        (pairs_so_far entries.old)
+        (pairs_so_far entries.new)) }
     ensures shorter { OnOk result (deque_len notes.new < deque_len notes.old) }
 {
     match notes.pop_front() {
         Some(Note::BeginMap(_)) => members(alloc, notes, entries),
         Some(Note::Unit) => Ok(()),
-        _ => Err(fault(alloc, "can only flatten structs and maps")),
+        _ => Err(Refused::new(alloc, "can only flatten structs and maps")),
     }
 }
 
 // The text of a key that begins with a note, up to its end.
+#[inline(always)]
 fn key(alloc: Global, first: Note, notes: &mut Notes) -> Result<String>
     ensures reads { IfOk result
-        (λ s. ReadsKey (event_of first ∷ events_of notes.old) (events_of notes.new) (string_bytes s)) }
+        (λ s. ReadsKey (noted first (events_of notes.old)) (events_of notes.new) (string_bytes s)) }
     ensures shorter { OnOk result (deque_len notes.new ≤ deque_len notes.old) }
 {
     match first {
-        Note::FieldKey(name, case) => Ok(spelled(alloc, NameKind::Field, &name, case)?),
-        Note::VariantKey(name, case) => Ok(spelled(alloc, NameKind::Variant, &name, case)?),
+        Note::TextKey(text) => Ok(text),
+        Note::FieldKey(name, case) => Ok(spelled(alloc, NameKind::Field, name, case)?),
+        Note::VariantKey(name, case) => Ok(spelled(alloc, NameKind::Variant, name, case)?),
         Note::BeginKey => inner_key(alloc, notes),
-        _ => Err(incomplete(alloc)),
+        _ => Err(Refused::incomplete(alloc)),
     }
 }
 
 // The text of a key that has begun, up to its end.
+#[inline(never)]
 fn inner_key(alloc: Global, notes: &mut Notes) -> Result<String>
     ensures reads { IfOk result
         (λ s. ReadsKey (key_begins ∷ events_of notes.old) (events_of notes.new) (string_bytes s)) }
     ensures shorter { OnOk result (deque_len notes.new ≤ deque_len notes.old) }
 {
     let Some(note) = notes.pop_front() else {
-        return Err(incomplete(alloc));
+        return Err(Refused::incomplete(alloc));
     };
     let text = simple_key(alloc, note)?;
     match notes.pop_front() {
         Some(Note::EndKey) => Ok(text),
-        _ => Err(incomplete(alloc)),
+        _ => Err(Refused::incomplete(alloc)),
     }
 }
 
@@ -171,8 +179,8 @@ fn simple_key(alloc: Global, note: Note) -> Result<String>
         Note::Unsigned(number) => Ok(format!(in alloc; "{number}")?),
         Note::Char(character) => Ok(one_character(alloc, character)?),
         Note::Text(text) => Ok(text),
-        Note::UnitVariant(name, case) => Ok(spelled(alloc, NameKind::Variant, &name, case)?),
-        _ => Err(incomplete(alloc)),
+        Note::UnitVariant(name, case) => Ok(spelled(alloc, NameKind::Variant, name, case)?),
+        _ => Err(Refused::incomplete(alloc)),
     }
 }
 
@@ -212,12 +220,17 @@ fn integers(alloc: Global, bytes: &[u8]) -> std::result::Result<Vec<Value>, Allo
 fn spelled(
     alloc: Global,
     kind: NameKind,
-    name: &str,
+    name: String,
     case: Case,
 ) -> std::result::Result<String, AllocError>
-    ensures { IfOk result (λ s. string_bytes s ≡ spelled case kind name.now) }
+    ensures { IfOk result (λ s. string_bytes s ≡ spelled case kind (string_bytes name)) }
 {
-    let mut text = String::new(alloc);
-    case.append(kind, name, &mut text)?;
-    Ok(text)
+    match case {
+        Case::AsIs => Ok(name),
+        _ => {
+            let mut text = String::new(alloc);
+            case.append(kind, &name, &mut text)?;
+            Ok(text)
+        }
+    }
 }

@@ -3,25 +3,57 @@ ghost use Rattle.std.specs.Prelude.{◌≡◌, pos, IfOk};
 ghost use Rattle.upon_types.specs.Error.{fault_of};
 ghost use Rattle.upon_serde.specs.Refusal.{IsRefusal};
 
-use std::alloc::{AllocError, Global};
-use upon_types::error::{Error, ErrorKind, Result};
+use std::alloc::{AllocError, AllocFailed, Global};
+use upon_types::error::{Error, ErrorKind};
 
-/// Returns the fault of a context that is no value.
-pub fn fault(alloc: Global, reason: &str) -> Error
-    ensures { IsRefusal (fault_of result) }
-{
-    Error::from_parts(alloc, ErrorKind::Serialize, Some(reason), None)
+/// Why a serializer stopped: an error, or that there was no memory. The error is in a box, so that the answer to each
+/// thing that is sent is small.
+#[derive(Drop)]
+pub struct Refused {
+    error: Option<Box<Error>>,
 }
 
-/// Returns the fault of an implementation that sent no data: an end without its begin, a value without its key, or
-/// nothing.
-pub fn incomplete(alloc: Global) -> Error
-    ensures { IsRefusal (fault_of result) }
-{
-    fault(alloc, "serde's data are incomplete")
+/// What a step of a serializer gives.
+pub type Result<T> = std::result::Result<T, Refused>;
+
+impl Refused {
+    /// Returns the refusal of a context that is no value.
+    pub fn new(alloc: Global, reason: &str) -> Refused {
+        let error = Error::from_parts(alloc, ErrorKind::Serialize, Some(reason), None);
+        match Box::new(alloc, error) {
+            Ok(error) => Refused { error: Some(error) },
+            Err(_) => AllocError.into(),
+        }
+    }
+
+    /// Returns the refusal of an implementation that sent no data: an end without its begin, a value without its key,
+    /// or nothing.
+    pub fn incomplete(alloc: Global) -> Refused {
+        Refused::new(alloc, "serde's data are incomplete")
+    }
+
+    /// Returns the error that it is.
+    pub fn into_error(self) -> Error {
+        match self.error {
+            Some(error) => Box::into_inner(error),
+            None => AllocError.into(),
+        }
+    }
 }
 
-/// Returns the refusal of a context whose implementation answered an error. One of a kind that tells of no context is
+impl From<AllocError> for Refused {
+    fn from(_: AllocError) -> Refused {
+        Refused { error: None }
+    }
+}
+
+impl<T: Drop> From<AllocFailed<T>> for Refused {
+    fn from(_: AllocFailed<T>) -> Refused {
+        AllocError.into()
+    }
+}
+
+/// Returns the error of a context whose implementation answered this one. One of a kind that tells of no context is
 /// told as incomplete data.
 pub fn refusal(alloc: Global, error: Error) -> Error
     ensures { IsRefusal (fault_of result) }
@@ -29,7 +61,12 @@ pub fn refusal(alloc: Global, error: Error) -> Error
     match error.kind() {
         ErrorKind::Serialize => error,
         ErrorKind::OutOfMemory => AllocError.into(),
-        _ => incomplete(alloc),
+        _ => Error::from_parts(
+            alloc,
+            ErrorKind::Serialize,
+            Some("serde's data are incomplete"),
+            None,
+        ),
     }
 }
 
@@ -39,6 +76,6 @@ pub fn integer(alloc: Global, number: u64) -> Result<i64>
 {
     match i64::try_from(number) {
         Ok(integer) => Ok(integer),
-        Err(_) => Err(fault(alloc, "out of range integral type conversion attempted")),
+        Err(_) => Err(Refused::new(alloc, "out of range integral type conversion attempted")),
     }
 }

@@ -2,6 +2,7 @@
 #![tactic(auto)]
 
 mod build;
+mod entries;
 mod fault;
 pub mod laws;
 mod macros;

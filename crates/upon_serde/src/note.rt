@@ -2,8 +2,8 @@
 use serde::Case;
 use std::collections::VecDeque;
 
-/// One thing that serde's data send. A name of a field or variant is as it is in the program, with the case that it is
-/// spelled in.
+/// What serde's data send: one thing, or a key with its begin and its end. A name of a field or variant is as it is in
+/// the program, with the case that it is spelled in.
 #[derive(Drop)]
 pub enum Note {
     Unit,
@@ -22,6 +22,8 @@ pub enum Note {
     VariantKey(String, Case),
     BeginKey,
     EndKey,
+    /// A key that is a text, with its begin and its end.
+    TextKey(String),
     Flatten,
 }
 

@@ -1,80 +1,147 @@
 // The serializer: it writes down what serde's data send, and refuses at once what no value can hold.
-ghost use Rattle.std.specs.Prelude.{◌≡◌, [], ◌∷◌, ◌++◌, Some, OnOk};
-ghost use Rattle.serde.specs.Event.{Event};
-ghost use Rattle.upon_serde.specs.Notes.{event_of, events_of};
+ghost use Rattle.std.specs.Prelude.{◌≡◌, [], ◌∷◌, ◌++◌, Some, OnOk, IfOk, string_bytes};
+ghost use Rattle.serde.specs.Event as event;
+ghost use Rattle.upon_serde.specs.Notes.{noted, events_of, begun, sent};
 
-use crate::fault::{fault, integer};
+use crate::fault::{Refused, Result, integer};
 use crate::note::{Note, Notes};
 use serde::{Case, Serializer};
 use std::alloc::Global;
 use std::collections::VecDeque;
 use std::fmt::Display;
-use upon_types::error::{Error, Result};
+use std::mem;
+
+/// What was sent of a key of a map.
+#[derive(Drop)]
+pub enum Key {
+    /// Nothing: no key is open.
+    None,
+    /// Its begin, which is not noted yet.
+    Begun,
+    /// Its begin and a text, which are not noted yet.
+    Text(String),
+    /// What is noted.
+    Noted,
+}
 
 /// A serializer that keeps what it is sent.
 #[derive(Drop)]
 pub struct Recorder {
     alloc: Global,
-    notes: Notes,
-    /// Whether the next value is a key of a map.
-    at_key: bool,
+    notes: Vec<Note>,
+    key: Key,
 }
 
 impl Recorder {
     /// Creates a recorder that was sent nothing yet.
     pub fn new(alloc: Global) -> Recorder
-        ensures { events_of result.notes ≡ [] }
+        ensures { sent result ≡ [] }
     {
         Recorder {
             alloc,
-            notes: VecDeque::new(alloc),
-            at_key: false,
+            notes: Vec::new(alloc),
+            key: Key::None,
         }
     }
 
     /// Returns what it was sent.
-    pub fn into_notes(self) -> Notes
-        ensures { result ≡ self.notes }
+    pub fn into_notes(mut self) -> Result<Notes>
+        ensures { IfOk result (λ notes. events_of notes ≡ sent self) }
     {
+        self.settle()?;
         let Recorder { notes, .. } = self;
-        notes
+        Ok(VecDeque::from(notes))
     }
 
-    fn note(&mut self, note: Note) -> Result<()>
-        ensures { OnOk result (events_of self.new.notes ≡ events_of self.old.notes ++ event_of note ∷ []) }
+    #[inline(always)]
+    fn push(&mut self, note: Note) -> Result<()>
+        ensures notes { OnOk result (self.new.notes.items ≡ self.old.notes.items ++ note ∷ []) }
+        ensures key { self.new.key ≡ self.old.key }
     {
-        self.notes.push_back(note)?;
+        self.notes.reserve(1)?;
+        self.notes.push_reserved(note);
         Ok(())
     }
 
-    // What may be a value, but no key.
-    fn note_value(&mut self, note: Note) -> Result<()>
-        ensures { OnOk result (events_of self.new.notes ≡ events_of self.old.notes ++ event_of note ∷ []) }
+    // Notes what is sent of a key and not noted yet.
+    #[inline(always)]
+    fn settle(&mut self) -> Result<()>
+        ensures sent { OnOk result (sent self.new ≡ sent self.old) }
+        ensures noted { OnOk result (begun self.new.key ≡ []) }
     {
-        if self.at_key {
-            return Err(self.no_key());
+        match self.key {
+            Key::None => Ok(()),
+            _ => self.settle_key(),
         }
-        self.note(note)
     }
 
-    fn no_key(&self) -> Error {
-        fault(self.alloc, "map key must be a string")
+    // The same, where a key is open.
+    #[inline(never)]
+    fn settle_key(&mut self) -> Result<()>
+        ensures sent { OnOk result (sent self.new ≡ sent self.old) }
+        ensures noted { OnOk result (begun self.new.key ≡ []) }
+    {
+        match mem::replace(&mut self.key, Key::Noted) {
+            Key::Begun => self.push(Note::BeginKey),
+            Key::Text(text) => {
+                self.push(Note::BeginKey)?;
+                self.push(Note::Text(text))
+            }
+            Key::None | Key::Noted => Ok(()),
+        }
+    }
+
+    #[inline(always)]
+    fn note(&mut self, note: Note) -> Result<()>
+        ensures { OnOk result (sent self.new ≡ sent self.old ++ noted note []) }
+    {
+        self.settle()?;
+        self.push(note)
+    }
+
+    // What may be a value, but no key.
+    #[inline(always)]
+    fn note_value(&mut self, note: Note) -> Result<()>
+        ensures { OnOk result (sent self.new ≡ sent self.old ++ noted note []) }
+    {
+        match self.key {
+            Key::None => self.push(note),
+            _ => Err(self.no_key()),
+        }
+    }
+
+    // A text, which may be a key.
+    #[inline(always)]
+    fn note_text(&mut self, text: String) -> Result<()>
+        ensures { OnOk result (sent self.new ≡ sent self.old ++ event.text (string_bytes text) ∷ []) }
+    {
+        match self.key {
+            Key::Begun => {
+                self.key = Key::Text(text);
+                Ok(())
+            }
+            _ => self.note(Note::Text(text)),
+        }
+    }
+
+    #[inline(never)]
+    fn no_key(&self) -> Refused {
+        Refused::new(self.alloc, "map key must be a string")
     }
 
     // What is neither a value nor a key.
-    fn refusal(&self, reason: &str) -> Error {
-        if self.at_key {
-            self.no_key()
-        } else {
-            fault(self.alloc, reason)
+    fn refusal(&self, reason: &str) -> Refused {
+        match self.key {
+            Key::None => Refused::new(self.alloc, reason),
+            _ => self.no_key(),
         }
     }
 }
 
 impl Serializer for Recorder {
-    type Error = Error;
+    type Error = Refused;
 
-    ghost written = { λ recorder. Some (events_of recorder.notes) };
+    ghost written = { λ recorder. Some (sent recorder) };
 
     fn bool(&mut self, v: bool) -> Result<()> {
         self.note_value(Note::Bool(v))
@@ -85,7 +152,7 @@ impl Serializer for Recorder {
     }
 
     fn u64(&mut self, v: u64) -> Result<()> {
-        if !self.at_key {
+        if matches!(self.key, Key::None) {
             integer(self.alloc, v)?;
         }
         self.note(Note::Unsigned(v))
@@ -113,7 +180,7 @@ impl Serializer for Recorder {
 
     fn str(&mut self, v: &str) -> Result<()> {
         let text = String::from_str(self.alloc, v)?;
-        self.note(Note::Text(text))
+        self.note_text(text)
     }
 
     fn bytes(&mut self, v: &[u8]) -> Result<()> {
@@ -157,26 +224,32 @@ impl Serializer for Recorder {
     }
 
     fn begin_key(&mut self) -> Result<()> {
-        self.note(Note::BeginKey)?;
-        self.at_key = true;
+        self.settle()?;
+        self.key = Key::Begun;
         Ok(())
     }
 
     fn end_key(&mut self) -> Result<()> {
-        self.at_key = false;
-        self.note(Note::EndKey)
+        match mem::replace(&mut self.key, Key::None) {
+            Key::Text(text) => self.push(Note::TextKey(text)),
+            Key::Begun => {
+                self.push(Note::BeginKey)?;
+                self.push(Note::EndKey)
+            }
+            _ => self.push(Note::EndKey),
+        }
     }
 
     fn flatten_next(&mut self) -> Result<()> {
         self.note(Note::Flatten)
     }
 
-    fn custom(&self, message: &str) -> Error {
-        fault(self.alloc, message)
+    fn custom(&self, message: &str) -> Refused {
+        Refused::new(self.alloc, message)
     }
 
     fn collect_str<T: Display>(&mut self, value: &T) -> Result<()> {
         let text = format!(in self.alloc; "{value}")?;
-        self.note(Note::Text(text))
+        self.note_text(text)
     }
 }

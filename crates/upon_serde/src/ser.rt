@@ -7,7 +7,7 @@ ghost use Rattle.upon_serde.specs.Reads.{ReadsDatum};
 ghost use Rattle.upon_serde.specs.Refusal.{IsRefusal};
 
 use crate::build;
-use crate::fault::refusal;
+use crate::fault::{self, refusal};
 use crate::recorder::Recorder;
 use serde::Serialize;
 use std::alloc::Global;
@@ -40,16 +40,16 @@ pub fn to_value<T: Serialize + Drop>(alloc: Global, value: T) -> Result<Value>
 {
     match read(alloc, value) {
         Ok(value) => Ok(value),
-        Err(error) => Err(refusal(alloc, error)),
+        Err(refused) => Err(refusal(alloc, refused.into_error())),
     }
 }
 
 // The same, with whatever error an implementation answers.
-fn read<T: Serialize + Drop>(alloc: Global, value: T) -> Result<Value>
+fn read<T: Serialize + Drop>(alloc: Global, value: T) -> fault::Result<Value>
     ensures { IfOk result
         (λ v. (log : List Event) × T.writes value (Some []) (Some log) × ReadsDatum log [] (view v)) }
 {
     let mut recorder = Recorder::new(alloc);
     value.serialize(&mut recorder)?;
-    build::whole_value(alloc, recorder.into_notes())
+    build::whole_value(alloc, recorder.into_notes()?)
 }

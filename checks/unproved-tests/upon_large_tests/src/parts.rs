@@ -1,6 +1,7 @@
 // Many or large parts of one kind: names, paths, filters, arguments, branches, literals, contexts and copies.
 use std::alloc::{AllocError, Global};
 use std::borrow::CowStr;
+use std::collections::BTreeMap;
 use std::test::Fail;
 use upon::{Engine, Value};
 use upon_serde::to_value;
@@ -184,6 +185,25 @@ fn lists_by_serde(rt: HostRuntime) -> Result<(), Fail> {
     match to_value(alloc, &items)? {
         Value::List(values) => assert_eq!(&rt; values.len(), 5_000),
         _ => return Err(Fail::new("no list")),
+    }
+    Ok(())
+}
+
+// A map that serde writes has all of its entries, each under its name.
+#[test]
+fn maps_by_serde(rt: HostRuntime) -> Result<(), Fail> {
+    let alloc = rt.alloc();
+    let mut map = BTreeMap::new(alloc);
+    for i in 0..5_000u32 {
+        drop(map.insert(format!(in alloc; "k{i}")?, i)?);
+    }
+    let Value::Map(entries) = to_value(alloc, &map)? else {
+        return Err(Fail::new("no map"));
+    };
+    assert_eq!(&rt; entries.len(), 5_000);
+    for i in 0..5_000u32 {
+        let found = entries.get(&format!(in alloc; "k{i}")?);
+        assert!(&rt; matches!(found, Some(Value::Integer(number)) if *number == i64::from(i)));
     }
     Ok(())
 }

@@ -5,7 +5,8 @@ use Rattle.upon_types.specs.Val.{Val}
 use Rattle.upon_types.specs.View.{view}
 use Rattle.upon_serde.specs.Data.{Pairs}
 use Rattle.upon_serde.specs.Notes.{events_of}
-use Rattle.upon_serde.specs.Reads.{ReadsItems, ReadsMembers, pairs_of}
+use Rattle.upon_serde.specs.Reads.{ReadsItems, ReadsMembers}
+use Rattle.upon_serde.specs.Put.{pairs_so_far}
 use Rattle.upon_serde.proofs.build.+build.Given as goal
 
 -- each call looks at fewer notes, or at the same ones on the way to the value that takes one
@@ -37,7 +38,7 @@ decreases-items-loop-alloc l = deque_len l.notes
 abbrev pub invariant-members-loop-note : goal.invariant-members-loop-note
 invariant-members-loop-note l =
     (deque_len l.notes ≤ deque_len l.initial.notes)
-    × ((after : List Event) (new : Pairs) → ReadsMembers (events_of l.notes) after (pairs_of l.entries.entries) new → ReadsMembers (events_of l.initial.notes) after (pairs_of l.initial.entries.entries) new)
+    × ((after : List Event) (new : Pairs) → ReadsMembers (events_of l.notes) after (pairs_so_far l.entries) new → ReadsMembers (events_of l.initial.notes) after (pairs_so_far l.initial.entries) new)
 
 abbrev pub decreases-members-loop-note : goal.decreases-members-loop-note
 decreases-members-loop-note l = deque_len l.notes
