@@ -14,7 +14,7 @@ use Rattle.upon_render.specs.Environment.{Root, context, value_source, nothing, 
 use Rattle.upon_render.specs.Finding.{Finding, found, at_fault, Reply, reply}
 use Rattle.upon_render.specs.Frames.{frame_over, frames_over, frame_lends, frames_lend}
 use Rattle.upon_render.specs.Seen.{FindsMade, LooksUp, RootTells, made_view}
-use Rattle.upon_render.specs.Lookup.{or_not_in_scope, or_root, root_value, lookup}
+use Rattle.upon_render.specs.Lookup.{or_root, root_value, lookup}
 use Rattle.upon_render.specs.Settled.{Known, known, root_settles, or_root_settles, Settles, Finds}
 use Rattle.upon_render.specs.Source.{Source}
 use Rattle.upon_render.specs.declared.stack.State.{State}

@@ -413,8 +413,7 @@ fn made_of_key<'s>(
 {
     match (vars, item) {
         (LoopVars::KeyValue(both), Item::Entry(key, _))
-            if name == both.key.name.as_str() && path.is_empty() =>
-        {
+            if name == both.key.name.as_str() && path.is_empty() => {
             Some(Made::Text(key.as_str()))
         }
         _ => None,

@@ -10,7 +10,7 @@ ghost use Rattle.upon_meaning_spec.specs.Evaluation.{answer_value, call_value, m
 ghost use Rattle.upon_vm_calls.specs.Halt.{IsHalt, Finds};
 ghost use Rattle.upon_vm_calls.specs.Operands.{row};
 
-use crate::callables::{Called, Callables};
+use crate::callables::{Callables, Called};
 use crate::depth::{DEPTH_LIMIT, fits};
 use crate::fault::{self, Halt};
 use std::alloc::Global;
