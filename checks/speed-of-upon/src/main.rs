@@ -1,5 +1,5 @@
-// speed-of-upon WORK FILE TIMES: the same work as crates/upon_bench (`compile`, `render`, `large`, `copy`, `compare`,
-// `drop`) over the crate upon, for `checks/measure`.
+// speed-of-upon WORK FILE TIMES: the same work as crates/upon_bench (`compile`, `render`, `large`, `serde`,
+// `serde-large`, `copy`, `compare`, `drop`) over the crate upon, for `checks/measure`.
 // speed-of-upon program FILE [KEY=TEXT]..: the same as `upon-render`, over the crate upon.
 use std::collections::BTreeMap;
 use std::io::{self, BufWriter, Write};
@@ -106,12 +106,15 @@ fn main() {
             engine.compile(text.as_str()).unwrap();
         }
     } else {
-        let context = context(if args[0] == "large" { 10000 } else { 0 });
+        let by_serde = args[0].starts_with("serde");
+        let context = context(if args[0].ends_with("large") { 10000 } else { 0 });
         engine.add_template("row", "{{ r.name }}").unwrap();
         engine.add_template("main", text.as_str()).unwrap();
         let mut size = 0;
         for _ in 0..times {
-            size = engine.template("main").render_from(&context).to_string().unwrap().len();
+            let main = engine.template("main");
+            let text = if by_serde { main.render(&context).to_string() } else { main.render_from(&context).to_string() };
+            size = text.unwrap().len();
         }
         eprintln!("{size}");
     }

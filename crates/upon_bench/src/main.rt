@@ -85,6 +85,8 @@ enum EngineWork {
     Compile,
     // Render, on the context with so many more names.
     Render(u32),
+    // The same, where serde writes the context anew each time.
+    Serde(u32),
 }
 
 // Does a piece of work so often with an engine that has callables, and a template to be included.
@@ -104,6 +106,10 @@ fn works(alloc: Global, work: EngineWork, text: &str, times: usize) -> UponResul
             engine.add_template(CowStr::Borrowed("main"), CowStr::Borrowed(text))?;
             renders(&engine, &context::context(alloc, more)?, times)
         }
+        EngineWork::Serde(more) => {
+            engine.add_template(CowStr::Borrowed("main"), CowStr::Borrowed(text))?;
+            renders_by_serde(&engine, &context::context(alloc, more)?, times)
+        }
     }
 }
 
@@ -120,6 +126,16 @@ fn renders(engine: &Engine<'_>, context: &Value, times: usize) -> UponResult<()>
     for _ in 0..times {
         if let Some(main) = engine.get_template("main") {
             let _text = main.render_from(context).to_string()?;
+        }
+    }
+    Ok(())
+}
+
+// Does the same, where serde writes the context anew each time.
+fn renders_by_serde(engine: &Engine<'_>, context: &Value, times: usize) -> UponResult<()> {
+    for _ in 0..times {
+        if let Some(main) = engine.get_template("main") {
+            let _text = main.render(context).to_string()?;
         }
     }
     Ok(())
@@ -159,6 +175,8 @@ fn is_done(rt: &HostRuntime, alloc: Global, call: &Call) -> bool {
         "compile" => works(alloc, EngineWork::Compile, text, call.times).is_ok(),
         "render" => works(alloc, EngineWork::Render(0), text, call.times).is_ok(),
         "large" => works(alloc, EngineWork::Render(10_000), text, call.times).is_ok(),
+        "serde" => works(alloc, EngineWork::Serde(0), text, call.times).is_ok(),
+        "serde-large" => works(alloc, EngineWork::Serde(10_000), text, call.times).is_ok(),
         other => match syntax_of(alloc, other) {
             Ok(syntax) => compiles(alloc, &syntax, text, call.times),
             Err(_) => false,
