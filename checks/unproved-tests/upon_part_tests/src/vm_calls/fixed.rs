@@ -8,7 +8,7 @@ use std::alloc::{AllocError, Global};
 use upon_fmt::fmt::{self, Formatter, default};
 use upon_functions::function::{ArgError, CallError};
 use upon_types::value::{Value, ValueCow};
-use upon_vm_calls::callables::{Applied, Callables, EngineCallable};
+use upon_vm_calls::callables::{Applied, Callables, Called};
 
 // What each name stands for.
 #[derive(Clone, Copy)]
@@ -50,33 +50,16 @@ fn refused(_error: AllocError) -> CallError
     CallError::Memory
 }
 
-impl Callables for Fixed {
-    ghost use Rattle.upon_part_tests.specs.Fixed.{callable_of};
-    ghost use Rattle.upon_meaning_spec.specs.DefaultFormat.{default_format};
-
-    ghost callables = { λ s _. callable_of s };
-
-    ghost default_formatter = { λ _. default_format };
-
-    fn get(&self, _name: &str) -> Option<EngineCallable> {
-        match self {
-            Fixed::Nothing => None,
-            Fixed::Formats => Some(EngineCallable::Formatter),
-            Fixed::Seven => Some(EngineCallable::Function),
-            Fixed::Refuses => Some(EngineCallable::Function),
-            Fixed::WantsBool => Some(EngineCallable::Function),
-            Fixed::Nests(_) => Some(EngineCallable::Function),
-        }
-    }
-
-    fn call(&self, alloc: Global, _name: &str, args: &[ValueCow]) -> Result<Value, CallError> {
+impl Fixed {
+    // What the function answers.
+    fn answer(&self, alloc: Global, values: &[ValueCow]) -> Result<Value, CallError> {
         match self {
             Fixed::Nothing => Err(CallError::Memory),
             Fixed::Formats => Err(CallError::Memory),
             Fixed::Seven => Ok(Value::Integer(7)),
             Fixed::Refuses => Err(no(alloc)),
             Fixed::WantsBool => {
-                if args.is_empty() {
+                if values.is_empty() {
                     return Err(CallError::Arity(1));
                 }
                 Err(CallError::Arg(0, ArgError::WrongType("bool")))
@@ -87,13 +70,30 @@ impl Callables for Fixed {
             },
         }
     }
+}
 
-    fn apply(&self, alloc: Global, name: &str, f: &mut Formatter, values: &[ValueCow]) -> Applied {
+impl Callables for Fixed {
+    ghost use Rattle.upon_part_tests.specs.Fixed.{callable_of};
+    ghost use Rattle.upon_meaning_spec.specs.DefaultFormat.{default_format};
+
+    ghost callables = { λ s _. callable_of s };
+
+    ghost default_formatter = { λ _. default_format };
+
+    fn call(&self, alloc: Global, _name: &str, values: &[ValueCow]) -> Called {
+        match self {
+            Fixed::Nothing => Called::Unknown,
+            Fixed::Formats => Called::Formatter,
+            _ => Called::Function(self.answer(alloc, values)),
+        }
+    }
+
+    fn apply(&self, alloc: Global, _name: &str, f: &mut Formatter, values: &[ValueCow]) -> Applied {
         match self {
             Fixed::Nothing => Applied::Unknown,
             Fixed::Formats if values.len() == 1 => Applied::Formatted(default(f, &values[0])),
             Fixed::Formats => Applied::Miscounted,
-            _ => Applied::Called(self.call(alloc, name, values)),
+            _ => Applied::Called(self.answer(alloc, values)),
         }
     }
 
