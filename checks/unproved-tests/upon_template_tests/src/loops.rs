@@ -53,6 +53,39 @@ fn texts(rt: HostRuntime) -> std::result::Result<(), Fail> {
     all_answer(alloc, &Engine::new(alloc), &context(alloc)?, &rows)
 }
 
+// Values that a frame has, and what a loop says of itself: shown, tested, and put into lists.
+#[test]
+fn values_of_frames(rt: HostRuntime) -> std::result::Result<(), Fail> {
+    let alloc = rt.alloc();
+    let rows = [
+        (
+            "{% for x in [{\"a\": {\"b\": \"t\"} }] %}{{ x.a.b }}{% if x.a.b %}!{% endif %}{% endfor %}",
+            "t!",
+        ),
+        (
+            "{% for k, v in {\"a\": [1], \"b\": []} %}{{ k }}{% if v %}1{% endif %}{% endfor %}",
+            "a1b",
+        ),
+        (
+            "{% for k, v in {\"\": 1} %}{% if k %}a{% else %}b{% endif %}{% endfor %}",
+            "b",
+        ),
+        (
+            "{% for x in xs %}{% with {\"index\": 7} as loop %}{{ loop.index }}{% endwith %}{{ loop.index }}{% endfor %}",
+            "7071",
+        ),
+        (
+            "{% for x in xs %}{% for y in [x, loop.index] %}{{ y }}{{ loop.index }}{% endfor %};{% endfor %}",
+            "a001;b011;",
+        ),
+        (
+            "{% for k, v in m %}{% for x in [k, v] %}{{ x }}{% endfor %}{% endfor %}",
+            "a2b1",
+        ),
+    ];
+    all_answer(alloc, &Engine::new(alloc), &context(alloc)?, &rows)
+}
+
 #[test]
 fn other_branches(rt: HostRuntime) -> std::result::Result<(), Fail> {
     let alloc = rt.alloc();

@@ -96,6 +96,10 @@ fn other_values(rt: HostRuntime) -> std::result::Result<(), Fail> {
     let rows = [
         ("{{ yes }} {{ n }} {{ no }}.", "true -5 ."),
         (
+            "{% for k, v in {\"a<\": 1} %}{{ k }}{{ loop.index }}{{ loop.last }}{% endfor %}",
+            "a&lt;0true",
+        ),
+        (
             "{{ list }}",
             "format error: expression evaluated to unformattable type list at 3..7",
         ),
