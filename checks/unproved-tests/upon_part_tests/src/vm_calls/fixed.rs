@@ -50,28 +50,6 @@ fn refused(_error: AllocError) -> CallError
     CallError::Memory
 }
 
-impl Fixed {
-    // What the function answers.
-    fn answer(&self, alloc: Global, values: &[ValueCow]) -> Result<Value, CallError> {
-        match self {
-            Fixed::Nothing => Err(CallError::Memory),
-            Fixed::Formats => Err(CallError::Memory),
-            Fixed::Seven => Ok(Value::Integer(7)),
-            Fixed::Refuses => Err(no(alloc)),
-            Fixed::WantsBool => {
-                if values.is_empty() {
-                    return Err(CallError::Arity(1));
-                }
-                Err(CallError::Arg(0, ArgError::WrongType("bool")))
-            }
-            Fixed::Nests(depth) => match nested(alloc, *depth) {
-                Ok(value) => Ok(value),
-                Err(error) => Err(refused(error)),
-            },
-        }
-    }
-}
-
 impl Callables for Fixed {
     ghost use Rattle.upon_part_tests.specs.Fixed.{callable_of};
     ghost use Rattle.upon_meaning_spec.specs.DefaultFormat.{default_format};
@@ -84,16 +62,25 @@ impl Callables for Fixed {
         match self {
             Fixed::Nothing => Called::Unknown,
             Fixed::Formats => Called::Formatter,
-            _ => Called::Function(self.answer(alloc, values)),
+            Fixed::Seven => Called::Function(Ok(Value::Integer(7))),
+            Fixed::Refuses => Called::Function(Err(no(alloc))),
+            Fixed::WantsBool if values.is_empty() => Called::Function(Err(CallError::Arity(1))),
+            Fixed::WantsBool => {
+                Called::Function(Err(CallError::Arg(0, ArgError::WrongType("bool"))))
+            }
+            Fixed::Nests(depth) => match nested(alloc, *depth) {
+                Ok(value) => Called::Function(Ok(value)),
+                Err(error) => Called::Function(Err(refused(error))),
+            },
         }
     }
 
-    fn apply(&self, alloc: Global, _name: &str, f: &mut Formatter, values: &[ValueCow]) -> Applied {
-        match self {
-            Fixed::Nothing => Applied::Unknown,
-            Fixed::Formats if values.len() == 1 => Applied::Formatted(default(f, &values[0])),
-            Fixed::Formats => Applied::Miscounted,
-            _ => Applied::Called(self.answer(alloc, values)),
+    fn apply(&self, alloc: Global, name: &str, f: &mut Formatter, values: &[ValueCow]) -> Applied {
+        match self.call(alloc, name, values) {
+            Called::Unknown => Applied::Unknown,
+            Called::Formatter if values.len() == 1 => Applied::Formatted(default(f, &values[0])),
+            Called::Formatter => Applied::Miscounted,
+            Called::Function(answer) => Applied::Called(answer),
         }
     }
 
