@@ -1,12 +1,13 @@
 -- Notes one after the other, and the events that they are of.
-use Rattle.std.proofs.Common.{◌≡◌, List, [], ◌∷◌, ◌++◌, String, Global, refl, sym, ap, ◌∙◌}
+use Rattle.std.proofs.Common.{◌≡◌, List, [], ◌∷◌, ◌++◌, String, Vec, Global, refl, sym, ap, ◌∙◌}
+use Rattle.std.proofs.lemmas.List.{append_assoc, append-nil}
 use Rattle.serde.specs.Event as event
 use Rattle.serde.specs.Event.{Event}
 use Rattle.upon_serde.specs.declared.note.Note.{Note}
 use Rattle.upon_serde.specs.declared.note.Note.TheVariants as note
 use Rattle.upon_serde.specs.declared.recorder.Key.{Key}
 use Rattle.upon_serde.specs.declared.recorder.Key.TheVariants as key
-use Rattle.upon_serde.specs.Notes.{event_of, noted, events_from, begun}
+use Rattle.upon_serde.specs.Notes.{event_of, noted, events_from, joined, begun}
 
 -- a note of one event
 pub noted_one : (n : Note) (after : List Event) → (event_of n ≡ event.key_begins → ⊥) → noted n after ≡ event_of n ∷ after
@@ -17,13 +18,14 @@ noted_one (note.Unsigned k) after other = refl
 noted_one (note.Char c) after other = refl
 noted_one (note.Text s) after other = refl
 noted_one (note.Bytes bytes) after other = refl
-noted_one (note.UnitVariant name case) after other = refl
+noted_one (note.UnitVariant case name) after other = refl
 noted_one (note.BeginSeq length) after other = refl
 noted_one note.EndSeq after other = refl
 noted_one (note.BeginMap length) after other = refl
+noted_one (note.BeginRoom length room) after other = refl
 noted_one note.EndMap after other = refl
-noted_one (note.FieldKey name case) after other = refl
-noted_one (note.VariantKey name case) after other = refl
+noted_one (note.FieldKey case name) after other = refl
+noted_one (note.VariantKey case name) after other = refl
 noted_one note.BeginKey after other = refl
 noted_one note.EndKey after other = refl
 noted_one (note.TextKey s) after other = absurd (other refl)
@@ -37,13 +39,14 @@ noted_then (note.Unsigned k) a b = refl
 noted_then (note.Char c) a b = refl
 noted_then (note.Text s) a b = refl
 noted_then (note.Bytes bytes) a b = refl
-noted_then (note.UnitVariant name case) a b = refl
+noted_then (note.UnitVariant case name) a b = refl
 noted_then (note.BeginSeq length) a b = refl
 noted_then note.EndSeq a b = refl
 noted_then (note.BeginMap length) a b = refl
+noted_then (note.BeginRoom length room) a b = refl
 noted_then note.EndMap a b = refl
-noted_then (note.FieldKey name case) a b = refl
-noted_then (note.VariantKey name case) a b = refl
+noted_then (note.FieldKey case name) a b = refl
+noted_then (note.VariantKey case name) a b = refl
 noted_then note.BeginKey a b = refl
 noted_then note.EndKey a b = refl
 noted_then (note.TextKey s) a b = refl
@@ -75,3 +78,9 @@ all_noted key.None begun text = refl
 all_noted key.Begun begun text = absurd (begun refl)
 all_noted (key.Text s) begun text = absurd (text s refl)
 all_noted key.Noted begun text = refl
+
+-- a block more
+pub joined_end : (blocks : List (Vec Note Global)) (block : Vec Note Global) → joined (blocks ++ block ∷ []) ≡ joined blocks ++ block.items
+joined_end [] block = append-nil block.items
+joined_end (first ∷ blocks) block =
+    ap (λ notes. first.items ++ notes) (joined_end blocks block) ∙ sym (append_assoc first.items (joined blocks) block.items)

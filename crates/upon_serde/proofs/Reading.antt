@@ -49,11 +49,15 @@ reads_inner_key n before mid after word first second is =
 no_datum : (e : Event) (v : Val) → e ≡ event.key_begins → option_map value_of (datum_of e) ≡ Some v → ⊥
 no_datum e v begins is = cc
 
--- the same of a call that answers such a value
-pub reads_note_ok : {E : Type 0} (n : Note) (before after : List Event) (r : Result Value E) → before ≡ noted n after → IfOk r (λ v. option_map value_of (datum_of (event_of n)) ≡ Some (view v)) → IfOk r (λ v. ReadsDatum before after (view v))
-reads_note_ok n before after (Ok v) begins is =
+-- a note of a value alone
+pub reads_note : (n : Note) (before after : List Event) (v : Value) → before ≡ noted n after → option_map value_of (datum_of (event_of n)) ≡ Some (view v) → ReadsDatum before after (view v)
+reads_note n before after v begins is =
     let one = noted_one n after (λ key. no_datum (event_of n) (view v) key is) in
     subst (λ es. ReadsDatum es after (view v)) (sym (begins ∙ one)) (reads_one (event_of n) after (view v) is)
+
+-- the same of a call that answers such a value
+pub reads_note_ok : {E : Type 0} (n : Note) (before after : List Event) (r : Result Value E) → before ≡ noted n after → IfOk r (λ v. option_map value_of (datum_of (event_of n)) ≡ Some (view v)) → IfOk r (λ v. ReadsDatum before after (view v))
+reads_note_ok n before after (Ok v) begins is = reads_note n before after v begins is
 reads_note_ok n before after (Err error) begins is = tt
 
 -- ---- items

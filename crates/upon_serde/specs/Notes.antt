@@ -1,10 +1,10 @@
 -- What a note says that was sent, and what a recorder was sent.
-use Rattle.std.specs.Prelude.{List, [], ◌∷◌, string_bytes}
+use Rattle.std.specs.Prelude.{ℕ, List, [], ◌∷◌, ◌++◌, Some, Vec, length, string_bytes}
 use Rattle.std.specs.declared.alloc.Global.{Global}
-use Rattle.std.specs.declared.collections.VecDeque.{VecDeque}
 use Rattle.serde.specs.Event as event
 use Rattle.serde.specs.Event.{Event}
 use Rattle.upon_serde.specs.declared.note.Note.{Note}
+use Rattle.upon_serde.specs.declared.note.Notes.{Notes}
 use Rattle.upon_serde.specs.declared.note.Note.TheVariants as note
 use Rattle.upon_serde.specs.declared.recorder.Key.{Key}
 use Rattle.upon_serde.specs.declared.recorder.Key.TheVariants as key
@@ -19,13 +19,14 @@ event_of (note.Unsigned n) = event.unsigned n
 event_of (note.Char c) = event.character c
 event_of (note.Text s) = event.text (string_bytes s)
 event_of (note.Bytes bytes) = event.octets bytes.items
-event_of (note.UnitVariant name case) = event.unit_variant (string_bytes name) case
+event_of (note.UnitVariant case name) = event.unit_variant (string_bytes name) case
 event_of (note.BeginSeq length) = event.seq_begins length
 event_of note.EndSeq = event.seq_ends
 event_of (note.BeginMap length) = event.map_begins length
+event_of (note.BeginRoom length room) = event.map_begins (Some length)
 event_of note.EndMap = event.map_ends
-event_of (note.FieldKey name case) = event.field_key (string_bytes name) case
-event_of (note.VariantKey name case) = event.variant_key (string_bytes name) case
+event_of (note.FieldKey case name) = event.field_key (string_bytes name) case
+event_of (note.VariantKey case name) = event.variant_key (string_bytes name) case
 event_of note.BeginKey = event.key_begins
 event_of note.EndKey = event.key_ends
 event_of (note.TextKey s) = event.key_begins
@@ -41,9 +42,21 @@ abbrev pub events_from : List Note → List Event → List Event
 events_from [] after = after
 events_from (n ∷ ns) after = noted n (events_from ns after)
 
+-- the notes of blocks, one after the other
+abbrev pub joined : List (Vec Note Global) → List Note
+joined [] = []
+joined (block ∷ blocks) = block.items ++ joined blocks
+
+-- the notes that are left, and how many they are
+abbrev pub notes_in : Notes → List Note
+notes_in notes = notes.first.items ++ joined notes.rest
+
+abbrev pub notes_left : Notes → ℕ
+notes_left notes = length (notes_in notes)
+
 -- the events that notes are of
-abbrev pub events_of : VecDeque Note Global → List Event
-events_of notes = events_from notes.items []
+abbrev pub events_of : Notes → List Event
+events_of notes = events_from (notes_in notes) []
 
 -- the events of a key that are not noted yet
 abbrev pub begun : Key → List Event
@@ -52,6 +65,10 @@ begun key.Begun = event.key_begins ∷ []
 begun (key.Text s) = event.key_begins ∷ event.text (string_bytes s) ∷ []
 begun key.Noted = []
 
+-- what a recorder noted
+abbrev pub notes_of : Recorder → List Note
+notes_of recorder = joined recorder.full ++ recorder.notes.items
+
 -- what a recorder was sent
 abbrev pub sent : Recorder → List Event
-sent recorder = events_from recorder.notes.items (begun recorder.key)
+sent recorder = events_from (notes_of recorder) (begun recorder.key)

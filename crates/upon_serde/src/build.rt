@@ -1,12 +1,11 @@
 // From what serde's data sent to the value.
-ghost use Rattle.std.specs.Prelude.{◌≡◌, ◌<◌, ◌≤◌, ◌+◌, [], ◌∷◌, Some, pos, map, option_map, OnOk, IfOk, if◌then◌else◌, string_bytes, encode_utf8};
-ghost use Rattle.std.specs.VecDeque.{deque_len};
-ghost use Rattle.serde.specs.Event.{seq_ends, key_begins};
+ghost use Rattle.std.specs.Prelude.{◌≡◌, ◌<◌, ◌≤◌, ◌+◌, [], ◌∷◌, Some, pos, map, option_map, OnOk, IfOk, string_bytes, encode_utf8};
+ghost use Rattle.serde.specs.Event.{key_begins};
 ghost use Rattle.serde.specs.Spelling.{spelled};
 ghost use Rattle.upon_types.specs.Val.{int_val};
 ghost use Rattle.upon_types.specs.View.{view};
 ghost use Rattle.upon_serde.specs.Data.{key_text, value_of};
-ghost use Rattle.upon_serde.specs.Notes.{event_of, noted, events_of};
+ghost use Rattle.upon_serde.specs.Notes.{event_of, noted, notes_left, events_of};
 ghost use Rattle.upon_serde.specs.Put.{pairs_so_far};
 ghost use Rattle.upon_serde.specs.Reads.{ReadsDatum, ReadsItems, ReadsMembers, ReadsFlattened, ReadsKey, datum_of, key_of, pairs_of};
 
@@ -35,14 +34,21 @@ pub fn whole_value(alloc: Global, mut notes: Notes) -> Result<Value>
 #[inline(always)]
 fn value(alloc: Global, notes: &mut Notes) -> Result<Value>
     ensures reads { IfOk result (λ v. ReadsDatum (events_of notes.old) (events_of notes.new) (view v)) }
-    ensures shorter { OnOk result (deque_len notes.new < deque_len notes.old) }
+    ensures shorter { OnOk result (notes_left notes.new < notes_left notes.old) }
 {
     let Some(note) = notes.pop_front() else {
         return Err(Refused::incomplete(alloc));
     };
     match note {
+        Note::Text(text) => Ok(Value::String(text)),
+        Note::Bool(truth) => Ok(Value::Bool(truth)),
         Note::BeginSeq(_) => Ok(Value::List(items(alloc, notes)?)),
-        Note::BeginMap(len) => Ok(Value::Map(map(alloc, notes, len)?)),
+        Note::BeginMap(len) => Ok(Value::Map(map(alloc, notes, Entries::new(alloc, len))?)),
+        Note::BeginRoom(_, room) => Ok(Value::Map(map(
+            alloc,
+            notes,
+            Entries::within(alloc, room),
+        )?)),
         note => simple_value(alloc, note),
     }
 }
@@ -60,7 +66,7 @@ fn simple_value(alloc: Global, note: Note) -> Result<Value>
         Note::Char(character) => Ok(Value::String(one_character(alloc, character)?)),
         Note::Text(text) => Ok(Value::String(text)),
         Note::Bytes(bytes) => Ok(Value::List(integers(alloc, &bytes)?)),
-        Note::UnitVariant(name, case) => {
+        Note::UnitVariant(case, name) => {
             Ok(Value::String(spelled(alloc, NameKind::Variant, name, case)?))
         }
         _ => Err(Refused::incomplete(alloc)),
@@ -71,10 +77,10 @@ fn simple_value(alloc: Global, note: Note) -> Result<Value>
 #[cycle(build)]
 fn items(alloc: Global, notes: &mut Notes) -> Result<Vec<Value>>
     ensures reads { IfOk result (λ vs. ReadsItems (events_of notes.old) (events_of notes.new) (map view vs.items)) }
-    ensures shorter { OnOk result (deque_len notes.new < deque_len notes.old) }
+    ensures shorter { OnOk result (notes_left notes.new < notes_left notes.old) }
 {
     let mut items = Vec::new(alloc);
-    while !takes_end_of_seq(notes) {
+    while !notes.takes_end_of_seq() {
         let item = value(alloc, notes)?;
         items.reserve(1)?;
         items.push_reserved(item);
@@ -82,14 +88,14 @@ fn items(alloc: Global, notes: &mut Notes) -> Result<Vec<Value>>
     Ok(items)
 }
 
-// The map of the members up to its end.
+// The map of entries and the members up to its end.
 #[cycle(build)]
-fn map(alloc: Global, notes: &mut Notes, len: Option<usize>) -> Result<BTreeMap<String, Value>>
+fn map(alloc: Global, notes: &mut Notes, entries: Entries) -> Result<BTreeMap<String, Value>>
     ensures reads { IfOk result
-        (λ m. ReadsMembers (events_of notes.old) (events_of notes.new) [] (pairs_of m.entries)) }
-    ensures shorter { OnOk result (deque_len notes.new < deque_len notes.old) }
+        (λ m. ReadsMembers (events_of notes.old) (events_of notes.new) (pairs_so_far entries) (pairs_of m.entries)) }
+    ensures shorter { OnOk result (notes_left notes.new < notes_left notes.old) }
 {
-    let mut entries = Entries::new(alloc, len);
+    let mut entries = entries;
     members(alloc, notes, &mut entries)?;
     entries.into_map(alloc)
 }
@@ -103,14 +109,17 @@ fn members(alloc: Global, notes: &mut Notes, entries: &mut Entries) -> Result<()
         (events_of notes.new)
         (pairs_so_far entries.old)
         (pairs_so_far entries.new)) }
-    ensures shorter { OnOk result (deque_len notes.new < deque_len notes.old) }
+    ensures shorter { OnOk result (notes_left notes.new < notes_left notes.old) }
 {
     while let Some(note) = notes.pop_front() {
         match note {
             Note::EndMap => return Ok(()),
             Note::Flatten => flattened(alloc, notes, entries)?,
             note => {
-                let key = key(alloc, note, notes)?;
+                let key = match note {
+                    Note::TextKey(text) => text,
+                    note => key(alloc, note, notes)?,
+                };
                 let value = value(alloc, notes)?;
                 entries.put(key, value)?;
             }
@@ -128,26 +137,26 @@ fn flattened(alloc: Global, notes: &mut Notes, entries: &mut Entries) -> Result<
         (events_of notes.new)
         (pairs_so_far entries.old)
         (pairs_so_far entries.new)) }
-    ensures shorter { OnOk result (deque_len notes.new < deque_len notes.old) }
+    ensures shorter { OnOk result (notes_left notes.new < notes_left notes.old) }
 {
     match notes.pop_front() {
-        Some(Note::BeginMap(_)) => members(alloc, notes, entries),
+        Some(Note::BeginMap(_) | Note::BeginRoom(..)) => members(alloc, notes, entries),
         Some(Note::Unit) => Ok(()),
         _ => Err(Refused::new(alloc, "can only flatten structs and maps")),
     }
 }
 
 // The text of a key that begins with a note, up to its end.
-#[inline(always)]
+#[inline(never)]
 fn key(alloc: Global, first: Note, notes: &mut Notes) -> Result<String>
     ensures reads { IfOk result
         (λ s. ReadsKey (noted first (events_of notes.old)) (events_of notes.new) (string_bytes s)) }
-    ensures shorter { OnOk result (deque_len notes.new ≤ deque_len notes.old) }
+    ensures shorter { OnOk result (notes_left notes.new ≤ notes_left notes.old) }
 {
     match first {
         Note::TextKey(text) => Ok(text),
-        Note::FieldKey(name, case) => Ok(spelled(alloc, NameKind::Field, name, case)?),
-        Note::VariantKey(name, case) => Ok(spelled(alloc, NameKind::Variant, name, case)?),
+        Note::FieldKey(case, name) => Ok(spelled(alloc, NameKind::Field, name, case)?),
+        Note::VariantKey(case, name) => Ok(spelled(alloc, NameKind::Variant, name, case)?),
         Note::BeginKey => inner_key(alloc, notes),
         _ => Err(Refused::incomplete(alloc)),
     }
@@ -158,7 +167,7 @@ fn key(alloc: Global, first: Note, notes: &mut Notes) -> Result<String>
 fn inner_key(alloc: Global, notes: &mut Notes) -> Result<String>
     ensures reads { IfOk result
         (λ s. ReadsKey (key_begins ∷ events_of notes.old) (events_of notes.new) (string_bytes s)) }
-    ensures shorter { OnOk result (deque_len notes.new ≤ deque_len notes.old) }
+    ensures shorter { OnOk result (notes_left notes.new ≤ notes_left notes.old) }
 {
     let Some(note) = notes.pop_front() else {
         return Err(Refused::incomplete(alloc));
@@ -179,21 +188,9 @@ fn simple_key(alloc: Global, note: Note) -> Result<String>
         Note::Unsigned(number) => Ok(format!(in alloc; "{number}")?),
         Note::Char(character) => Ok(one_character(alloc, character)?),
         Note::Text(text) => Ok(text),
-        Note::UnitVariant(name, case) => Ok(spelled(alloc, NameKind::Variant, name, case)?),
+        Note::UnitVariant(case, name) => Ok(spelled(alloc, NameKind::Variant, name, case)?),
         _ => Err(Refused::incomplete(alloc)),
     }
-}
-
-// Takes the end of a sequence, where it is next.
-fn takes_end_of_seq(notes: &mut Notes) -> bool
-    ensures end { events_of notes.old ≡ (if result then seq_ends ∷ events_of notes.new else events_of notes.new) }
-    ensures shorter { (if result then deque_len notes.new + 1 else deque_len notes.new) ≡ deque_len notes.old }
-{
-    let ends = matches!(notes.front(), Some(Note::EndSeq));
-    if ends {
-        notes.pop_front();
-    }
-    ends
 }
 
 // The text of one character.

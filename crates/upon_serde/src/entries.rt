@@ -11,8 +11,8 @@ use std::alloc::{AllocError, Global};
 use std::collections::BTreeMap;
 use upon_types::value::Value;
 
-// A map that says it is larger is made of its entries at once, which then takes less work.
-const LARGE: usize = 64;
+/// A map that says it is larger is made of its entries at once, which then takes less work.
+pub const LARGE: usize = 64;
 
 /// The entries of a map so far: a map, or for a large one all that came, in that order.
 #[derive(Drop)]
@@ -29,6 +29,18 @@ impl Entries {
         match len {
             Some(len) if len > LARGE => Entries::Row(Vec::new(alloc)),
             _ => Entries::Map(BTreeMap::new(alloc)),
+        }
+    }
+
+    /// Creates the entries of a map that has room for them.
+    #[inline(always)]
+    pub fn within(alloc: Global, room: BTreeMap<String, Value>) -> Entries
+        ensures { pairs_so_far result ≡ [] }
+    {
+        if room.is_empty() {
+            Entries::Map(room)
+        } else {
+            Entries::Map(BTreeMap::new(alloc))
         }
     }
 

@@ -6,6 +6,9 @@ ghost use Rattle.upon_serde.specs.Refusal.{IsRefusal};
 use std::alloc::{AllocError, AllocFailed, Global};
 use upon_types::error::{Error, ErrorKind};
 
+// What is said of an implementation that sent no data, or answered an error that tells of no context.
+const INCOMPLETE: &str = "serde's data are incomplete";
+
 /// Why a serializer stopped: an error, or that there was no memory. The error is in a box, so that the answer to each
 /// thing that is sent is small.
 #[derive(Drop)]
@@ -29,7 +32,7 @@ impl Refused {
     /// Returns the refusal of an implementation that sent no data: an end without its begin, a value without its key,
     /// or nothing.
     pub fn incomplete(alloc: Global) -> Refused {
-        Refused::new(alloc, "serde's data are incomplete")
+        Refused::new(alloc, INCOMPLETE)
     }
 
     /// Returns the error that it is.
@@ -61,12 +64,7 @@ pub fn refusal(alloc: Global, error: Error) -> Error
     match error.kind() {
         ErrorKind::Serialize => error,
         ErrorKind::OutOfMemory => AllocError.into(),
-        _ => Error::from_parts(
-            alloc,
-            ErrorKind::Serialize,
-            Some("serde's data are incomplete"),
-            None,
-        ),
+        _ => Error::from_parts(alloc, ErrorKind::Serialize, Some(INCOMPLETE), None),
     }
 }
 

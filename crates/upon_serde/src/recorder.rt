@@ -1,15 +1,20 @@
 // The serializer: it writes down what serde's data send, and refuses at once what no value can hold.
-ghost use Rattle.std.specs.Prelude.{◌≡◌, [], ◌∷◌, ◌++◌, Some, OnOk, IfOk, string_bytes};
+ghost use Rattle.std.specs.Prelude.{◌≡◌, ◌<◌, [], ◌∷◌, ◌++◌, Some, OnOk, IfOk, vec_len, vec_capacity, string_bytes};
 ghost use Rattle.serde.specs.Event as event;
-ghost use Rattle.upon_serde.specs.Notes.{noted, events_of, begun, sent};
+ghost use Rattle.upon_serde.specs.Notes.{noted, events_of, notes_of, begun, sent};
 
+use crate::entries::LARGE;
 use crate::fault::{Refused, Result, integer};
-use crate::note::{Note, Notes};
+use crate::note::{Blocks, Note, Notes};
 use serde::{Case, Serializer};
-use std::alloc::Global;
-use std::collections::VecDeque;
+use std::alloc::{AllocError, Global};
+use std::collections::{BTreeMap, LinkedList};
 use std::fmt::Display;
 use std::mem;
+
+// How many notes a block has. It takes less than 1,024 bytes: at each larger request the C library's allocator joins
+// all small pieces that were freed, as those of the last context, and cuts them anew for the texts.
+const BLOCK: usize = 30;
 
 /// What was sent of a key of a map.
 #[derive(Drop)]
@@ -28,6 +33,7 @@ pub enum Key {
 #[derive(Drop)]
 pub struct Recorder {
     alloc: Global,
+    full: Blocks,
     notes: Vec<Note>,
     key: Key,
 }
@@ -39,6 +45,7 @@ impl Recorder {
     {
         Recorder {
             alloc,
+            full: LinkedList::new(alloc),
             notes: Vec::new(alloc),
             key: Key::None,
         }
@@ -49,17 +56,40 @@ impl Recorder {
         ensures { IfOk result (λ notes. events_of notes ≡ sent self) }
     {
         self.settle()?;
-        let Recorder { notes, .. } = self;
-        Ok(VecDeque::from(notes))
+        let Recorder {
+            alloc,
+            mut full,
+            notes,
+            ..
+        } = self;
+        full.push_back(notes)?;
+        Ok(Notes::new(alloc, full))
     }
 
     #[inline(always)]
     fn push(&mut self, note: Note) -> Result<()>
-        ensures notes { OnOk result (self.new.notes.items ≡ self.old.notes.items ++ note ∷ []) }
+        ensures notes { OnOk result (notes_of self.new ≡ notes_of self.old ++ note ∷ []) }
         ensures key { self.new.key ≡ self.old.key }
     {
-        self.notes.reserve(1)?;
+        if self.notes.capacity() <= self.notes.len() {
+            self.begin_block()?;
+        }
         self.notes.push_reserved(note);
+        Ok(())
+    }
+
+    // Begins the next block.
+    #[inline(never)]
+    fn begin_block(&mut self) -> std::result::Result<(), AllocError>
+        ensures notes { OnOk result (notes_of self.new ≡ notes_of self.old) }
+        ensures room { OnOk result (vec_len self.new.notes < vec_capacity self.new.notes) }
+        ensures key { self.new.key ≡ self.old.key }
+    {
+        let block = Vec::with_capacity(self.alloc, BLOCK)?;
+        let full = mem::replace(&mut self.notes, block);
+        if !full.is_empty() {
+            self.full.push_back(full)?;
+        }
         Ok(())
     }
 
@@ -110,6 +140,17 @@ impl Recorder {
         }
     }
 
+    // The begin of a map that is not large. The map is made at once, so that its node lies among its texts: nodes that
+    // lie side by side are joined when they are freed, and with them all small pieces.
+    #[inline(never)]
+    fn note_room(&mut self, len: u8) -> Result<()>
+        ensures { OnOk result (sent self.new ≡ sent self.old ++ event.map_begins (Some len) ∷ []) }
+    {
+        let mut room = BTreeMap::new(self.alloc);
+        drop(room.entry(String::new(self.alloc))?);
+        self.note_value(Note::BeginRoom(len, room))
+    }
+
     // A text, which may be a key.
     #[inline(always)]
     fn note_text(&mut self, text: String) -> Result<()>
@@ -143,10 +184,12 @@ impl Serializer for Recorder {
 
     ghost written = { λ recorder. Some (sent recorder) };
 
+    #[inline(always)]
     fn bool(&mut self, v: bool) -> Result<()> {
         self.note_value(Note::Bool(v))
     }
 
+    #[inline(always)]
     fn i64(&mut self, v: i64) -> Result<()> {
         self.note(Note::Signed(v))
     }
@@ -178,6 +221,7 @@ impl Serializer for Recorder {
         self.note(Note::Char(v))
     }
 
+    #[inline(always)]
     fn str(&mut self, v: &str) -> Result<()> {
         let text = String::from_str(self.alloc, v)?;
         self.note_text(text)
@@ -194,7 +238,7 @@ impl Serializer for Recorder {
 
     fn str_cased(&mut self, name: &str, case: Case) -> Result<()> {
         let name = String::from_str(self.alloc, name)?;
-        self.note(Note::UnitVariant(name, case))
+        self.note(Note::UnitVariant(case, name))
     }
 
     fn begin_seq(&mut self, len: Option<usize>) -> Result<()> {
@@ -206,7 +250,10 @@ impl Serializer for Recorder {
     }
 
     fn begin_map(&mut self, len: Option<usize>) -> Result<()> {
-        self.note_value(Note::BeginMap(len))
+        match len.map(u8::try_from) {
+            Some(Ok(len)) if 0 < len && usize::from(len) <= LARGE => self.note_room(len),
+            _ => self.note_value(Note::BeginMap(len)),
+        }
     }
 
     fn end_map(&mut self) -> Result<()> {
@@ -215,12 +262,12 @@ impl Serializer for Recorder {
 
     fn key_cased(&mut self, name: &str, case: Case) -> Result<()> {
         let name = String::from_str(self.alloc, name)?;
-        self.note(Note::FieldKey(name, case))
+        self.note(Note::FieldKey(case, name))
     }
 
     fn variant_key(&mut self, name: &str, case: Case) -> Result<()> {
         let name = String::from_str(self.alloc, name)?;
-        self.note(Note::VariantKey(name, case))
+        self.note(Note::VariantKey(case, name))
     }
 
     fn begin_key(&mut self) -> Result<()> {

@@ -19,6 +19,7 @@ impl Serialize for Value {
 }
 
 #[cycle(send)]
+#[inline(always)]
 fn send<S: Serializer>(value: &Value, out: &mut S) -> Result<(), S::Error>
     ensures { OnOk result (SendsVal (view value.now) (S.written out.old) (S.written out.new)) }
 {
@@ -33,6 +34,7 @@ fn send<S: Serializer>(value: &Value, out: &mut S) -> Result<(), S::Error>
 }
 
 #[cycle(send)]
+#[inline(never)]
 fn send_items<S: Serializer>(items: &Vec<Value>, out: &mut S) -> Result<(), S::Error>
     ensures { OnOk result
         (SendsVal (list_val (vals_view items.now.items)) (S.written out.old) (S.written out.new)) }
@@ -45,6 +47,7 @@ fn send_items<S: Serializer>(items: &Vec<Value>, out: &mut S) -> Result<(), S::E
 }
 
 #[cycle(send)]
+#[inline(never)]
 fn send_entries<S: Serializer>(
     entries: &BTreeMap<String, Value>,
     out: &mut S,

@@ -1,6 +1,6 @@
 use Rattle.std.proofs.Common.{◌++◌, [], ap, sym, ◌∙◌}
 use Rattle.std.proofs.lemmas.Result.{on_ok_weaker}
-use Rattle.upon_serde.specs.Notes.{noted, begun}
+use Rattle.upon_serde.specs.Notes.{notes_of, noted, begun}
 use Rattle.upon_serde.proofs.Noting.{one_more}
 use Rattle.upon_serde.proofs.recorder.Recorder.note.Goals as goal
 
@@ -13,5 +13,5 @@ returns c =
     let after = ap begun c.push.ensures.key ∙ settled in
     let is = ap (λ before. before ++ sends) (sym settled) in
     on_ok_weaker c.push.result (λ pushed.
-    one_more old.notes.items new.notes.items old.key new.key c.args.note sends after is pushed
+    one_more (notes_of old) (notes_of new) old.key new.key c.args.note sends after is pushed
     ∙ ap (λ before. before ++ sends) c.in_ok-settle.ensures.sent) c.push.ensures.notes

@@ -1,6 +1,6 @@
 use Rattle.std.proofs.Common.{◌∷◌, ◌++◌, [], Some, ap, sym, ◌∙◌}
 use Rattle.serde.specs.Event as event
-use Rattle.upon_serde.specs.Notes.{events_from, begun}
+use Rattle.upon_serde.specs.Notes.{notes_of, events_from, begun}
 use Rattle.upon_serde.proofs.Noting.{events_then}
 use Rattle.upon_serde.proofs.recorder.RecorderSerializer.begin_key.Goals as goal
 
@@ -9,6 +9,6 @@ returns c =
     let settled = c.settle.new.self in
     let sends = event.key_begins ∷ [] in
     ap Some (
-    ap (λ before. events_from settled.notes.items (before ++ sends)) (sym c.in_ok-settle.ensures.noted)
-    ∙ events_then settled.notes.items (begun settled.key) sends
+    ap (λ before. events_from (notes_of settled) (before ++ sends)) (sym c.in_ok-settle.ensures.noted)
+    ∙ events_then (notes_of settled) (begun settled.key) sends
     ∙ ap (λ before. before ++ sends) c.in_ok-settle.ensures.sent)

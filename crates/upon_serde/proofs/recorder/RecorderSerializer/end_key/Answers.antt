@@ -2,7 +2,7 @@ use Rattle.std.proofs.Common.{◌∷◌, ◌++◌, [], Some, ap, sym, ◌∙◌}
 use Rattle.std.proofs.lemmas.Result.{on_ok_weaker}
 use Rattle.serde.specs.Event as event
 use Rattle.upon_serde.specs.declared.note.Note.TheVariants as note
-use Rattle.upon_serde.specs.Notes.{begun}
+use Rattle.upon_serde.specs.Notes.{notes_of, begun}
 use Rattle.upon_serde.proofs.Noting.{one_more, two_more, all_noted}
 use Rattle.upon_serde.proofs.recorder.RecorderSerializer.end_key.Goals as goal
 
@@ -15,7 +15,7 @@ returns-in-Text c =
     let settled = ap begun (c.push.ensures.key ∙ c.replace.ensures.after) in
     let is = ap (λ key. begun key ++ ends) (sym was) in
     on_ok_weaker c.push.result (λ pushed.
-    ap Some (one_more old.notes.items new.notes.items old.key new.key (note.TextKey c.in-Text.text) ends settled is pushed)) c.push.ensures.notes
+    ap Some (one_more (notes_of old) (notes_of new) old.key new.key (note.TextKey c.in-Text.text) ends settled is pushed)) c.push.ensures.notes
 
 pub returns-in_ok-push-in-Begun : goal.returns-in_ok-push-in-Begun
 returns-in_ok-push-in-Begun c =
@@ -27,7 +27,7 @@ returns-in_ok-push-in-Begun c =
     let settled = ap begun (c.push-in-Begun-2.ensures.key ∙ c.push-in-Begun.ensures.key ∙ c.replace.ensures.after) in
     let is = ap (λ key. begun key ++ ends) (sym was) in
     on_ok_weaker c.push-in-Begun-2.result (λ pushed.
-    ap Some (two_more old.notes.items mid.notes.items new.notes.items old.key new.key note.BeginKey note.EndKey ends settled is c.in_ok-push-in-Begun.ensures.notes pushed)) c.push-in-Begun-2.ensures.notes
+    ap Some (two_more (notes_of old) (notes_of mid) (notes_of new) old.key new.key note.BeginKey note.EndKey ends settled is c.in_ok-push-in-Begun.ensures.notes pushed)) c.push-in-Begun-2.ensures.notes
 
 pub returns-in_default : goal.returns-in_default
 returns-in_default c =
@@ -39,4 +39,4 @@ returns-in_default c =
     let settled = ap begun (c.push-in_default.ensures.key ∙ c.replace.ensures.after) in
     let is = ap (λ before. before ++ ends) (sym none) in
     on_ok_weaker c.push-in_default.result (λ pushed.
-    ap Some (one_more old.notes.items new.notes.items old.key new.key note.EndKey ends settled is pushed)) c.push-in_default.ensures.notes
+    ap Some (one_more (notes_of old) (notes_of new) old.key new.key note.EndKey ends settled is pushed)) c.push-in_default.ensures.notes
