@@ -1,5 +1,6 @@
 // Where a default delimiter may begin: with a pair of bytes, of which one is a brace, or a byte before such a pair.
 ghost use Rattle.std.specs.Prelude.{◌≡◌, ℕ, ◌+◌, ◌<◌, ◌≤◌, length, slice_index, slice_index_or, false, true, MatchOption, IfSome};
+ghost use Rattle.memchr.specs.Find.{IsFirstByte, is_byte2};
 ghost use Rattle.upon_types.specs.Span.{LiesIn};
 ghost use Rattle.upon_language_spec.specs.DefaultDelimiters.{default_delimiters};
 ghost use Rattle.upon_language_spec.specs.Search.{IsBestDelimiter, NoneAt, NoneFrom};
@@ -7,6 +8,7 @@ ghost use Rattle.upon_lexer.specs.DefaultBest.{begin_with, best_of, end_with, hy
 ghost use Rattle.upon_lexer.specs.Pairs.{is_pair, NoPairIn, NoPairWith, IsFirstPairWith};
 
 use crate::compile::begins::BLOCK;
+use memchr::memchr2;
 use upon_types::types::Delimiter;
 
 /// Returns the first offset at or after another from which a default delimiter may occur; the text's length if there is
@@ -19,7 +21,7 @@ pub(crate) fn next(source: &str, at: usize) -> usize
 {
     let bytes = source.as_bytes();
     let mut from = at;
-    while let Some(found) = memchr::memchr2(b'{', b'}', &bytes[from..]) {
+    while let Some(found) = first_brace(&bytes[from..]) {
         let brace = from + found;
         if let Some(pair) = pair_with(bytes, at, brace) {
             return begin_of(bytes, at, pair);
@@ -28,6 +30,22 @@ pub(crate) fn next(source: &str, at: usize) -> usize
         from = pass_blocks(bytes, brace + 1);
     }
     bytes.len()
+}
+
+// How many bytes are looked at one by one before a search that is made for long texts, which takes as long to begin.
+const NEAR: usize = 8;
+
+// The index of the first brace.
+#[inline]
+fn first_brace(bytes: &[u8]) -> Option<usize>
+    ensures { IsFirstByte (is_byte2 123 125) bytes.now result }
+{
+    for i in 0..bytes.len().min(NEAR) {
+        if matches!(bytes[i], b'{' | b'}') {
+            return Some(i);
+        }
+    }
+    memchr2(b'{', b'}', bytes)
 }
 
 // Where a delimiter may begin that has a pair at an offset: there, or with a hyphen before it.
