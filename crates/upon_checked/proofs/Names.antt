@@ -1,5 +1,5 @@
 -- Names that are bound to something else, and back.
-use Rattle.std.proofs.Common.{◌≡◌, ℕ, ◌+◌, ◌-◌, ◌<◌, ◌≤◌, zero, suc, List, [], ◌∷◌, ◌++◌, length, map, drop, set, get_or, string_bytes, Option, Some, None, Bool, true, false, cond, refl, sym, ap, ◌∙◌, arith}
+use Rattle.std.proofs.Common.{◌≡◌, ℕ, ◌+◌, ◌-◌, ◌<◌, ◌≤◌, zero, suc, List, [], ◌∷◌, ◌++◌, length, map, drop, set, get_or, Option, Some, None, Bool, true, false, cond, refl, sym, ap, ◌∙◌, arith}
 use Rattle.std.specs.Prelude.{bytes_eq, option_map}
 use Rattle.std.proofs.Math.Nat.{lt_irrefl}
 use Rattle.upon_types.specs.AstPath.{access_of, first_member, first_of, ident_of, member_of, rest_members}
@@ -135,15 +135,15 @@ by_word : (path : Var) (first : AstMember) (word : AstIdent) → member_of first
 by_word path first word is at = sym (ap (λ (m : Member). m.access) is) ∙ ap access_of at
 
 -- a path that finds no name
-pub narrowed_context : (path : Var) (first : AstMember) (word : AstIdent) (slice items : List CodeName) (root new : Shape) (text : List ℕ) → member_of first ≡ first_member path → first.access ≡ Key word → text ≡ string_bytes word.name → slice ≡ items
+pub narrowed_context : (path : Var) (first : AstMember) (word : AstIdent) (slice items : List CodeName) (root new : Shape) (text : List ℕ) → member_of first ≡ first_member path → first.access ≡ Key word → text ≡ word.name → slice ≡ items
     → depth_of text (names_view slice) ≡ None → first_bound_shape text (names_view slice) ≡ None → new ≡ narrowed (map member_of path.path.items) root
     → scope_of (names_view items) new ≡ narrowed_scope (first_member path) (rest_members path) (scope_of (names_view items) root)
 narrowed_context path first word slice items root new text is at named same depth none e =
     let access = by_word path first word is at in
-    let no_depth : depth_of (string_bytes word.name) (names_view items) ≡ None = sym (ap (λ t. depth_of t (names_view items)) named) ∙ (sym (ap (λ l. depth_of text (names_view l)) same) ∙ depth) in
-    let not_bound : first_bound_shape (string_bytes word.name) (names_view items) ≡ None = sym (ap (λ t. first_bound_shape t (names_view items)) named) ∙ (sym (ap (λ l. first_bound_shape text (names_view l)) same) ∙ none) in
+    let no_depth : depth_of word.name (names_view items) ≡ None = sym (ap (λ t. depth_of t (names_view items)) named) ∙ (sym (ap (λ l. depth_of text (names_view l)) same) ∙ depth) in
+    let not_bound : first_bound_shape word.name (names_view items) ≡ None = sym (ap (λ t. first_bound_shape t (names_view items)) named) ∙ (sym (ap (λ l. first_bound_shape text (names_view l)) same) ∙ none) in
     let kept : narrowed_bindings (first_member path).access (rest_members path) (names_view items) ≡ names_view items =
-    ap (λ a. narrowed_bindings a (rest_members path) (names_view items)) access ∙ narrowed_missing (string_bytes word.name) (rest_members path) (names_view items) no_depth in
+    ap (λ a. narrowed_bindings a (rest_members path) (names_view items)) access ∙ narrowed_missing word.name (rest_members path) (names_view items) no_depth in
     let root_is : narrowed_root (bound_shape_of (first_member path).access (names_view items)) (first_member path ∷ rest_members path) root ≡ new =
     ap (λ a. narrowed_root (bound_shape_of a (names_view items)) (first_member path ∷ rest_members path) root) access
     ∙ (ap (λ o. narrowed_root o (first_member path ∷ rest_members path) root) not_bound ∙ sym (e ∙ ap (λ l. narrowed l root) (path_members path))) in
@@ -151,16 +151,16 @@ narrowed_context path first word slice items root new text is at named same dept
 
 -- a path that finds a name
 pub narrowed_name : (path : Var) (first : AstMember) (word : AstIdent) (slice items new : List CodeName) (root : Shape) (text : List ℕ) (depth : ℕ) (b nb : BoundShape) (rest : List Member)
-    → member_of first ≡ first_member path → first.access ≡ Key word → text ≡ string_bytes word.name → slice ≡ items → depth_of text (names_view slice) ≡ Some depth → first_bound_shape text (names_view slice) ≡ Some b
+    → member_of first ≡ first_member path → first.access ≡ Key word → text ≡ word.name → slice ≡ items → depth_of text (names_view slice) ≡ Some depth → first_bound_shape text (names_view slice) ≡ Some b
     → rest ≡ rest_members path → nb ≡ narrowed_bound rest b → names_view new ≡ bound_at depth nb (names_view items)
     → scope_of (names_view new) root ≡ narrowed_scope (first_member path) (rest_members path) (scope_of (names_view items) root)
 narrowed_name path first word slice items new root text depth b nb rest is at named same at_depth found rest_is nb_is e =
     let access = by_word path first word is at in
-    let depth_is : depth_of (string_bytes word.name) (names_view items) ≡ Some depth = sym (ap (λ t. depth_of t (names_view items)) named) ∙ (sym (ap (λ l. depth_of text (names_view l)) same) ∙ at_depth) in
-    let bound_is : first_bound_shape (string_bytes word.name) (names_view items) ≡ Some b = sym (ap (λ t. first_bound_shape t (names_view items)) named) ∙ (sym (ap (λ l. first_bound_shape text (names_view l)) same) ∙ found) in
+    let depth_is : depth_of word.name (names_view items) ≡ Some depth = sym (ap (λ t. depth_of t (names_view items)) named) ∙ (sym (ap (λ l. depth_of text (names_view l)) same) ∙ at_depth) in
+    let bound_is : first_bound_shape word.name (names_view items) ≡ Some b = sym (ap (λ t. first_bound_shape t (names_view items)) named) ∙ (sym (ap (λ l. first_bound_shape text (names_view l)) same) ∙ found) in
     let names_are : narrowed_bindings (first_member path).access (rest_members path) (names_view items) ≡ names_view new =
     ap (λ a. narrowed_bindings a (rest_members path) (names_view items)) access
-    ∙ (narrowed_found (string_bytes word.name) (rest_members path) (names_view items) depth b depth_is bound_is
+    ∙ (narrowed_found word.name (rest_members path) (names_view items) depth b depth_is bound_is
     ∙ sym (e ∙ ap (λ c. bound_at depth c (names_view items)) (nb_is ∙ ap (λ l. narrowed_bound l b) rest_is))) in
     let root_is : narrowed_root (bound_shape_of (first_member path).access (names_view items)) (first_member path ∷ rest_members path) root ≡ root =
     ap (λ a. narrowed_root (bound_shape_of a (names_view items)) (first_member path ∷ rest_members path) root) access

@@ -85,7 +85,7 @@ fn shown_doubt<'t>(
         ≡ doubts.shown_call_doubts (declared_view declared.now) scope name.now.span whole
         ((declared_view declared.now).callables (ident_of name.now).text) (map view shapes.items)) }
 {
-    match declared.callable(&name.name) {
+    match declared.callable(name.name.as_str()) {
         None => Ok(Some(not_taken(name.span, shapes))),
         Some(callable) => shown_by(alloc, declared, callable, name.span, whole, shapes),
     }
@@ -208,7 +208,7 @@ fn given_for<'t>(
         ≡ doubts.given_doubts name.now.span ((declared_view declared.now).callables (ident_of name.now).text)
         (map view shapes.items)) }
 {
-    match declared.value_given(&name.name, &shapes) {
+    match declared.value_given(name.name.as_str(), &shapes) {
         Some(shape) => Ok((Some(shape.try_clone(alloc)?), None)),
         None => Ok((None, Some(not_taken(name.span, shapes)))),
     }

@@ -65,7 +65,7 @@ fn first_bound<'a>(names: &'a [NameShape<'_>], first: &Member) -> Option<&'a Bou
 {
     match &first.access {
         Access::Index(_) => None,
-        Access::Key(word) => bound_to(names, &word.name),
+        Access::Key(word) => bound_to(names, word.name.as_str()),
     }
 }
 

@@ -224,12 +224,12 @@ fn bind_looped<'t>(
 {
     match names {
         LoopVars::Item(item) => {
-            scope.bind(&item.name, BoundShape::Value(shape))?;
+            scope.bind(item.name.as_str(), BoundShape::Value(shape))?;
             Ok(1)
         }
         LoopVars::KeyValue(both) => {
-            scope.bind(&both.value.name, BoundShape::Value(shape))?;
-            scope.bind(&both.key.name, BoundShape::LoopKey)?;
+            scope.bind(both.value.name.as_str(), BoundShape::Value(shape))?;
+            scope.bind(both.key.name.as_str(), BoundShape::LoopKey)?;
             Ok(2)
         }
     }

@@ -160,7 +160,10 @@ pub(crate) fn starts_with<'t>(
     match known.pop() {
         None => Ok(None),
         Some(operand) => {
-            known.bind(&name.name, BoundShape::Value(or_never(operand.shape)))?;
+            known.bind(
+                name.name.as_str(),
+                BoundShape::Value(or_never(operand.shape)),
+            )?;
             Ok(None)
         }
     }

@@ -32,7 +32,7 @@ pub(crate) fn narrow(alloc: Global, scope: &mut Scope<'_>, path: &Var) -> Result
     let Access::Key(word) = &path.first().access else {
         return Ok(Undo::Nothing);
     };
-    match find(&scope.names, &word.name) {
+    match find(&scope.names, word.name.as_str()) {
         None => {
             let inside = scope.root.narrowed(alloc, &path.path)?;
             Ok(Undo::Root(mem::replace(&mut scope.root, inside)))

@@ -11,7 +11,7 @@ ghost use Rattle.upon_render.specs.Cursor.{advance, has_begun, loop_bindings, lo
 ghost use Rattle.upon_render.specs.Items.{items_of};
 ghost use Rattle.upon_render.specs.Lookup.{bindings_walk, maybe_bound, key_walk, state_map, state_walk};
 ghost use Rattle.upon_render.specs.declared.items.Item.TheVariants.{Lone};
-ghost use Rattle.upon_types.specs.declared.value.cow.ValueCow.TheVariants.{Borrowed};
+ghost use Rattle.upon_types.specs.declared.value.cow.ValueCow.TheVariants.{Borrowed, Owned};
 ghost use Rattle.upon_render.specs.LoopItems.{names_of_both, IsNoList, IsNoMap, KeysRise, given, is_lent_here, is_lent_rest, is_lent_item, items_left, item_of, binds};
 ghost use Rattle.upon_render.specs.Seen.{TellsMade, TellsSeen};
 ghost use Rattle.upon_render.specs.PathSpans.{StepsLieIn};
@@ -91,19 +91,23 @@ impl<'a> LoopState<'a> {
         }
     }
 
-    // Does the same over any items: the item that it was at is let go.
+    // Does the same over any items.
     #[inline(never)]
     fn iterate_any(&mut self) -> Option<()>
         ensures next { option_map (λ _. cursor self.new) result ≡ advance (cursor self.old) }
         ensures end { result ≡ None → cursor self.new ≡ cursor self.old }
         ensures lent { is_lent_loop self.new ≡ is_lent_loop self.old }
     {
-        let item = self.rest.next()?;
-        let index = match &self.here {
-            None => 0,
-            Some(here) => here.index + 1,
-        };
-        self.here = Some(Here { index, item });
+        match &mut self.rest {
+            Rest::ListOwned(items) => {
+                let value = items.next()?;
+                turns_to_owned(&mut self.here, value);
+            }
+            _ => {
+                let item = self.rest.next()?;
+                turns_to_any(&mut self.here, item);
+            }
+        }
         Some(())
     }
 
@@ -245,6 +249,52 @@ fn replaces<'a>(item: &mut Item<'a>, value: &'a Value)
     ensures { item.new ≡ Lone (Borrowed value.entry) }
 {
     *item = Item::Lone(ValueCow::Borrowed(value));
+}
+
+// Goes on to any item: the one before is let go.
+#[inline(always)]
+fn turns_to_any<'a>(here: &mut Option<Here<'a>>, item: Item<'a>)
+    requires { given here.old < 2 ^ 63 }
+    ensures { here.new ≡ Some (record { index = given here.old; item = item.entry }) }
+{
+    match here {
+        Some(at) => {
+            at.index += 1;
+            at.item = item;
+        }
+        None => *here = Some(Here { index: 0, item }),
+    }
+}
+
+// Goes on to an owned item of a list. In the place of another, only the value is written.
+#[inline(always)]
+fn turns_to_owned(here: &mut Option<Here<'_>>, value: Value)
+    requires { given here.old < 2 ^ 63 }
+    ensures { here.new ≡ Some (record { index = given here.old; item = Lone (Owned value) }) }
+{
+    match here {
+        Some(at) => {
+            at.index += 1;
+            puts_owned(&mut at.item, value);
+        }
+        None => {
+            *here = Some(Here {
+                index: 0,
+                item: Item::Lone(ValueCow::Owned(value)),
+            });
+        }
+    }
+}
+
+// Puts an owned item in the place of another, which is let go.
+#[inline(always)]
+fn puts_owned(item: &mut Item<'_>, value: Value)
+    ensures { item.new ≡ Lone (Owned value) }
+{
+    match item {
+        Item::Lone(ValueCow::Owned(owned)) => *owned = value,
+        _ => *item = Item::Lone(ValueCow::Owned(value)),
+    }
 }
 
 // What the members find in a loop's state, at the item of this index, of so many.

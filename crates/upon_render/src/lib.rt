@@ -1,6 +1,7 @@
 // How a running template finds values: paths, bindings, loops.
 #![tactic(auto)]
 
+mod entry;
 mod faults;
 mod items;
 pub mod iter;

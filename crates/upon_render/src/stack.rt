@@ -1,5 +1,5 @@
 // The frames of a running template, and what a path finds in them.
-ghost use Rattle.std.specs.Prelude.{◌≡◌, ◌≢◌, ◌∷◌, [], ◌++◌, ◌<◌, List, Some, IfOk, IfSome, IsSome, OnOk, OnErr, true, Bool, MatchOption, length, map};
+ghost use Rattle.std.specs.Prelude.{◌≡◌, ◌≢◌, ◌∷◌, [], ◌++◌, ◌<◌, List, Some, IfOk, IfSome, IsSome, IsTrue, OnOk, OnErr, true, Bool, MatchOption, length, map};
 ghost use Rattle.upon_types.specs.AstPath.{member_of, first_member, rest_members, ident_of};
 ghost use Rattle.upon_types.specs.Cow.{cow_view};
 ghost use Rattle.upon_types.specs.Span.{LiesIn};
@@ -17,13 +17,14 @@ ghost use Rattle.upon_render.specs.Source.{Source};
 ghost use Rattle.upon_render.specs.Roots.{pure_root, root_lends, HasSource, KeepsRoot, OrOutOfMemory};
 ghost use Rattle.upon_render.specs.Walk.{context_walk};
 
+use crate::entry::{find_in_entry, lookup_in_entry};
 use crate::faults;
 use crate::iter::LoopState;
 use crate::source::{SourceError, ValueSource, members};
 use crate::value::{Found, Made, find_bound, find_in_context, lookup_bound, lookup_in_context};
 use std::alloc::{AllocError, Global};
 use upon_types::error::Result;
-use upon_types::types::ast::{Access, Ident, Member, Var};
+use upon_types::types::ast::{Access, Ident, Member, String as Quoted, Var};
 use upon_types::value::{Value, ValueCow};
 
 /// A frame.
@@ -31,6 +32,8 @@ use upon_types::value::{Value, ValueCow};
 pub enum State<'a> {
     /// A context.
     Scope(ValueCow<'a>),
+    /// A context of one entry: its key, and its value, which is lent.
+    Entry(&'a Quoted, &'a Value),
     /// A name with its value.
     Var(&'a Ident, ValueCow<'a>),
     /// A loop.
@@ -186,6 +189,7 @@ impl<'a, V: ValueSource> Stack<'a, V> {
     }
 
     /// One frame more, the innermost. If there is no memory, nothing changes.
+    #[inline(always)]
     pub fn push(&mut self, frame: State<'a>) -> std::result::Result<(), AllocError>
         ensures ok { OnOk result (frames_of self.new ≡ frames_of self.old ++ frame.entry ∷ []) }
         ensures environment { OnOk result (environment_of self.new ≡ frame_over frame.entry (environment_of self.old)) }
@@ -215,6 +219,7 @@ impl<'a, V: ValueSource> Stack<'a, V> {
     {
         match self.pop() {
             State::Scope(context) => context,
+            State::Entry(_, _) => unreachable!(),
             State::Var(_, _) => unreachable!(),
             State::Loop(_) => unreachable!(),
             State::Boundary => unreachable!(),
@@ -230,6 +235,7 @@ impl<'a, V: ValueSource> Stack<'a, V> {
         match self.pop() {
             State::Var(name, value) => (name, value),
             State::Scope(_) => unreachable!(),
+            State::Entry(_, _) => unreachable!(),
             State::Loop(_) => unreachable!(),
             State::Boundary => unreachable!(),
         }
@@ -244,6 +250,7 @@ impl<'a, V: ValueSource> Stack<'a, V> {
         match self.pop() {
             State::Loop(state) => state,
             State::Scope(_) => unreachable!(),
+            State::Entry(_, _) => unreachable!(),
             State::Var(_, _) => unreachable!(),
             State::Boundary => unreachable!(),
         }
@@ -258,6 +265,7 @@ impl<'a, V: ValueSource> Stack<'a, V> {
         match self.pop() {
             State::Boundary => {}
             State::Scope(_) => unreachable!(),
+            State::Entry(_, _) => unreachable!(),
             State::Var(_, _) => unreachable!(),
             State::Loop(_) => unreachable!(),
         }
@@ -272,9 +280,22 @@ impl<'a, V: ValueSource> Stack<'a, V> {
         match &mut self.frames[last] {
             State::Loop(current) => current,
             State::Scope(_) => unreachable!(),
+            State::Entry(_, _) => unreachable!(),
             State::Var(_, _) => unreachable!(),
             State::Boundary => unreachable!(),
         }
+    }
+
+    /// Returns whether the innermost frame is a loop.
+    #[inline(always)]
+    pub fn is_in_loop(&self) -> bool
+        ensures { IsTrue result → IsLoop (top (frames_of self.now)) }
+    {
+        let count = self.frames.len();
+        if count == 0 {
+            return false;
+        }
+        matches!(&self.frames[count - 1], State::Loop(_))
     }
 
     /// Moves the loop of the innermost frame, which is a loop, to its next item; at the end it stays at the last one.
@@ -291,6 +312,7 @@ impl<'a, V: ValueSource> Stack<'a, V> {
         match &mut self.frames[last] {
             State::Loop(state) => state.iterate(),
             State::Scope(_) => unreachable!(),
+            State::Entry(_, _) => unreachable!(),
             State::Var(_, _) => unreachable!(),
             State::Boundary => unreachable!(),
         }
@@ -502,6 +524,12 @@ fn find_in_frame<'s, 'a>(frame: &'s State<'a>, var: &Var) -> Found<'s, 'a>
                 }
             }
         },
+        State::Entry(key, value) => {
+            match find_in_entry(*key, *value, var.first(), var.rest()) {
+                Some(value) => Found::Lent(value),
+                None => Found::Unknown,
+            }
+        }
         State::Var(ident, value) => find_named(*ident, value, var),
         State::Loop(state) => state.find(var),
         State::Boundary => Found::Unknown,
@@ -543,6 +571,12 @@ fn lookup_frame<'a>(
     match frame {
         State::Scope(context) => {
             match lookup_context(alloc, source, context, var.first(), var.rest()) {
+                Ok(value) => Ok(Some(value)),
+                Err(error) => Err(error),
+            }
+        }
+        State::Entry(key, value) => {
+            match lookup_in_entry(alloc, source, *key, *value, var.first(), var.rest()) {
                 Ok(value) => Ok(Some(value)),
                 Err(error) => Err(error),
             }

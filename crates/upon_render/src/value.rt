@@ -289,7 +289,7 @@ fn item(items: &Vec<Value>, index: usize) -> Option<&Value>
     items.get(index)
 }
 
-fn found_or_missed(found: Option<&Value>, op: AccessOp) -> Option<Option<&Value>>
+pub(crate) fn found_or_missed(found: Option<&Value>, op: AccessOp) -> Option<Option<&Value>>
     ensures { (fault : Fault) → option_map lent_view result
         ≡ found_only (found_or_missed (lent_view found.entry) op fault) }
 {

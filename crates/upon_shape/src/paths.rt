@@ -37,7 +37,7 @@ impl Shape {
                     if plain.is_any() | items.is_some() {
                         return MemberShape::MayFail;
                     }
-                    key_in_map(op, &word.name, keys)
+                    key_in_map(op, word.name.as_str(), keys)
                 }
                 Access::Index(_) => {
                     if plain.is_any() | keys.is_some() {
@@ -79,8 +79,8 @@ impl Shape {
         match &member.access {
             Access::Index(_) => self.try_clone(alloc),
             Access::Key(word) => {
-                let shape = keys.at(&word.name).shape.narrowed(alloc, rest)?;
-                let name = word.name.clone()?;
+                let shape = keys.at(word.name.as_str()).shape.narrowed(alloc, rest)?;
+                let name = String::from_str(alloc, word.name.as_str())?;
                 Ok(Shape::map_of(keys.try_clone(alloc)?.with_entry(name, shape)?))
             }
         }

@@ -54,7 +54,8 @@ Keeps (code.If negated) tag = (e : Expression) × (tag ≡ if_tag negated e)
 Keeps (code.ElseIf negated) tag = (e : Expression) × (tag ≡ else_if_tag negated e)
 Keeps code.Else tag = tag ≡ else_tag
 Keeps code.EndIf tag = tag ≡ endif_tag
-Keeps (code.For vars span) tag = (e : Expression) × (tag ≡ for_tag (loop_vars_of vars) e) × (span ≡ expression_span e)
+Keeps (code.For vars span) tag =
+    (e : Expression) × (tag ≡ for_tag (loop_vars_of vars.value) e) × (span ≡ expression_span e)
 Keeps code.EndFor tag = tag ≡ endfor_tag
 Keeps (code.With name) tag = (e : Expression) × (tag ≡ with_tag e (ident_of name))
 Keeps code.EndWith tag = tag ≡ endwith_tag

@@ -13,7 +13,7 @@ use Rattle.upon_types.specs.declared.types.ast.path.Var.{Var}
 
 -- a name
 abbrev pub ident_of : AstIdent → Ident
-ident_of ident = record { text = string_bytes ident.name; span = ident.span }
+ident_of ident = record { text = ident.name; span = ident.span }
 
 -- a string: the text that it denotes
 abbrev pub string_of : Quoted → Ident

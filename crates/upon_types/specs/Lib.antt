@@ -18,4 +18,5 @@ pub mod Path
 pub mod Expression
 pub mod Tree
 pub mod TreeSpans
+pub mod Name
 pub mod AstPath

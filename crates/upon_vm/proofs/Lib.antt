@@ -5,6 +5,8 @@ pub mod Pairs
 pub mod Reported
 pub mod Asked
 pub mod Entered
+pub mod EntryPairs
+pub mod TurnPairs
 pub mod Acts
 pub mod SpansLie
 pub mod Keeps

@@ -1,12 +1,12 @@
 // The calls of functions on operands, and their faults.
-ghost use Rattle.std.specs.Prelude.{◌≡◌, [], length, slice_get, string_bytes};
+ghost use Rattle.std.specs.Prelude.{◌≡◌, ◌∷◌, [], Err, length, slice_get};
 ghost use Rattle.upon_functions.specs.Says.{Says, misfit_of};
 ghost use Rattle.upon_types.specs.Answers.{Answer, wrong_type, out_of_range};
 ghost use Rattle.upon_types.specs.AstPath.{ident_of};
 ghost use Rattle.upon_types.specs.Val.{int_val};
 ghost use Rattle.upon_types.specs.View.{view};
 ghost use Rattle.upon_meaning_spec.specs.CallFaults.{argument_misfits, number_text};
-ghost use Rattle.upon_meaning_spec.specs.Evaluation.{answer_value, call_value, misfit_at};
+ghost use Rattle.upon_meaning_spec.specs.Evaluation.{answer_value, call_value, misfit_at, operand};
 ghost use Rattle.upon_vm_calls.specs.Halt.{IsHalt, Finds};
 ghost use Rattle.upon_vm_calls.specs.Operands.{row};
 
@@ -14,6 +14,7 @@ use crate::callables::{Callables, Called};
 use crate::depth::{DEPTH_LIMIT, fits};
 use crate::fault::{self, Halt};
 use std::alloc::Global;
+use std::slice;
 use upon_functions::function::{ArgError, CallError};
 use upon_types::types::Span;
 use upon_types::types::ast::Ident;
@@ -21,6 +22,7 @@ use upon_types::value::{Value, ValueCow};
 
 /// Calls the function of a name on operands, and returns its value or its fault: of an argument at the argument, else
 /// at the whole.
+#[inline(always)]
 pub fn call<C: Callables>(
     alloc: Global,
     callables: &C,
@@ -33,7 +35,7 @@ pub fn call<C: Callables>(
     ensures { Finds
         result
         (call_value (ident_of name.now) whole (row values.now spans.now)
-        (C.callables callables.now (string_bytes name.now.name))) }
+        (C.callables callables.now name.now.name)) }
 {
     match callables.call(alloc, name.name.as_str(), values) {
         Called::Unknown => Err(fault::wrong(alloc, "unknown function", name.span)),
@@ -46,7 +48,29 @@ pub fn call<C: Callables>(
     }
 }
 
+/// Does the same on one value of a span.
+#[inline(always)]
+pub fn call_on<C: Callables>(
+    alloc: Global,
+    callables: &C,
+    name: &Ident,
+    value: &Value,
+    span: Span,
+    whole: Span,
+) -> Result<Value, Halt>
+    ensures { Finds
+        result
+        (call_value (ident_of name.now) whole (operand (view value.now) span ∷ [])
+        (C.callables callables.now name.now.name)) }
+{
+    let given = ValueCow::Borrowed(value);
+    let values = slice::from_ref(&given);
+    let spans = slice::from_ref(&span);
+    call(alloc, callables, name, values, spans, whole)
+}
+
 // The value of an answer, or its fault; a value that is too deep is refused.
+#[inline(always)]
 pub(crate) fn report(
     alloc: Global,
     answer: Result<Value, CallError>,
@@ -62,14 +86,32 @@ pub(crate) fn report(
     match answer {
         Ok(value) if fits(&value, DEPTH_LIMIT) => Ok(value),
         Ok(_) => Err(Halt::Memory),
-        Err(CallError::Arity(expected)) => {
-            Err(fault::function_expects(alloc, expected, values.len(), whole))
+        Err(error) => Err(refused(alloc, error, name, values, spans, whole)),
+    }
+}
+
+// Why a call gives no value. It is rare, so it is out of line.
+#[cold]
+#[inline(never)]
+fn refused(
+    alloc: Global,
+    error: CallError,
+    name: &Ident,
+    values: &[ValueCow],
+    spans: &[Span],
+    whole: Span,
+) -> Halt
+    requires { length values.now ≡ length spans.now }
+    ensures { (a : Answer) → Says (Err error) a → Finds (Err result)
+        (answer_value (ident_of name.now) whole (row values.now spans.now) a) }
+{
+    match error {
+        CallError::Arity(expected) => {
+            fault::function_expects(alloc, expected, values.len(), whole)
         }
-        Err(CallError::Arg(index, error)) => {
-            Err(misfit(alloc, name, index, error, values, spans, whole))
-        }
-        Err(CallError::Fault(text)) => Err(fault::function_declined(text, whole)),
-        Err(CallError::Memory) => Err(Halt::Memory),
+        CallError::Arg(index, error) => misfit(alloc, name, index, error, values, spans, whole),
+        CallError::Fault(text) => fault::function_declined(text, whole),
+        CallError::Memory => Halt::Memory,
     }
 }
 

@@ -38,6 +38,8 @@ pub enum Halt {
 }
 
 /// Creates a fault of rendering with this reason, at this span.
+#[cold]
+#[inline(never)]
 pub fn wrong(alloc: Global, reason: &str, span: Span) -> Halt
     ensures { IsHalt (wrong reason.now span) result }
 {

@@ -12,7 +12,7 @@ use std::test::Fail;
 use upon_render::iter::LoopState;
 use upon_types::error;
 use upon_types::types::Span;
-use upon_types::types::ast::{Access, AccessOp, Ident, LoopVars, Member, Var};
+use upon_types::types::ast::{Access, AccessOp, Ident, LoopVars, Member, Name, Var};
 use upon_types::value::{Value, ValueCow};
 
 const SOURCE: &str = "{% for x in xs %}{{ x }}{% endfor %}";
@@ -33,7 +33,7 @@ fn texts(alloc: Global) -> Result<Value, AllocError> {
 fn ident(alloc: Global, m: usize) -> Result<Ident, AllocError> {
     let n = m.saturating_add(1);
     Ok(Ident {
-        name: String::from_str(alloc, "x")?,
+        name: Name::from_str(alloc, "x")?,
         span: Span { m, n },
     })
 }

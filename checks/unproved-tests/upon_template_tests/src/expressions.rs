@@ -28,6 +28,15 @@ fn paths(rt: HostRuntime) -> std::result::Result<(), Fail> {
         ("{{ nothing }}", ""),
         ("{{ ?.z }}", ""),
         ("{{ user?.z.y }}", ""),
+        // Names that lie in the path (of at most 16 bytes), and one that does not.
+        (
+            "{% with {\"sixteen_letters_\": {\"seventeen_letters\": 2} } as m %}{{ m.sixteen_letters_.seventeen_letters }}{% endwith %}",
+            "2",
+        ),
+        (
+            "{% with {\"seventeen_letters\": 2} as m %}{{ m.seventeen_letter_ }}{% endwith %}",
+            "render error: not found in map at 44..62",
+        ),
         (
             "{{ list.5 }}",
             "render error: index out of bounds, the length is 1 at 7..9",

@@ -24,6 +24,8 @@ fn texts(rt: HostRuntime) -> std::result::Result<(), Fail> {
         ("n", "{{ n }}"),
         ("a", "{{ a }}"),
         ("item", "{{ x }}{% if loop.last %}.{% endif %}"),
+        ("of", "{{ u.name }}/{{ u?.age }}"),
+        ("again", "{% include \"of\" with {\"u\": u} %}"),
         (
             "page",
             "[{% include \"n\" %}{% include \"a\" with {\"a\": n} %}]",
@@ -39,6 +41,19 @@ fn texts(rt: HostRuntime) -> std::result::Result<(), Fail> {
         ("{% with 1 as n %}{% include \"n\" %}{% endwith %}", "1"),
         ("{% for x in xs %}{% include \"item\" %}{% endfor %}", "12."),
         ("{% include \"page\" %}", "[22]"),
+        ("{% include \"of\" with {\"u\": user} %}", "John Smith/"),
+        ("{% include \"again\" with {\"u\": user} %}{{ n }}", "John Smith/2"),
+        ("{% for x in [user] %}{% include \"of\" with {\"u\": x} %}{% endfor %}", "John Smith/"),
+        ("{% include \"of\" with {\"v\": a, \"u\": user} %}", "John Smith/"),
+        ("{% include \"of\" with {\"u\": a, \"u\": user} %}", "John Smith/"),
+        (
+            "{% include \"a\" with {\"b\": user} %}",
+            "render error: not found in this scope at 3..4 in a",
+        ),
+        (
+            "{% include \"zz\" with {\"b\": user} %}",
+            "render error: unknown template at 11..15",
+        ),
         (
             "{% include \"a\" with 5 %}",
             "render error: not found in this scope at 3..4 in a",

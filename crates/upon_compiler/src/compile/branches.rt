@@ -103,15 +103,14 @@ impl Compiler {
     pub fn begin_for(
         &mut self,
         code: &mut Vec<Instr>,
-        vars: LoopVars,
+        vars: Box<LoopVars>,
         span: Span,
     ) -> Result<(), AllocError>
         ensures state { OnOk result (state_of self.new
-            ≡ after (for_event (loop_vars_of vars) span (program_view code.old.items)) (state_of self.old)) }
+            ≡ after (for_event (loop_vars_of vars.value) span (program_view code.old.items)) (state_of self.old)) }
         ensures moved { OnOk result (code.new.items ≡ []) }
     {
         self.append(code)?;
-        let vars = Box::new(self.alloc(), vars)?;
         self.push(Instr::LoopStart(vars, span))?;
         let next = self.len();
         self.push(Instr::LoopNext(0))?;

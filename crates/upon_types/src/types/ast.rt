@@ -1,10 +1,12 @@
 // The parts of a template that its instructions keep: names, paths, literals. Each span says where in the source a
 // part is.
 pub mod expression;
+pub mod name;
 pub mod path;
 
 use super::Span;
 pub use expression::{Literal, String};
+pub use name::Name;
 pub use path::{Access, AccessOp, Ident, Index, Member, Var};
 
 /// The names that a loop gives.

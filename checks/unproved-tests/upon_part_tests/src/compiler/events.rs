@@ -5,7 +5,7 @@ use std::test::Fail;
 use upon_compiler::compile::Compiler;
 use upon_instructions::types::program::Instr;
 use upon_types::types::Span;
-use upon_types::types::ast::{Ident, Literal, LoopVars};
+use upon_types::types::ast::{Ident, Literal, LoopVars, Name};
 use upon_types::value::Value;
 
 #[derive(Clone, Copy)]
@@ -28,7 +28,7 @@ const NOWHERE: Span = Span { m: 0, n: 0 };
 
 fn name(alloc: Global) -> Result<Ident, AllocError> {
     Ok(Ident {
-        name: String::from_str(alloc, "x")?,
+        name: Name::from_str(alloc, "x")?,
         span: NOWHERE,
     })
 }
@@ -50,7 +50,10 @@ fn tell(alloc: Global, compiler: &mut Compiler, event: Event) -> Result<(), Allo
             compiler.end_if();
             Ok(())
         }
-        For => compiler.begin_for(&mut one(alloc)?, LoopVars::Item(name(alloc)?), NOWHERE),
+        For => {
+            let names = Box::new(alloc, LoopVars::Item(name(alloc)?))?;
+            compiler.begin_for(&mut one(alloc)?, names, NOWHERE)
+        }
         EndFor => compiler.end_for(),
         With => compiler.begin_with(&mut one(alloc)?, name(alloc)?),
         EndWith => compiler.end_with(),

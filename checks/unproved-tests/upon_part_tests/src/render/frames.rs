@@ -24,6 +24,19 @@ fn a_boundary_is_taken_away(rt: HostRuntime) -> Result<(), Fail> {
 }
 
 #[test]
+fn a_context_is_taken_away(rt: HostRuntime) -> Result<(), Fail> {
+    let alloc = rt.alloc();
+    let context = Value::Map(entry(alloc, "a", Value::Integer(1))?);
+    let inner = Value::Map(entry(alloc, "a", Value::Integer(2))?);
+    let mut stack: Stack<NoSource> = Stack::new(alloc, &context);
+    stack.push(State::Scope(ValueCow::Owned(inner)))?;
+    let taken = stack.pop_scope();
+    assert!(&rt; matches!(&taken, ValueCow::Owned(Value::Map(_))));
+    let rows: [Row; 1] = [("{{ a }}", 3, &[(DOT, "a")], "Integer(1)")];
+    all_found(&rt, alloc, &mut stack, &rows)
+}
+
+#[test]
 fn a_name_is_taken_away(rt: HostRuntime) -> Result<(), Fail> {
     let alloc = rt.alloc();
     let name = ident(alloc, "a", 3)?;
@@ -65,7 +78,11 @@ fn the_innermost_loop(rt: HostRuntime) -> Result<(), Fail> {
     let context = Value::None;
     let mut stack: Stack<NoSource> = Stack::new(alloc, &context);
     let state = at_item(&rt, alloc, &vars, ValueCow::Borrowed(&items), 1)?;
+    assert!(&rt; !stack.is_in_loop());
+    stack.push(State::Boundary)?;
+    assert!(&rt; !stack.is_in_loop());
     stack.push(State::Loop(state))?;
+    assert!(&rt; stack.is_in_loop());
     let innermost = stack.last_loop_state_mut();
     assert!(&rt; index_is(&rt, alloc, innermost, "Integer(0)")?);
     assert!(&rt; innermost.iterate().is_some());

@@ -5,7 +5,7 @@ use std::test::Fail;
 use upon_render::source::{SourceError, ValueAccess, ValueAccessOp, ValueMember, ValueSource};
 use upon_render::stack::{Stack, State};
 use upon_render::value_fn::{CallPath, ValueFn};
-use upon_types::types::ast::Ident;
+use upon_types::types::ast::{Ident, Name};
 use upon_types::value::{Value, ValueCow};
 
 // A function that answers 1, 2, .. in turn.
@@ -88,7 +88,7 @@ fn asked_once_each(rt: HostRuntime) -> Result<(), Fail> {
     let alloc = rt.alloc();
     let mut counter = ValueFn::new(Counter { asked: 0 });
     let name = Ident {
-        name: String::from_str(alloc, "a")?,
+        name: Name::from_str(alloc, "a")?,
         span: upon_types::types::Span { m: 7, n: 8 },
     };
     let mut stack = Stack::with_value_fn(alloc, &mut counter);

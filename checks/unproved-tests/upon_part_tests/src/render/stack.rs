@@ -14,7 +14,7 @@ use upon_render::source::{NoSource, ValueSource};
 use upon_render::stack::{Stack, State};
 use upon_types::error;
 use upon_types::types::Span;
-use upon_types::types::ast::{Access, AccessOp, Ident, Index, KeyValue, LoopVars, Member, Var};
+use upon_types::types::ast::{Access, AccessOp, Ident, Index, KeyValue, LoopVars, Member, Name, Var};
 use upon_types::value::{Value, ValueCow};
 
 // A member of a path, by its operator and its name or number.
@@ -30,7 +30,7 @@ pub type Row<'a> = (&'a str, usize, &'a [Part<'a>], &'a str);
 // ---- fixtures
 pub fn ident(alloc: Global, name: &str, m: usize) -> Result<Ident, AllocError> {
     Ok(Ident {
-        name: String::from_str(alloc, name)?,
+        name: Name::from_str(alloc, name)?,
         span: Span {
             m,
             n: m.saturating_add(name.len()),

@@ -7,7 +7,7 @@ use std::process::Abort;
 use std::test::Fail;
 use upon_fmt::fmt::Formatter;
 use upon_types::types::Span;
-use upon_types::types::ast::Ident;
+use upon_types::types::ast::{Ident, Name};
 use upon_types::value::{Value, ValueCow};
 use upon_vm_calls::calls::call;
 use upon_vm_calls::emission::{emit_value, emit_with};
@@ -21,7 +21,7 @@ const WHOLE: Span = Span { m: 3, n: 7 };
 
 fn name(alloc: Global) -> Result<Ident, AllocError> {
     Ok(Ident {
-        name: String::from_str(alloc, "f")?,
+        name: Name::from_str(alloc, "f")?,
         span: NAME,
     })
 }

@@ -16,4 +16,4 @@ returns-in_ok-bind-in-Some c = λ number d inc.
     let mid = known_view c.pop.new.self in
     let bound = value_of (view c.or_never.result) in
     named d inc number (known_view c.args.known.now) mid (known_view c.bind.new.self) (operand_view c.in-Some.operand) (ident_of c.args.name.now) (view c.or_never.result) c.in-Some.ensures c.or_never.ensures
-    (c.in_ok-bind-in-Some.ensures ∙ ap (λ t. binds (name_shape t bound ∷ []) mid.operands mid) c.deref.ensures)
+    (c.in_ok-bind-in-Some.ensures ∙ ap (λ t. binds (name_shape t bound ∷ []) mid.operands mid) c.as_str.ensures)

@@ -16,7 +16,7 @@ rebind-requires c = depth_within _ _ _ _ (c.deref.ensures.value ∙ sym c.deref_
 
 pub returns-in_ok-inside-in-None-clause-narrowed : goal.returns-in_ok-inside-in-None-clause-narrowed
 returns-in_ok-inside-in-None-clause-narrowed c =
-    narrowed_context c.args.path.now c.first.result.now c.in-Key.word c.deref.result.now c.args.scope.now.names.items _ _ c.deref-2.result.now c.first.ensures c.in-Key.is c.deref-2.ensures c.deref.ensures.value
+    narrowed_context c.args.path.now c.first.result.now c.in-Key.word c.deref.result.now c.args.scope.now.names.items _ _ c.as_str.result.now c.first.ensures c.in-Key.is c.as_str.ensures c.deref.ensures.value
     c.in-None.ensures.0 c.in-None.ensures.1
     (ap view c.replace.ensures.after
     ∙ (c.in_ok-inside-in-None.ensures
@@ -26,7 +26,7 @@ pub returns-in_ok-inside-in-Some-clause-narrowed : goal.returns-in_ok-inside-in-
 returns-in_ok-inside-in-Some-clause-narrowed c =
     let names = c.args.scope.now.names in
     let even : length c.rebind.new.names ≡ names.len = omega (arith, c.rebind.auto.names, c.deref_mut.ensures.len) in
-    narrowed_name c.args.path.now c.first.result.now c.in-Key.word c.deref.result.now names.items (with_items names c.rebind.new.names).items (view c.args.scope.now.root) c.deref-2.result.now _ _ _ _ c.first.ensures c.in-Key.is c.deref-2.ensures
+    narrowed_name c.args.path.now c.first.result.now c.in-Key.word c.deref.result.now names.items (with_items names c.rebind.new.names).items (view c.args.scope.now.root) c.as_str.result.now _ _ _ _ c.first.ensures c.in-Key.is c.as_str.ensures
     c.deref.ensures.value c.in-Some.ensures.0 c.in-Some.ensures.1 c.rest.ensures c.in_ok-inside-in-Some.ensures
     (ap names_view (with_items_is names c.rebind.new.names even)
     ∙ (c.rebind.ensures.names ∙ ap (λ (l : List NameShape). bound_at c.in-Some.place.depth (bound_view c.in_ok-inside-in-Some.inside) (names_view l)) c.deref_mut.ensures.value))

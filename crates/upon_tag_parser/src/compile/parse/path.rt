@@ -20,7 +20,7 @@ ghost use Rattle.upon_tag_parser.specs.TagParsing.{IfStuck, IsStuck, IsRefused, 
 use crate::compile::parse::literal::{Lexed, index};
 use crate::compile::parse::want::Want;
 use std::alloc::{AllocError, AllocFailed, Global};
-use upon_types::types::ast::{Access, AccessOp, Ident, Index, Member, Var};
+use upon_types::types::ast::{self, Access, AccessOp, Ident, Index, Member, Var};
 use upon_types::types::{Span, Token, slice};
 
 /// Why a part of a tag was not read.
@@ -147,7 +147,7 @@ impl<'a> TagParser<'a> {
         ensures text { IfOk result (λ ident. (ident_of ident).text ≡ slice self.now.source.now span) }
         ensures span { IfOk result (λ ident. ident.span ≡ span) }
     {
-        let name = String::from_str(self.alloc, slice(self.source, span))?;
+        let name = ast::Name::from_str(self.alloc, slice(self.source, span))?;
         Ok(Ident { name, span })
     }
 

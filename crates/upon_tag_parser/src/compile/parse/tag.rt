@@ -31,7 +31,7 @@ pub enum Tag {
     Else,
     EndIf,
     /// The loop's variables, and where the iterable is.
-    For(LoopVars, Span),
+    For(Box<LoopVars>, Span),
     EndFor,
     /// The name of the value.
     With(Ident),
@@ -190,7 +190,8 @@ impl<'a> TagParser<'a> {
             None => Err(Failure::Stuck(Want::In, rest)),
             Some((_, rest)) => {
                 let (span, left) = self.parse_expr(rest, code)?;
-                Ok((Tag::For(vars, span), left))
+                let names = Box::new(self.alloc, vars)?;
+                Ok((Tag::For(names, span), left))
             }
         }
     }

@@ -2,11 +2,12 @@
 ghost use Rattle.std.specs.Prelude.{◌<◌, length};
 
 use crate::types::Span;
+use crate::types::ast::Name;
 
 /// A name, and where it is.
 #[derive(Drop)]
 pub struct Ident {
-    pub name: String,
+    pub name: Name,
     pub span: Span,
 }
 

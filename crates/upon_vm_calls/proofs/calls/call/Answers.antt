@@ -11,6 +11,6 @@ pub returns-in-Function : goal.returns-in-Function
 returns-in-Function g c =
     let did = c.in-Function.ensures {u = tt} in
     let operands = row c.args.values.now c.args.spans.now in
-    let denoted = sym (ap (g.C.Callables.callables c.args.callables.now) c.as_str.ensures.value) ∙ did.1 in
+    let denoted = sym (ap (g.C.Callables.callables c.args.callables.now) c.as_str.ensures) ∙ did.1 in
     subst (λ callable. Finds c.report.result (call_value (ident_of c.args.name.now) c.args.whole operands callable)) (sym denoted)
     (c.report.ensures (did.0 (values_of operands)) (of_row (λ a. Says c.in-Function.answer a) did.0 c.args.values.now c.args.spans.now c.requires did.2))

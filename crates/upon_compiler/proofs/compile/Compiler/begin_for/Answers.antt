@@ -8,8 +8,8 @@ use Rattle.upon_compiler.proofs.compile.Compiler.begin_for.Goals as goal
 
 pub returns-clause-state : goal.returns-clause-state
 returns-clause-state c =
-    let start = loop_start (loop_vars_of c.args.vars) c.args.span in
-    let push : code_of c.push.new.self ≡ code_of c.append.new.self ++ start ∷ [] = rw c.in_ok-vars.ensures.ok at c.in_ok-push.ensures.code in
+    let start = loop_start (loop_vars_of c.args.vars.value) c.args.span in
+    let push : code_of c.push.new.self ≡ code_of c.append.new.self ++ start ∷ [] = c.in_ok-push.ensures.code in
     let begun = push ∙ ap (λ x. x ++ start ∷ []) c.in_ok-append.ensures.code in
     same_state _ _ _ _
     (c.enter.ensures.code ∙ c.in_ok-push-2.ensures.code ∙ ap (λ x. x ++ loop_next 0 ∷ []) begun)

@@ -13,6 +13,11 @@ unreachable-requires g c =
     let P : State → Type 0 = λ frame. IsLoop (Some frame) in
     subst P c.in-Scope.is (last_is IsLoop c.args.self.now.frames c.len-last.result c.index_mut.result.now c.len-last.ensures c.index_mut.ensures.value c.requires c.requires)
 
+pub unreachable-requires-in-Entry : goal.unreachable-requires-in-Entry
+unreachable-requires-in-Entry g c =
+    let P : State → Type 0 = λ frame. IsLoop (Some frame) in
+    subst P c.in-Entry.is (last_is IsLoop c.args.self.now.frames c.len-last.result c.index_mut.result.now c.len-last.ensures c.index_mut.ensures.value c.requires c.requires)
+
 pub unreachable-requires-in-Var : goal.unreachable-requires-in-Var
 unreachable-requires-in-Var g c =
     let P : State → Type 0 = λ frame. IsLoop (Some frame) in

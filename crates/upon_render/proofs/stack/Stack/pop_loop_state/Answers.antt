@@ -5,6 +5,9 @@ use Rattle.upon_render.proofs.stack.Stack.pop_loop_state.Goals as goal
 pub unreachable-requires : goal.unreachable-requires
 unreachable-requires g c = popped_is IsLoop _ _ _ c.in-Scope.ensures.frames c.requires
 
+pub unreachable-requires-in-Entry : goal.unreachable-requires-in-Entry
+unreachable-requires-in-Entry g c = popped_is IsLoop _ _ _ c.in-Entry.ensures.frames c.requires
+
 pub unreachable-requires-in-Var : goal.unreachable-requires-in-Var
 unreachable-requires-in-Var g c = popped_is IsLoop _ _ _ c.in-Var.ensures.frames c.requires
 

@@ -49,7 +49,7 @@ pub returns-in-For-clause-state : goal.returns-in-For-clause-state
 returns-in-For-clause-state c = λ told keeps code.
     let kept = rw c.in-For.is at keeps in
     let old = state_of c.args.compiler.now in
-    let names = loop_vars_of c.in-For.vars in
+    let names = loop_vars_of c.in-For.vars.value in
     let all = code ∙ ap tag_code kept.1 in
     let event = (λ i. for_event names (kept.2 i) (all i)) ∙ ap tag_event (sym kept.1) in
     IfOk-equal c.begin_for.result _ _ _ c.begin_for.ensures.state (ap (λ e. after e old) event)

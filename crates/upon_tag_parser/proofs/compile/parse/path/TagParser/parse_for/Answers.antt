@@ -1,4 +1,4 @@
-use Rattle.std.proofs.Common.{[], ◌∷◌, true, refl}
+use Rattle.std.proofs.Common.{[], ◌∷◌, true, ap, sym}
 use Rattle.std.proofs.lemmas.Result.{err_from_is_err_and}
 use Rattle.upon_language_spec.specs.Parts.{a_base, filters, end_block, loop_name}
 use Rattle.upon_tag_parser.specs.TagTokens.{lexemes_of}
@@ -33,17 +33,17 @@ returns-in-None-clause-stuck c =
     let rest = (lexemes_of c.in_ok-vars.rest.now) in
     stuck_then c.args.self.now.source.now (loop_name ∷ end_block ∷ []) (vars.last ∷ end_block ∷ []) (lexemes_of c.args.tokens.now) rest rest an_in (vars.leads (end_block ∷ [])) (stuck_here c.args.self.now.source.now (vars.last ∷ end_block ∷ []) rest an_in (vars.refuses (end_block ∷ []) c.in-None.ensures.word) (vars.wants_in (end_block ∷ [])))
 
-pub returns-in_ok-span-in-Some-clause-tag : goal.returns-in_ok-span-in-Some-clause-tag
-returns-in_ok-span-in-Some-clause-tag c before g =
+pub returns-in_ok-names-in-Some-clause-tag : goal.returns-in_ok-names-in-Some-clause-tag
+returns-in_ok-names-in-Some-clause-tag c before g =
     let x = c.in_ok-span-in-Some.ensures.expression in
     let vars = loop_vars_of c.in_ok-vars.vars in
     record {
       tree = for_tag vars x.tree;
       reads = for_reads c.args.self.now.source.now vars x.tree before (lexemes_of c.args.tokens.now) (lexemes_of c.in_ok-vars.rest.now) (lexemes_of c.in-Some.rest.now) (lexemes_of c.in_ok-span-in-Some.left.now) g c.in_ok-vars.ensures.vars (_, c.in-Some.ensures.word) x.reads;
-      keeps = (x.tree, refl, x.is_at);
+      keeps = (x.tree, ap (λ v. for_tag (loop_vars_of v) x.tree) (sym c.in_ok-names-in-Some.ensures.ok), x.is_at);
       code = x.code;
     }
 
-pub returns-in_ok-span-in-Some-clause-rest : goal.returns-in_ok-span-in-Some-clause-rest
-returns-in_ok-span-in-Some-clause-rest c =
+pub returns-in_ok-names-in-Some-clause-rest : goal.returns-in_ok-names-in-Some-clause-rest
+returns-in_ok-names-in-Some-clause-rest c =
     rest_then (lexemes_of c.args.tokens.now) (lexemes_of c.in_ok-vars.rest.now) (lexemes_of c.in_ok-span-in-Some.left.now) c.in_ok-vars.ensures.rest (rest_then (lexemes_of c.in_ok-vars.rest.now) (lexemes_of c.in-Some.rest.now) (lexemes_of c.in_ok-span-in-Some.left.now) c.in-Some.ensures.rest c.in_ok-span-in-Some.ensures.rest)

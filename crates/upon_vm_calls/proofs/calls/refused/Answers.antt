@@ -1,4 +1,4 @@
-use Rattle.std.proofs.Common.{◌≡◌, Err, subst, sym, ap, ◌∙◌}
+use Rattle.std.proofs.Common.{◌≡◌, Err, subst, sym, ap}
 use Rattle.upon_functions.specs.Says.{Says}
 use Rattle.upon_types.specs.Answers.{wrong_number}
 use Rattle.upon_types.specs.AstPath.{ident_of}
@@ -9,13 +9,13 @@ use Rattle.upon_vm_calls.specs.Halt.{Finds}
 use Rattle.upon_vm_calls.specs.Operands.{row}
 use Rattle.upon_vm_calls.proofs.Reports.{found_halt}
 use Rattle.upon_vm_calls.proofs.Rows.{row_length}
-use Rattle.upon_vm_calls.proofs.calls.report.Goals as goal
+use Rattle.upon_vm_calls.proofs.calls.refused.Goals as goal
 
-pub returns-in-Err-Arity : goal.returns-in-Err-Arity
-returns-in-Err-Arity c =
+pub returns-in-Arity : goal.returns-in-Arity
+returns-in-Arity c =
     λ a says.
-    let n = c.in-Err-Arity.expected in
+    let n = c.in-Arity.expected in
     let given = row c.args.values.now c.args.spans.now in
-    let number : a ≡ wrong_number n = subst (λ r. Says r a) (c.in-Err-Arity.is ∙ ap Err c.in-Err-Arity.field-0-is) says in
+    let number : a ≡ wrong_number n = subst (λ r. Says r a) (ap Err c.in-Arity.is) says in
     subst (λ a. Finds (Err c.function_expects.result) (answer_value (ident_of c.args.name.now) c.args.whole given a)) (sym number)
     (subst (λ m. Finds (Err c.function_expects.result) (at_fault (function_expects n m c.args.whole))) (sym (row_length c.args.values.now c.args.spans.now c.requires)) (found_halt _ _ c.function_expects.ensures))
