@@ -90,6 +90,7 @@ fn items(alloc: Global, notes: &mut Notes) -> Result<Vec<Value>>
 
 // The map of entries and the members up to its end.
 #[cycle(build)]
+#[inline(always)]
 fn map(alloc: Global, notes: &mut Notes, entries: Entries) -> Result<BTreeMap<String, Value>>
     ensures reads { IfOk result
         (λ m. ReadsMembers (events_of notes.old) (events_of notes.new) (pairs_so_far entries) (pairs_of m.entries)) }

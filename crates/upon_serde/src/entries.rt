@@ -51,16 +51,20 @@ impl Entries {
             (pairs_so_far self.new ≡ with_pair (string_bytes key) (view value) (pairs_so_far self.old)) }
     {
         match self {
-            Entries::Map(map) => drop(map.insert(key, value)?),
+            Entries::Map(map) => match map.insert(key, value) {
+                Ok(_) => Ok(()),
+                Err(_) => Err(AllocError),
+            },
             Entries::Row(row) => {
                 row.reserve(1)?;
                 row.push_reserved((key, value));
+                Ok(())
             }
         }
-        Ok(())
     }
 
     /// Returns the map of the entries.
+    #[inline(always)]
     pub fn into_map(self, alloc: Global) -> Result<BTreeMap<String, Value>>
         ensures { IfOk result (λ map. pairs_of map.entries ≡ pairs_so_far self) }
     {
@@ -72,6 +76,7 @@ impl Entries {
 }
 
 // The map of a row of entries.
+#[inline(never)]
 fn map_of(
     alloc: Global,
     row: Vec<(String, Value)>,

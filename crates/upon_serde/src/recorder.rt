@@ -142,7 +142,7 @@ impl Recorder {
 
     // The begin of a map that is not large. The map is made at once, so that its node lies among its texts: nodes that
     // lie side by side are joined when they are freed, and with them all small pieces.
-    #[inline(never)]
+    #[inline(always)]
     fn note_room(&mut self, len: u8) -> Result<()>
         ensures { OnOk result (sent self.new ≡ sent self.old ++ event.map_begins (Some len) ∷ []) }
     {
@@ -163,6 +163,16 @@ impl Recorder {
             }
             _ => self.note(Note::Text(text)),
         }
+    }
+
+    // The begin of a key where a key is open.
+    #[inline(never)]
+    fn begin_key_in_key(&mut self) -> Result<()>
+        ensures { OnOk result (sent self.new ≡ sent self.old ++ event.key_begins ∷ []) }
+    {
+        self.settle_key()?;
+        self.key = Key::Begun;
+        Ok(())
     }
 
     #[inline(never)]
@@ -250,8 +260,8 @@ impl Serializer for Recorder {
     }
 
     fn begin_map(&mut self, len: Option<usize>) -> Result<()> {
-        match len.map(u8::try_from) {
-            Some(Ok(len)) if 0 < len && usize::from(len) <= LARGE => self.note_room(len),
+        match len {
+            Some(len) if 0 < len && len <= LARGE => self.note_room(len as u8),
             _ => self.note_value(Note::BeginMap(len)),
         }
     }
@@ -271,9 +281,13 @@ impl Serializer for Recorder {
     }
 
     fn begin_key(&mut self) -> Result<()> {
-        self.settle()?;
-        self.key = Key::Begun;
-        Ok(())
+        match self.key {
+            Key::None => {
+                self.key = Key::Begun;
+                Ok(())
+            }
+            _ => self.begin_key_in_key(),
+        }
     }
 
     fn end_key(&mut self) -> Result<()> {

@@ -7,14 +7,14 @@ use Rattle.upon_serde.proofs.Reading.{Entry, pairs_of-insert}
 use Rattle.upon_serde.proofs.Putting.{pairs_put-append}
 use Rattle.upon_serde.proofs.entries.Entries.put.Goals as goal
 
-pub returns-in_ok-insert-in-Map : goal.returns-in_ok-insert-in-Map
-returns-in_ok-insert-in-Map c =
-    ap pairs_of c.in_ok-insert-in-Map.ensures.entries
+pub returns-in-Ok : goal.returns-in-Ok
+returns-in-Ok c =
+    ap pairs_of c.in-Ok.ensures.entries
     ∙ pairs_of-insert c.in-Map.map.entries c.args.key c.args.value
     ∙ ap (λ entries. with_pair (string_bytes c.args.key) (view c.args.value) (pairs_so_far entries)) (sym c.in-Map.is)
 
-pub returns-in_ok-reserve-in-Row : goal.returns-in_ok-reserve-in-Row
-returns-in_ok-reserve-in-Row c =
+pub returns : goal.returns
+returns c =
     let entry : Entry = (c.args.key, c.args.value) in
     ap (λ items. pairs_put items []) (c.push_reserved.ensures.items ∙ ap (λ items. items ++ entry ∷ []) c.reserve.ensures.items)
     ∙ pairs_put-append c.in-Row.row.items (entry ∷ []) []

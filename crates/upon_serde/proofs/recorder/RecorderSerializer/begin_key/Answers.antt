@@ -4,11 +4,8 @@ use Rattle.upon_serde.specs.Notes.{notes_of, events_from, begun}
 use Rattle.upon_serde.proofs.Noting.{events_then}
 use Rattle.upon_serde.proofs.recorder.RecorderSerializer.begin_key.Goals as goal
 
-pub returns : goal.returns
-returns c =
-    let settled = c.settle.new.self in
-    let sends = event.key_begins ∷ [] in
-    ap Some (
-    ap (λ before. events_from (notes_of settled) (before ++ sends)) (sym c.in_ok-settle.ensures.noted)
-    ∙ events_then (notes_of settled) (begun settled.key) sends
-    ∙ ap (λ before. before ++ sends) c.in_ok-settle.ensures.sent)
+pub returns-in-None : goal.returns-in-None
+returns-in-None c =
+    let notes = notes_of c.args.self.now in
+    let begins = event.key_begins ∷ [] in
+    ap Some (ap (λ key. events_from notes (begun key ++ begins)) (sym c.in-None.is) ∙ events_then notes (begun c.args.self.now.key) begins)
