@@ -42,6 +42,8 @@ fn value(alloc: Global, notes: &mut Notes) -> Result<Value>
     match note {
         Note::Text(text) => Ok(Value::String(text)),
         Note::Bool(truth) => Ok(Value::Bool(truth)),
+        // As the rest, but of its own, since it is frequent: each of the rest takes one jump more.
+        note @ Note::Signed(_) => simple_value(alloc, note),
         Note::BeginSeq(_) => Ok(Value::List(items(alloc, notes)?)),
         Note::BeginMap(len) => Ok(Value::Map(map(alloc, notes, Entries::new(alloc, len))?)),
         Note::BeginRoom(_, room) => Ok(Value::Map(map(

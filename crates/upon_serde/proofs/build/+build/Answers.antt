@@ -128,6 +128,13 @@ value-returns-in_ok-map-in-BeginRoom-clause-reads t c =
     let begins = ap (λ ns. events_from ns []) c.in-Some.ensures.items ∙ ap (λ n. noted n inside) c.in-BeginRoom.is in
     reads_map (Some c.in-BeginRoom.field-0) (events_of c.args.notes.now) inside after m begins (subst (λ old. ReadsMembers inside after old (pairs_of m.entries)) c.within.ensures c.in_ok-map-in-BeginRoom.ensures.reads)
 
+pub value-returns-in-Signed-clause-reads : goal.value-returns-in-Signed-clause-reads
+value-returns-in-Signed-clause-reads t c =
+    let note = c.in-Some.note in
+    let after = events_of c.pop_front.new.self in
+    let begins : events_of c.args.notes.now ≡ noted note after = ap (λ ns. events_from ns []) c.in-Some.ensures.items in
+    reads_note_ok note (events_of c.args.notes.now) after c.simple_value.result begins c.simple_value.ensures
+
 pub value-returns-in_default-note : goal.value-returns-in_default-note
 value-returns-in_default-note t c =
     let note = c.in-Some.note in
@@ -135,6 +142,6 @@ value-returns-in_default-note t c =
     let begins : events_of c.args.notes.now ≡ noted note after = ap (λ ns. events_from ns []) c.in-Some.ensures.items in
     let popped = c.in-Some.ensures.len in
     record {
-      reads = reads_note_ok note (events_of c.args.notes.now) after c.simple_value.result begins c.simple_value.ensures;
+      reads = reads_note_ok note (events_of c.args.notes.now) after c.simple_value-in_default-note.result begins c.simple_value-in_default-note.ensures;
       shorter = search (rules, on_ok_weaker);
     }
