@@ -14,7 +14,7 @@ use Rattle.upon_engine.specs.Faults.{IsSyntaxErrorOf}
 use Rattle.upon_engine.specs.Texts.{Stored, Texts}
 use Rattle.upon_engine.specs.Theorem.{Sends, meaning}
 use Rattle.upon_vm.specs.Reports.{IsAnyIo}
-use Rattle.upon.specs.Program.{holding, Renders, Shown}
+use Rattle.upon.specs.Program.{holding, RendersValue, Shown}
 
 pub keeps_same : (a : Option (List ℕ)) → Keeps a a
 keeps_same None = tt
@@ -65,17 +65,17 @@ not_flushed name text v old mid new e io keeps shown = (
 
 -- ---- what is answered at an error
 -- the text is refused
-pub refused : (name text : List ℕ) (v : Val) (e : Error) (r : Result (Unit {0}) Error) (a : Option (List ℕ)) → IsErrAnd r (λ x. x ≡ e) → IsSyntaxErrorOf name default_delimiters text e → Renders name text v r a a
+pub refused : (name text : List ℕ) (v : Val) (e : Error) (r : Result (Unit {0}) Error) (a : Option (List ℕ)) → IsErrAnd r (λ x. x ≡ e) → IsSyntaxErrorOf name default_delimiters text e → RendersValue name text v r a a
 refused name text v e (Ok u) a is faulty = absurd is
 refused name text v e (Err x) a is faulty = inr (subst (IsSyntaxErrorOf name default_delimiters text) (sym is) faulty, keeps_same a)
 
 -- its rendering ended
-pub stopped : (name text : List ℕ) (v : Val) (e : Error) (q r : Result (Unit {0}) Error) (old new : Option (List ℕ)) → q ≡ Err e → IsErrAnd r (λ x. x ≡ e) → Shown name text v q old new → Renders name text v r old new
+pub stopped : (name text : List ℕ) (v : Val) (e : Error) (q r : Result (Unit {0}) Error) (old new : Option (List ℕ)) → q ≡ Err e → IsErrAnd r (λ x. x ≡ e) → Shown name text v q old new → RendersValue name text v r old new
 stopped name text v e q (Ok u) old new was is shown = absurd is
 stopped name text v e q (Err x) old new was is shown = inl (subst (λ q. Shown name text v q old new) (was ∙ ap Err (sym is)) shown)
 
 -- it was not flushed
-pub unflushed : (Q : Error → Type 0) (name text : List ℕ) (v : Val) (q r : Result (Unit {0}) Error) (old mid new : Option (List ℕ)) → q ≡ Ok tt → IsErrAnd r (λ x. IsAnyIo x × Q x) → Keeps mid new → Shown name text v q old mid → Renders name text v r old new
+pub unflushed : (Q : Error → Type 0) (name text : List ℕ) (v : Val) (q r : Result (Unit {0}) Error) (old mid new : Option (List ℕ)) → q ≡ Ok tt → IsErrAnd r (λ x. IsAnyIo x × Q x) → Keeps mid new → Shown name text v q old mid → RendersValue name text v r old new
 unflushed Q name text v q (Ok u) old mid new was is keeps shown = absurd is
 unflushed Q name text v q (Err x) old mid new was is keeps shown = inl (not_flushed name text v old mid new x is.0 keeps (subst (λ q. Shown name text v q old mid) was shown))
 

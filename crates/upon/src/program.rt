@@ -4,7 +4,7 @@ ghost use Rattle.std.specs.List.{list_all};
 ghost use Rattle.upon_types.specs.Conversions.{HoldsLast};
 ghost use Rattle.upon_types.specs.Val.{text_val};
 ghost use Rattle.upon_types.specs.View.{view};
-ghost use Rattle.upon.specs.Program.{end_status, is_call, has_equals, pair_of, status_of, Ends, Reads, Renders, RendersOn};
+ghost use Rattle.upon.specs.Program.{end_status, is_call, word_has_equals, word_pair, status_of, RunEnds, ReadsFile, RendersValue, RendersOn};
 ghost use Rattle.upon.specs.declared.program.Failure.{Failure};
 
 use crate::{Engine, Value, theorem};
@@ -38,9 +38,9 @@ impl From<Error> for Failure {
 }
 
 impl From<AllocError> for Failure {
-    ghost use Rattle.upon.specs.Program.{IsMemory};
+    ghost use Rattle.upon.specs.Program.{IsMemoryFailure};
 
-    ghost from_gives = { λ _ failure. IsMemory failure };
+    ghost from_gives = { λ _ failure. IsMemoryFailure failure };
 
     fn from(error: AllocError) -> Failure {
         Failure::Fault(error.into())
@@ -69,7 +69,7 @@ pub fn run<R: io::Read + Drop, O: io::Write, E: io::Write>(
     ensures no_file { IsNone file → result ≡ 2 }
     // The work ends in one way of these, and that way has this status.
     ensures ends { (end : Result (Unit {0}) Failure) × (result ≡ end_status end)
-        × Ends args.now (option_and_then R.remaining file) end (O.contents out.old) (O.contents out.new) }
+        × RunEnds args.now (option_and_then R.remaining file) end (O.contents out.old) (O.contents out.new) }
 {
     let failure = match work(alloc, args, file, out) {
         Ok(()) => return 0,
@@ -125,7 +125,8 @@ fn work<R: Read + Drop, O: Write>(
 ) -> Result<(), Failure>
     ensures usage { is_call args.now ≡ false → IsErrAnd result (λ failure. status_of failure ≡ 2) }
     ensures no_file { IsNone file → IsErrAnd result (λ failure. status_of failure ≡ 2) }
-    ensures ends { Ends args.now (option_and_then R.remaining file) result (O.contents out.old) (O.contents out.new) }
+    ensures ends { RunEnds args.now (option_and_then R.remaining file) result (O.contents out.old)
+        (O.contents out.new) }
 {
     let Some((name, words)) = parts(args) else {
         return Err(Failure::Usage);
@@ -157,7 +158,7 @@ fn render<O: Write>(
     context: &Value,
     out: &mut O,
 ) -> Result<(), Error>
-    ensures { Renders name.now (string_bytes source) (view context.now) result (O.contents out.old)
+    ensures { RendersValue name.now (string_bytes source) (view context.now) result (O.contents out.old)
         (O.contents out.new) }
 {
     let mut engine = Engine::new(alloc);
@@ -183,13 +184,13 @@ fn parts(args: &[String]) -> Option<(&String, &[String])>
 }
 
 fn each_has_equals(words: &[String]) -> bool
-    ensures { result ≡ list_all has_equals words.now }
+    ensures { result ≡ list_all word_has_equals words.now }
 {
     words.iter().all(|word| has_equals(word))
 }
 
 fn has_equals(word: &String) -> bool
-    ensures { result ≡ has_equals word.now }
+    ensures { result ≡ word_has_equals word.now }
 {
     word.as_bytes().contains(&b'=')
 }
@@ -197,7 +198,7 @@ fn has_equals(word: &String) -> bool
 // The text of the file.
 fn read_source<R: Read + Drop>(alloc: Global, file: Option<R>) -> Result<String, Failure>
     ensures no_file { IsNone file → IsErrAnd result (λ failure. status_of failure ≡ 2) }
-    ensures read { Reads (option_and_then R.remaining file) result }
+    ensures read { ReadsFile (option_and_then R.remaining file) result }
 {
     let Some(mut file) = file else {
         return Err(Failure::Unreadable);
@@ -212,7 +213,7 @@ fn read_source<R: Read + Drop>(alloc: Global, file: Option<R>) -> Result<String,
 
 // The map of the words `KEY=TEXT`, each split at its first `=`; of equal keys the last counts.
 fn read_context(alloc: Global, words: &[String]) -> Result<Value, AllocError>
-    ensures { IfOk result (λ v. HoldsLast (map pair_of words.now) (view v)) }
+    ensures { IfOk result (λ v. HoldsLast (map word_pair words.now) (view v)) }
 {
     let mut texts = BTreeMap::new(alloc);
     for word in words {
@@ -225,7 +226,7 @@ fn read_context(alloc: Global, words: &[String]) -> Result<Value, AllocError>
 
 // The key and the text of a word: what is before its first `=`, and what is after it.
 fn pair_of(word: &String) -> (&str, &str)
-    ensures { (result.0.now, text_val result.1.now) ≡ pair_of word.now }
+    ensures { (result.0.now, text_val result.1.now) ≡ word_pair word.now }
 {
     match word.as_str().split_once('=') {
         Some(pair) => pair,

@@ -3,7 +3,7 @@ ghost use Rattle.std.specs.Prelude.{◌≡◌, ℕ, List, option_map};
 ghost use Rattle.upon_engine.specs.EngineNeeds.{table_in};
 ghost use Rattle.upon_engine.specs.Template.{template_of};
 ghost use Rattle.upon_engine.specs.declared.template.Template.{Template as Held};
-ghost use Rattle.upon_render.specs.Asked.{Asked};
+ghost use Rattle.upon_render.specs.Asked.{HasReply};
 ghost use Rattle.upon_render.specs.Finding.{Reply};
 ghost use Rattle.upon_render.specs.Source.{SourceAnswer};
 
@@ -117,7 +117,7 @@ pub trait CallName<'r>: Drop {
     /// Returns the template of this name. The error is `Refused` if the function refuses, and `Memory` if memory is
     /// out.
     fn call(&mut self, name: &str) -> Result<&'r Template<'r>, SourceError>
-        ensures { Asked (λ t. t.now) result (name_state self.new) (answers_name (name_state self.old) name.now) };
+        ensures { HasReply (λ t. t.now) result (name_state self.new) (answers_name (name_state self.old) name.now) };
 }
 
 /// The source that is a function.

@@ -10,7 +10,7 @@ use Rattle.upon_types.specs.Tree.{Statements}
 use Rattle.upon_types.specs.Val.{Val}
 use Rattle.upon_types.specs.declared.error.Error.{Error}
 use Rattle.upon_language_spec.specs.Grammar.{HasTree}
-use Rattle.upon_render.specs.Asked.{never}
+use Rattle.upon_render.specs.Asked.{refuses_all}
 use Rattle.upon_meaning_spec.specs.Alone.{includes_left, fault_of_end}
 use Rattle.upon_meaning_spec.specs.DefaultFormat.{formatter_or_default}
 use Rattle.upon_meaning_spec.specs.Engine.{Table, Template, calls_of}
@@ -25,7 +25,7 @@ use Rattle.upon_shape_spec.proofs.IncludesFit.{planned_alone, depth_alone}
 use Rattle.upon_engine.specs.Changes.{with_depth}
 use Rattle.upon_engine.specs.Engine.{engine_templates}
 use Rattle.upon_engine.specs.Texts.{Stored, texts_of}
-use Rattle.upon_engine.specs.Theorem.{Answers, engine_meant, meaning}
+use Rattle.upon_engine.specs.Theorem.{AnswersTree, engine_meant, meaning}
 use Rattle.upon_engine.specs.declared.engine.Engine.{Engine as Held}
 use Rattle.upon_engine.proofs.Tables.{made, only_table, is_table, template_held}
 use Rattle.upon_accepts.specs.EndsOn.{EndsOn, EndsAtDepth, EndsAs, IsTextUnlessDeep, IsTextOrNoMemory}
@@ -61,7 +61,7 @@ module _ {X Y : Type 0} {P : X → Type 0} {Q : Y → Type 0} (formats : DynBox 
       let closes : IsClosed declared table plan = subst (λ (t : Table). IsClosed declared t plan) (sym same) closed in
       let engine = engine_meant (texts_of formats answers e) table in
       depth_alone e.depth (meaning (texts_of formats answers e) table (Some name) held.text tree v).end f
-      (planned_alone declared table plan (calls_of engine never) keeps closes (includes_left e.depth) (made held.text tree) (Some name) s v (states tt tt) mine fits)
+      (planned_alone declared table plan (calls_of engine refuses_all) keeps closes (includes_left e.depth) (made held.text tree) (Some name) s v (states tt tt) mine fits)
       fault
 
   pub ends_at_depth : (declared : Declared) (name : List ℕ) (s : Shape) (depth : ℕ)
@@ -76,7 +76,7 @@ module _ {X Y : Type 0} {P : X → Type 0} {Q : Y → Type 0} (formats : DynBox 
       let deeper = with_depth more (texts_of formats answers e) in
       let enough : at.levels ≤ includes_left more = omega (arith, at.is_more, less) in
       no_fault more (meaning deeper table (Some name) held.text tree v).end
-      (deep_alone declared table (calls_of (engine_meant deeper table) never) keeps at.levels at.plan within (includes_left more) enough (made held.text tree) (Some name) s v (states tt tt) mine fits)
+      (deep_alone declared table (calls_of (engine_meant deeper table) refuses_all) keeps at.levels at.plan within (includes_left more) enough (made held.text tree) (Some name) s v (states tt tt) mine fits)
 
   pub ends_as : (declared : Declared) (name : List ℕ) (s : Shape) (accepted : Accepted)
       → IsAcceptedAs declared (engine_templates e) (named name s) accepted
@@ -91,7 +91,7 @@ module _ {X Y : Type 0} {P : X → Type 0} {Q : Y → Type 0} (formats : DynBox 
       → (texts_of formats answers e).texts name ≡ Some held → ∥ HasTree held.syntax held.text tree ∥₁
       → KeepsDeclared declared (texts_of formats answers e).callables (formatter_or_default (texts_of formats answers e).default_formatter)
       → Fits s v
-      → Answers (texts_of formats answers e) (Some name) held.text tree v result
+      → AnswersTree (texts_of formats answers e) (Some name) held.text tree v result
       → IsTextUnlessDeep e.depth result
   text_unless_deep declared name s held tree v (Ok text) ends here has keeps fits said = tt
   text_unless_deep declared name s held tree v (Err error) ends here has keeps fits said =
@@ -107,7 +107,7 @@ module _ {X Y : Type 0} {P : X → Type 0} {Q : Y → Type 0} (formats : DynBox 
       → (texts_of formats answers e).texts name ≡ Some held → ∥ HasTree held.syntax held.text tree ∥₁
       → KeepsDeclared declared (texts_of formats answers e).callables (formatter_or_default (texts_of formats answers e).default_formatter)
       → Fits s v
-      → Answers (texts_of formats answers e) (Some name) held.text tree v result
+      → AnswersTree (texts_of formats answers e) (Some name) held.text tree v result
       → IsTextOrNoMemory result
   text_within_depth declared name s depth held tree v (Ok text) ends less here has keeps fits said = tt
   text_within_depth declared name s depth held tree v (Err error) ends less here has keeps fits said =

@@ -1,7 +1,7 @@
 // Whether a template of an engine is accepted on a shape.
 ghost use Rattle.std.specs.Prelude.{◌≡◌, [], IfOk};
 ghost use Rattle.upon_shape_spec.specs.Accepted.{IsClosed};
-ghost use Rattle.upon_shape.specs.View.{view};
+ghost use Rattle.upon_shape.specs.View.{shape_view};
 ghost use Rattle.upon_checked.specs.Callables.{declared_view};
 ghost use Rattle.upon_checked.specs.Plan.{plan_view, planned_view};
 ghost use Rattle.upon_engine.specs.Engine.{engine_templates};
@@ -33,10 +33,10 @@ pub fn accepts<'t>(
     // If callables keep what is declared of them, a rendering on a value that fits has a text, unless includes are
     // too deep one inside another, memory is out, or a writer fails.
     ensures unless_deep { IfOk result (λ accepted. EndsOn (⟦<AnyEngine as EngineTexts>⟧.texts engine.now)
-        (declared_view declared.now) name.now (view shape.now)) }
+        (declared_view declared.now) name.now (shape_view shape.now)) }
     // They are not too deep where the engine has the depth that is said, or a greater one.
     ensures within { IfOk result (EndsAs (⟦<AnyEngine as EngineTexts>⟧.texts engine.now)
-        (declared_view declared.now) name.now (view shape.now)) }
+        (declared_view declared.now) name.now (shape_view shape.now)) }
 {
     let scope = Scope::over(alloc, shape.try_clone(alloc)?);
     let asked = Planned { name, scope };

@@ -10,7 +10,7 @@ ghost use Rattle.upon_shape_spec.specs.Declared.{Declared, KeepsDeclared};
 ghost use Rattle.upon_shape_spec.specs.Fits.{Fits};
 ghost use Rattle.upon_shape_spec.specs.Shape.{Shape};
 ghost use Rattle.upon_engine.specs.Texts.{Stored};
-ghost use Rattle.upon_engine.specs.Theorem.{Answers};
+ghost use Rattle.upon_engine.specs.Theorem.{AnswersTree};
 ghost use Rattle.upon_accepts.specs.EndsOn.{EndsOn, EndsAtDepth, IsTextUnlessDeep, IsTextOrNoMemory};
 
 use upon_engine::engine::Engine;
@@ -24,7 +24,7 @@ pub fn an_accepted_template_has_a_text(engine: &Engine<'_>)
         (result : Result (String Global) Error)
         → EndsOn e declared name s → e.texts name ≡ Some held → ∥ HasTree held.syntax held.text tree ∥₁
         → KeepsDeclared declared e.callables (formatter_or_default e.default_formatter) → Fits s v
-        → Answers e (Some name) held.text tree v result → IsTextUnlessDeep e.depth result }
+        → AnswersTree e (Some name) held.text tree v result → IsTextUnlessDeep e.depth result }
 {}
 
 /// States that this is a text, unless memory is out, of a template that ends within a depth which is not greater than
@@ -36,5 +36,5 @@ pub fn a_template_within_the_depth_has_a_text(engine: &Engine<'_>)
         → EndsAtDepth depth e declared name s → depth ≤ e.depth
         → e.texts name ≡ Some held → ∥ HasTree held.syntax held.text tree ∥₁
         → KeepsDeclared declared e.callables (formatter_or_default e.default_formatter) → Fits s v
-        → Answers e (Some name) held.text tree v result → IsTextOrNoMemory result }
+        → AnswersTree e (Some name) held.text tree v result → IsTextOrNoMemory result }
 {}

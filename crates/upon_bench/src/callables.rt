@@ -1,6 +1,6 @@
 // What the templates that are measured call: two functions.
 ghost use Rattle.std.specs.Prelude.{string_bytes};
-ghost use Rattle.upon_bench.specs.Callables.{doubled, prefixed};
+ghost use Rattle.upon_bench.specs.Callables.{doubled_long, prefixed_text};
 
 use std::alloc::{AllocError, Global};
 use upon::functions::{Call1, Call1S, Fn1, Fn1S};
@@ -15,7 +15,7 @@ pub(crate) struct Prefix {
 }
 
 impl Call1S<Text> for Prefix {
-    ghost meaning = { λ prefix. prefixed (string_bytes prefix.text) };
+    ghost meaning = { λ prefix. prefixed_text (string_bytes prefix.text) };
 
     fn call(&self, alloc: Global, first: &str) -> Text {
         let mut whole = String::from_str(alloc, &self.text)?;
@@ -29,7 +29,7 @@ impl Call1S<Text> for Prefix {
 pub(crate) struct Double;
 
 impl Call1<i64, i64> for Double {
-    ghost meaning = { λ _. doubled };
+    ghost meaning = { λ _. doubled_long };
 
     fn call(&self, _alloc: Global, first: i64) -> i64 {
         first.wrapping_add(first)

@@ -2,35 +2,35 @@
 use Rattle.std.proofs.Common.{arith, ◌≡◌, ◌⊎◌, ◌≤◌, ◌<◌, ◌∙◌, ℕ, List, length, take, drop, Some, string_bytes, sym, ap, subst, inl, inr}
 use Rattle.std.proofs.lemmas.Bool.{cases_lt}
 use Rattle.upon_calls.specs.Calls.{CallFails}
-use Rattle.upon_calls.specs.Failure.{failure_text, no_text_text, refusal_text, status_of}
+use Rattle.upon_calls.specs.Failure.{call_status, failure_text, no_text_text, refusal_text}
 use Rattle.upon_calls.specs.declared.failure.Argument.{Argument}
 use Rattle.upon_calls.specs.declared.failure.Failure.{Failure}
 use Rattle.upon_calls.specs.declared.failure.Failure.TheVariants.{Faults, Refused, NotText, OutOfMemory}
-use Rattle.upon_c.specs.Given.{Gives, GivesFailure}
-use Rattle.upon_c.specs.Handed.{HandsOut, HasNoRoom, IsAny, IsRefusal, NamesNoText}
+use Rattle.upon_c.specs.Given.{GivesFailure, GivesText}
+use Rattle.upon_c.specs.Handed.{HandsOut, HasNoRoom, IsAny, IsRefusalText, NamesNoText}
 
 -- what is so at each status
 pub record Ends (Done Pictures : List ℕ → Type 0) (Refuses IsNotText : Argument → Type 0) (result size : ℕ) (old new : List ℕ) : Type 0 where
   pub range : result ≤ 5
   pub done : result ≡ 0 → HandsOut Done size old new
   pub faulty : result ≡ 1 → HandsOut Pictures size old new
-  pub refused : result ≡ 2 → HandsOut (IsRefusal Refuses) size old new
+  pub refused : result ≡ 2 → HandsOut (IsRefusalText Refuses) size old new
   pub not_text : result ≡ 3 → HandsOut (NamesNoText IsNotText) size old new
   pub small : result ≡ 4 → HasNoRoom (IsAny Done Pictures Refuses IsNotText) size old new
   pub memory : result ≡ 5 → (size ≡ 0) × (new ≡ old)
 
 -- what is done with the buffer, by whether it has room
 pub gives_by : (status : ℕ) (text : List ℕ) (result size : ℕ) (old new : List ℕ) → size ≡ length text → (length text ≤ length old → result ≡ status) → (length text ≤ length old → take (length text) new ≡ text)
-    → (length text ≤ length old → drop (length text) new ≡ drop (length text) old) → (length old < length text → result ≡ 4) → (length old < length text → new ≡ old) → Gives status text result size old new
+    → (length text ≤ length old → drop (length text) new ≡ drop (length text) old) → (length old < length text → result ≡ 4) → (length old < length text → new ≡ old) → GivesText status text result size old new
 gives_by status text result size old new long is whole rest small same = elim (cases_lt (length old) (length text)) [
   | inl below ↦ (long, inr (small below, below, same below))
   | inr room ↦ (long, inl (is room, room, whole room, rest room))
 ]
 
 -- with other names for the text and the status
-pub gives_same : (status other : ℕ) (bytes text : List ℕ) (result size : ℕ) (old new : List ℕ) → other ≡ status → bytes ≡ text → Gives other bytes result size old new → Gives status text result size old new
+pub gives_same : (status other : ℕ) (bytes text : List ℕ) (result size : ℕ) (old new : List ℕ) → other ≡ status → bytes ≡ text → GivesText other bytes result size old new → GivesText status text result size old new
 gives_same status other bytes text result size old new stated same gives =
-    subst (λ s. Gives s text result size old new) stated (subst (λ t. Gives other t result size old new) same gives)
+    subst (λ s. GivesText s text result size old new) stated (subst (λ t. GivesText other t result size old new) same gives)
 
 -- a text that is written
 abbrev Fits : ℕ → List ℕ → ℕ → List ℕ → List ℕ → Type 0
@@ -101,12 +101,12 @@ module _ (Done Pictures : List ℕ → Type 0) (Refuses IsNotText : Argument →
   }
 
   -- with status 2
-  at_refused : (text : List ℕ) → IsRefusal Refuses text → size ≡ length text → Fits 2 text result old new ⊎ Lacks text result old new → Ends Done Pictures Refuses IsNotText result size old new
+  at_refused : (text : List ℕ) → IsRefusalText Refuses text → size ≡ length text → Fits 2 text result old new ⊎ Lacks text result old new → Ends Done Pictures Refuses IsNotText result size old new
   at_refused text is long (inl w) = record {
     range = omega (arith, w.0);
     done = λ e. absurd (omega (arith, w.0, e));
     faulty = λ e. absurd (omega (arith, w.0, e));
-    refused = λ e. handed (IsRefusal Refuses) 2 result size text old new long w is;
+    refused = λ e. handed (IsRefusalText Refuses) 2 result size text old new long w is;
     not_text = λ e. absurd (omega (arith, w.0, e));
     small = λ e. absurd (omega (arith, w.0, e));
     memory = λ e. absurd (omega (arith, w.0, e));
@@ -155,11 +155,11 @@ module _ (Done Pictures : List ℕ → Type 0) (Refuses IsNotText : Argument →
   }
 
   -- a call gave a text
-  pub done_ends : (text bytes : List ℕ) → bytes ≡ text → Done text → Gives 0 bytes result size old new → Ends Done Pictures Refuses IsNotText result size old new
+  pub done_ends : (text bytes : List ℕ) → bytes ≡ text → Done text → GivesText 0 bytes result size old new → Ends Done Pictures Refuses IsNotText result size old new
   done_ends text bytes same is gives = at_done bytes (subst Done (sym same) is) gives.0 gives.1
 
   -- it failed
-  by_failure : (failure : Failure) → CallFails Pictures Refuses IsNotText failure → (text : List ℕ) → failure_text failure ≡ Some text → Gives (status_of failure) text result size old new → Ends Done Pictures Refuses IsNotText result size old new
+  by_failure : (failure : Failure) → CallFails Pictures Refuses IsNotText failure → (text : List ℕ) → failure_text failure ≡ Some text → GivesText (call_status failure) text result size old new → Ends Done Pictures Refuses IsNotText result size old new
   by_failure (Faults pictures) fails text is gives =
       let same : string_bytes pictures ≡ text = cc in at_faulty text (subst Pictures same fails) gives.0 gives.1
   by_failure (Refused argument reason) fails text is gives =

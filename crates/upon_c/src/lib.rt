@@ -8,9 +8,9 @@
 mod give;
 
 ghost use Rattle.std.specs.Prelude.{◌≡◌, ◌≤◌, ◌<◌, codes};
-ghost use Rattle.upon_calls.specs.Calls.{ChecksNotText, ChecksRefuse, ChecksRight, ChecksWrong, ListFaults, ListNotText, ListRefuses, Lists, RenderFaults, RenderNotText, RenderRefuses, Renders, RendersText, TextFaults, TextNotText, TextRefuses};
-ghost use Rattle.upon_c.specs.Given.{Gives};
-ghost use Rattle.upon_c.specs.Handed.{HandsOut, HasNoRoom, IsAny, IsRefusal, NamesNoText};
+ghost use Rattle.upon_calls.specs.Calls.{ChecksNotText, ChecksRefuse, ChecksRight, ChecksWrong, ListFaults, ListNotText, ListRefuses, ListsNeeds, RenderFaults, RenderNotText, RenderRefuses, Renders, RendersText, TextFaults, TextNotText, TextRefuses};
+ghost use Rattle.upon_c.specs.Given.{GivesText};
+ghost use Rattle.upon_c.specs.Handed.{HandsOut, HasNoRoom, IsAny, IsRefusalText, NamesNoText};
 
 use give::{give, give_failure};
 use std::alloc::Global;
@@ -34,7 +34,8 @@ pub extern "C" fn upon_render(
     ensures faulty { result ≡ 1 → HandsOut (RenderFaults templates.now context.now name.now options.now) size.new
         out.old out.new }
     ensures refused { result ≡ 2
-        → HandsOut (IsRefusal (RenderRefuses templates.now context.now name.now options.now)) size.new out.old out.new }
+        → HandsOut (IsRefusalText (RenderRefuses templates.now context.now name.now options.now)) size.new out.old
+        out.new }
     ensures not_text { result ≡ 3
         → HandsOut (NamesNoText (RenderNotText templates.now context.now name.now options.now)) size.new out.old
         out.new }
@@ -70,7 +71,7 @@ pub extern "C" fn upon_render_text(
     ensures rendered { result ≡ 0 → HandsOut (RendersText source.now context.now options.now) size.new out.old out.new }
     ensures faulty { result ≡ 1 → HandsOut (TextFaults source.now context.now options.now) size.new out.old out.new }
     ensures refused { result ≡ 2
-        → HandsOut (IsRefusal (TextRefuses source.now context.now options.now)) size.new out.old out.new }
+        → HandsOut (IsRefusalText (TextRefuses source.now context.now options.now)) size.new out.old out.new }
     ensures not_text { result ≡ 3
         → HandsOut (NamesNoText (TextNotText source.now context.now options.now)) size.new out.old out.new }
     // The buffer has no room for a text that one of these clauses describes.
@@ -104,7 +105,7 @@ pub extern "C" fn upon_check(
     ensures right { result ≡ 0 → HandsOut (ChecksRight templates.now options.now) size.new out.old out.new }
     ensures faulty { result ≡ 1 → HandsOut (ChecksWrong templates.now options.now) size.new out.old out.new }
     ensures refused { result ≡ 2
-        → HandsOut (IsRefusal (ChecksRefuse templates.now options.now)) size.new out.old out.new }
+        → HandsOut (IsRefusalText (ChecksRefuse templates.now options.now)) size.new out.old out.new }
     ensures not_text { result ≡ 3
         → HandsOut (NamesNoText (ChecksNotText templates.now options.now)) size.new out.old out.new }
     // The buffer has no room for a text that one of these clauses describes.
@@ -136,16 +137,16 @@ pub extern "C" fn upon_names(
     size: &mut usize,
 ) -> u8
     ensures range { result ≤ 5 }
-    ensures listed { result ≡ 0 → HandsOut (Lists templates.now name.now options.now) size.new out.old out.new }
+    ensures listed { result ≡ 0 → HandsOut (ListsNeeds templates.now name.now options.now) size.new out.old out.new }
     ensures faulty { result ≡ 1 → HandsOut (ListFaults templates.now name.now options.now) size.new out.old out.new }
     ensures refused { result ≡ 2
-        → HandsOut (IsRefusal (ListRefuses templates.now name.now options.now)) size.new out.old out.new }
+        → HandsOut (IsRefusalText (ListRefuses templates.now name.now options.now)) size.new out.old out.new }
     ensures not_text { result ≡ 3
         → HandsOut (NamesNoText (ListNotText templates.now name.now options.now)) size.new out.old out.new }
     // The buffer has no room for a text that one of these clauses describes.
     ensures small { result ≡ 4 → HasNoRoom
         (IsAny
-        (Lists templates.now name.now options.now)
+        (ListsNeeds templates.now name.now options.now)
         (ListFaults templates.now name.now options.now)
         (ListRefuses templates.now name.now options.now)
         (ListNotText templates.now name.now options.now))
@@ -163,7 +164,7 @@ pub extern "C" fn upon_names(
 /// Says which version it is.
 #[unsafe(no_mangle)]
 pub extern "C" fn upon_version(out: &mut [u8], size: &mut usize) -> u8
-    ensures { Gives 0 (codes "0.11.0") result size.new out.old out.new }
+    ensures { GivesText 0 (codes "0.11.0") result size.new out.old out.new }
 {
     give(0, version().as_bytes(), out, size)
 }

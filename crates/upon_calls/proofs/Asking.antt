@@ -4,8 +4,8 @@ use Rattle.upon_types.specs.Val.{Val, key_of}
 use Rattle.upon_types.specs.View.{entries_view}
 use Rattle.upon_types.specs.declared.value.Value.{Value}
 use Rattle.upon_vm.specs.declared.limits.Limits.{Limits}
-use Rattle.upon_calls.specs.Arguments.{HasNoValue, IsValueOf}
-use Rattle.upon_calls.specs.Asked.{are_keys, depth_at, escape_at, flag_at, has_keys, is_key, is_known, number_at, Asked, Asks, AsksNothing, HasLimits, HasNoLimits, IsAsked, IsUnasked}
+use Rattle.upon_calls.specs.Arguments.{HasNoArgumentValue, IsArgumentValue}
+use Rattle.upon_calls.specs.Asked.{are_keys, depth_at, escape_at, flag_at, has_keys, is_option_key, is_known, number_at, Asked, Asks, AsksNothing, HasLimits, HasNoLimits, IsAsked, IsUnasked}
 use Rattle.upon_calls.specs.Pairs.{delimiters_in}
 use Rattle.upon_calls.specs.declared.options.Known.{Known}
 use Rattle.upon_calls.specs.declared.options.Known.TheVariants.{Rendering, OnContexts}
@@ -52,8 +52,8 @@ pub no_values : (v : Val) → number_at (codes "max_memory") v ≡ None → HasN
 no_values v is limits has = let no : Some limits.values ≡ None = sym has.values ∙ is in absurd cc
 
 -- ---- of a text
-pub unasked_value : (text : List ℕ) → HasNoValue text → IsUnasked text
+pub unasked_value : (text : List ℕ) → HasNoArgumentValue text → IsUnasked text
 unasked_value text none asked is = none is.0 is.1
 
-pub unasked : (text : List ℕ) (v : Val) → IsValueOf text v → AsksNothing Rendering v → IsUnasked text
+pub unasked : (text : List ℕ) (v : Val) → IsArgumentValue text v → AsksNothing Rendering v → IsUnasked text
 unasked text v read nothing asked is = nothing asked (subst (λ w. Asks Rendering w asked) (one_value text is.0 v is.1 read) is.2)

@@ -3,10 +3,10 @@ use Rattle.std.proofs.Common.{◌≡◌, ◌⊎◌, ◌∙◌, ℕ, List, Option
 use Rattle.std.specs.Str.{IsUtf8}
 use Rattle.upon_types.specs.Fault.{Fault}
 use Rattle.upon_types.specs.Val.{Val}
-use Rattle.upon_calls.specs.Arguments.{HasNoValue, IsValueOf}
+use Rattle.upon_calls.specs.Arguments.{HasNoArgumentValue, IsArgumentValue}
 use Rattle.upon_calls.specs.Asked.{Asked, IsAsked, IsUnasked}
 use Rattle.upon_calls.specs.Calls.{AreGiven, CallFails, NoneNamed}
-use Rattle.upon_calls.specs.Failure.{IsNoText, IsPicture, RefusedIf}
+use Rattle.upon_calls.specs.Failure.{IsPicture, RefusedIf, TellsNoText}
 use Rattle.upon_calls.specs.Filled.{filled}
 use Rattle.upon_calls.specs.Templates.{AreNone, AreTemplates, sources_in}
 use Rattle.upon_calls.specs.Work.{WorkFails}
@@ -23,7 +23,7 @@ handed_on P f (Err x) is said = subst P (sym is) said
 
 module _ (P : List ℕ → Type 0) (R N : Argument → Type 0) where
   -- an argument is not UTF-8
-  pub not_text : (a : Argument) (bytes : List ℕ) (f : Failure) → IsNoText a bytes f → ((IsUtf8 bytes → ⊥) → N a) → CallFails P R N f
+  pub not_text : (a : Argument) (bytes : List ℕ) (f : Failure) → TellsNoText a bytes f → ((IsUtf8 bytes → ⊥) → N a) → CallFails P R N f
   not_text a bytes (Faults pictures) said so = absurd said
   not_text a bytes (Refused b reason) said so = absurd said
   not_text a bytes (NotText b) said so = subst N (sym said.0) (so said.1)
@@ -44,15 +44,15 @@ module _ (P : List ℕ → Type 0) (R N : Argument → Type 0) where
   work_failed Ends Absent OutOfMemory said ends absent = tt
 
 -- ---- templates
-pub no_templates : (templates t : List ℕ) → t ≡ templates → HasNoValue t → AreNone templates
+pub no_templates : (templates t : List ℕ) → t ≡ templates → HasNoArgumentValue t → AreNone templates
 no_templates templates t same none = subst AreNone same (λ sources are. none are.0 are.1)
 
-pub no_sources : (templates t : List ℕ) (v : Val) → t ≡ templates → IsValueOf t v → sources_in v ≡ None → AreNone templates
+pub no_sources : (templates t : List ℕ) (v : Val) → t ≡ templates → IsArgumentValue t v → sources_in v ≡ None → AreNone templates
 no_sources templates t v same read none =
     subst AreNone same (λ sources are.
     let no : Some sources ≡ None = sym are.2 ∙ ap sources_in (one_value t are.0 v are.1 read) ∙ none in absurd cc)
 
-pub given : (templates options t o : List ℕ) (asked : Asked) (v : Val) (sources : List (List ℕ × List ℕ)) → t ≡ templates → o ≡ options → IsAsked o asked → IsValueOf t v → sources_in v ≡ Some sources → AreGiven templates options asked sources
+pub given : (templates options t o : List ℕ) (asked : Asked) (v : Val) (sources : List (List ℕ × List ℕ)) → t ≡ templates → o ≡ options → IsAsked o asked → IsArgumentValue t v → sources_in v ≡ Some sources → AreGiven templates options asked sources
 given templates options t o asked v sources st so asks read are = record {
   asks = subst (λ o. IsAsked o asked) so asks;
   are = subst (λ t. AreTemplates t sources) st (v, read, are);

@@ -6,7 +6,7 @@ use Rattle.upon_types.specs.Val.{Val, none_val, bool_val, int_val, text_val, lis
 use Rattle.upon_meaning_spec.specs.DefaultFormat.{default_format, formatter_or_default}
 use Rattle.upon_shape_spec.specs.Declared.{CallableKeeps, Declared, DeclaredCallable, FormatsEach, KeepsDeclared, formats}
 use Rattle.upon_shape_spec.specs.Fits.{Fits}
-use Rattle.upon_shape_spec.specs.Shape.{Shape, plain, plain_shape, shown}
+use Rattle.upon_shape_spec.specs.Shape.{Shape, plain, plain_shape, shown_values}
 use Rattle.upon_checked.specs.Callables.{declared_view}
 use Rattle.upon_checked.specs.declared.declared.Declared.{Declared as DeclaredCode}
 use Rattle.upon_engine.specs.Changes.{with_callable, with_depth, with_syntax, with_text}
@@ -16,7 +16,7 @@ use Rattle.upon_std.specs.declared.table.StandardFunction.{StandardFunction}
 use Rattle.upon_std_shapes.specs.Tables.{with_all_added, with_all_declared}
 use Rattle.upon_std_shapes.proofs.Added.{all_added_kept}
 use Rattle.upon_quote.specs.Shell.{shell_escape_of}
-use Rattle.upon_quote.specs.Tokens.{shell_format, word_of, word_once}
+use Rattle.upon_quote.specs.Tokens.{one_shell_word, shell_format, word_once}
 use Rattle.upon_quote.proofs.PlainDefaults.{NotText, no_nul_default}
 use Rattle.upon_quote.proofs.ShellLemmas.{shell_leaves}
 use Rattle.upon_calls.specs.Asked.{Asked}
@@ -26,7 +26,7 @@ use Rattle.upon_calls.specs.declared.escaping.Language.{Language}
 use Rattle.upon_calls.specs.declared.escaping.Language.TheVariants.{Html, Json, Shell, Yaml}
 
 -- ---- values that are written
-shown_well : (v : Val) → Fits shown v → (default_format v).end ≡ well
+shown_well : (v : Val) → Fits shown_values v → (default_format v).end ≡ well
 shown_well none_val fits = refl
 shown_well (bool_val b) fits = refl
 shown_well (int_val n) fits = refl
@@ -37,7 +37,7 @@ shown_well (map_val es) fits = absurd fits
 word_well : (v : Val) → NotText v → (default_format v).end ≡ well → (shell_format v).end ≡ well
 word_well v not is =
     ap (λ end. (word_once (default_format v).text end).end) is
-    ∙ ap (λ b. (word_of b (default_format v).text).end) (no_nul_default shell_escape_of shell_leaves v not)
+    ∙ ap (λ b. (one_shell_word b (default_format v).text).end) (no_nul_default shell_escape_of shell_leaves v not)
 
 shell_well : (v : Val) → Fits (plain_shape (plain true true true false)) v → (shell_format v).end ≡ well
 shell_well none_val fits = word_well none_val tt refl
@@ -55,18 +55,18 @@ formats_written (Some Shell) v fits = shell_well v fits
 formats_written (Some Yaml) v fits = shown_well v fits
 
 -- ---- callables
-one_keeps : (b : Bool) (d : Option DeclaredCallable) (c : Option Callable) → CallableKeeps d c → CallableKeeps (cond b (Some (formats shown)) d) (cond b (Some (formatter default_format)) c)
+one_keeps : (b : Bool) (d : Option DeclaredCallable) (c : Option Callable) → CallableKeeps d c → CallableKeeps (cond b (Some (formats shown_values)) d) (cond b (Some (formatter default_format)) c)
 one_keeps true d c keeps = shown_well
 one_keeps false d c keeps = keeps
 
 -- and then of `verbatim`
-verbatim_added : (old new : List ℕ → Option DeclaredCallable) (name : List ℕ) (s : Shape) → ((other : List ℕ) → old other ≡ None) → name ≡ codes "verbatim" → s ≡ shown
+verbatim_added : (old new : List ℕ → Option DeclaredCallable) (name : List ℕ) (s : Shape) → ((other : List ℕ) → old other ≡ None) → name ≡ codes "verbatim" → s ≡ shown_values
     → ((other : List ℕ) → new other ≡ update bytes_eq old name (Some (formats s)) other) → (language : Language) (other : List ℕ) → CallableKeeps (new other) ((escaping_engine (Some language)).callables other)
 verbatim_added old new name s none named is added language other =
     subst (λ d. CallableKeeps d ((escaping_engine (Some language)).callables other)) (sym (added other ∙ (λ i. update bytes_eq old (named i) (Some (formats (is i))) other)))
     (one_keeps (bytes_eq (codes "verbatim") other) (old other) None (subst (λ d. CallableKeeps d None) (sym (none other)) tt))
 
-pub verbatim_keeps : (old new : List ℕ → Option DeclaredCallable) (name : List ℕ) (s : Shape) → ((other : List ℕ) → old other ≡ None) → name ≡ codes "verbatim" → s ≡ shown
+pub verbatim_keeps : (old new : List ℕ → Option DeclaredCallable) (name : List ℕ) (s : Shape) → ((other : List ℕ) → old other ≡ None) → name ≡ codes "verbatim" → s ≡ shown_values
     → ((other : List ℕ) → new other ≡ update bytes_eq old name (Some (formats s)) other) → (escape : Option Language) → (escape ≡ None → ⊥) → (other : List ℕ) → CallableKeeps (new other) ((escaping_engine escape).callables other)
 verbatim_keeps old new name s none named is added None some = absurd (some refl)
 verbatim_keeps old new name s none named is added (Some language) some = verbatim_added old new name s none named is added language

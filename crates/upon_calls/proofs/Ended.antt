@@ -2,9 +2,9 @@
 use Rattle.std.proofs.Common.{arith, ◌≡◌, ◌⊎◌, ◌∙◌, ◌<◌, ℕ, List, [], Bor, Option, Some, None, Result, Ok, Err, IfErr, IfOk, String, Global, string_bytes, sym, ap, subst, inl, inr}
 use Rattle.upon_types.specs.Fault.{Fault}
 use Rattle.upon_types.specs.Val.{Val}
-use Rattle.upon_calls.specs.Arguments.{IsValueOf}
+use Rattle.upon_calls.specs.Arguments.{IsArgumentValue}
 use Rattle.upon_calls.specs.Asked.{Asked, IsAsked}
-use Rattle.upon_calls.specs.Calls.{AreRightOn, AreWrongOn, CheckFails, ChecksRefuse, ChecksRight, ListFails, ListFaults, ListNotText, ListRefuses, Lists, RenderFails, RenderFaults, RenderNotText, RenderRefuses, Renders, RendersText, TextFails, TextFaults, TextNotText, TextRefuses}
+use Rattle.upon_calls.specs.Calls.{AreRightOn, AreWrongOn, CheckFails, ChecksRefuse, ChecksRight, ListFails, ListFaults, ListNotText, ListRefuses, ListsNeeds, RenderFails, RenderFaults, RenderNotText, RenderRefuses, Renders, RendersText, TextFails, TextFaults, TextNotText, TextRefuses}
 use Rattle.upon_calls.specs.Contexts.{AsksCheck, Contexts, IsCheckAsked, LacksPage}
 use Rattle.upon_calls.specs.Failure.{FaultyIf, IsPicture}
 use Rattle.upon_calls.specs.Filled.{engine_for, filled}
@@ -18,14 +18,14 @@ use Rattle.upon_calls.proofs.Calls.{given, work_failed}
 
 -- ---- the template of a name is rendered
 module _ (templates context name options t x n o : List ℕ) (st : t ≡ templates) (sx : x ≡ context) (sn : n ≡ name) (so : o ≡ options)
-    (asked : Asked) (tv xv : Val) (sources : List (List ℕ × List ℕ)) (asks : IsAsked o asked) (read : IsValueOf t tv) (are : sources_in tv ≡ Some sources) (valued : IsValueOf x xv) where
+    (asked : Asked) (tv xv : Val) (sources : List (List ℕ × List ℕ)) (asks : IsAsked o asked) (read : IsArgumentValue t tv) (are : sources_in tv ≡ Some sources) (valued : IsArgumentValue x xv) where
   pub rendered : (r : Result (String Global) Failure) → IfOk r (λ text. MeansNamed asked.limits (filled asked sources) n xv (string_bytes text)) → IfOk r (λ text. Renders templates context name options (string_bytes text))
   rendered (Ok text) means = record {
     asked = asked;
     sources = sources;
     value = xv;
     given = given templates options t o asked tv sources st so asks read are;
-    read = subst (λ x. IsValueOf x xv) sx valued;
+    read = subst (λ x. IsArgumentValue x xv) sx valued;
     means = subst (λ n. MeansNamed asked.limits (filled asked sources) n xv (string_bytes text)) sn means;
   }
   rendered (Err failure) means = tt
@@ -41,19 +41,19 @@ module _ (templates context name options t x n o : List ℕ) (st : t ≡ templat
         sources = sources;
         value = xv;
         given = given templates options t o asked tv sources st so asks read are;
-        read = subst (λ x. IsValueOf x xv) sx valued;
+        read = subst (λ x. IsArgumentValue x xv) sx valued;
         pictures = pictures;
       }) (λ absent. (asked, sources, given templates options t o asked tv sources st so asks read are, absent))
 
 -- ---- a text is rendered
 module _ (source context options s x o : List ℕ) (ss : s ≡ source) (sx : x ≡ context) (so : o ≡ options)
-    (asked : Asked) (xv : Val) (asks : IsAsked o asked) (valued : IsValueOf x xv) where
+    (asked : Asked) (xv : Val) (asks : IsAsked o asked) (valued : IsArgumentValue x xv) where
   pub text_rendered : (r : Result (String Global) Failure) → IfOk r (λ text. MeansText asked.limits (engine_for asked) s xv (string_bytes text)) → IfOk r (λ text. RendersText source context options (string_bytes text))
   text_rendered (Ok text) means = record {
     asked = asked;
     value = xv;
     asks = subst (λ o. IsAsked o asked) so asks;
-    read = subst (λ x. IsValueOf x xv) sx valued;
+    read = subst (λ x. IsArgumentValue x xv) sx valued;
     means = subst (λ s. MeansText asked.limits (engine_for asked) s xv (string_bytes text)) ss means;
   }
   text_rendered (Err failure) means = tt
@@ -73,14 +73,14 @@ module _ (source context options s x o : List ℕ) (ss : s ≡ source) (sx : x �
         asked = asked;
         value = xv;
         asks = subst (λ o. IsAsked o asked) so asks;
-        read = subst (λ x. IsValueOf x xv) sx valued;
+        read = subst (λ x. IsArgumentValue x xv) sx valued;
         pictures = (pictures.0, pictures.1, pictures.2, only_text pictures.0 pictures.3);
       }) (λ absent. absurd absent)
 
 -- ---- it is listed what a template needs
 module _ (templates name options t n o : List ℕ) (st : t ≡ templates) (sn : n ≡ name) (so : o ≡ options)
-    (asked : Asked) (tv : Val) (sources : List (List ℕ × List ℕ)) (asks : IsAsked o asked) (read : IsValueOf t tv) (are : sources_in tv ≡ Some sources) where
-  pub names_listed : (r : Result (String Global) Failure) → IfOk r (λ text. ListsNamed (filled asked sources) n (string_bytes text)) → IfOk r (λ text. Lists templates name options (string_bytes text))
+    (asked : Asked) (tv : Val) (sources : List (List ℕ × List ℕ)) (asks : IsAsked o asked) (read : IsArgumentValue t tv) (are : sources_in tv ≡ Some sources) where
+  pub names_listed : (r : Result (String Global) Failure) → IfOk r (λ text. ListsNamed (filled asked sources) n (string_bytes text)) → IfOk r (λ text. ListsNeeds templates name options (string_bytes text))
   names_listed (Ok text) lists = record {
     asked = asked;
     sources = sources;
@@ -108,12 +108,12 @@ module _ (templates name options t n o : List ℕ) (st : t ≡ templates) (sn : 
 
 -- ---- templates are checked
 module _ (templates options t o : List ℕ) (st : t ≡ templates) (so : o ≡ options)
-    (asked : Asked) (contexts : Option Contexts) (ov tv : Val) (sources : List (List ℕ × List ℕ)) (valued : IsValueOf o ov) (asks : AsksCheck ov asked contexts) (read : IsValueOf t tv) (are : sources_in tv ≡ Some sources) where
+    (asked : Asked) (contexts : Option Contexts) (ov tv : Val) (sources : List (List ℕ × List ℕ)) (valued : IsArgumentValue o ov) (asks : AsksCheck ov asked contexts) (read : IsArgumentValue t tv) (are : sources_in tv ≡ Some sources) where
   check_asked : IsCheckAsked options asked contexts
   check_asked = subst (λ o. IsCheckAsked o asked contexts) so (ov, valued, asks)
 
-  template_read : IsValueOf templates tv
-  template_read = subst (λ t. IsValueOf t tv) st read
+  template_read : IsArgumentValue templates tv
+  template_read = subst (λ t. IsArgumentValue t tv) st read
 
   pub checked_right : (r : Result (String Global) Failure) → IfOk r (λ text. string_bytes text ≡ []) → IfOk r (λ text. AreRightOn asked contexts tv sources) → IfOk r (λ text. ChecksRight templates options (string_bytes text))
   checked_right (Ok text) empty right = record {

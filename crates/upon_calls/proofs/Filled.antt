@@ -9,13 +9,13 @@ use Rattle.upon_engine.specs.Texts.{Texts}
 use Rattle.upon_std.specs.Table.{standard_answer, standard_name}
 use Rattle.upon_std.specs.declared.table.StandardFunction.{StandardFunction}
 use Rattle.upon_calls.specs.Asked.{Asked}
-use Rattle.upon_calls.specs.Escaping.{format_for}
+use Rattle.upon_calls.specs.Escaping.{language_format}
 use Rattle.upon_calls.specs.Filled.{engine_for, escaping_engine, filled, functions_if, with_functions, with_sources}
 use Rattle.upon_calls.specs.Templates.{lent_pairs}
 use Rattle.upon_calls.specs.declared.escaping.Language.{Language}
 
 -- ---- its formatters, if values are written into a language
-pub with_language : (b a e : Texts) (f g : Formatter) (escape : Option Language) (language : Language) → escape ≡ Some language → b ≡ empty_engine → a ≡ with_callable (codes "verbatim") (formatter f) b → f ≡ default_format → e ≡ with_default_formatter g a → g ≡ format_for language → e ≡ escaping_engine escape
+pub with_language : (b a e : Texts) (f g : Formatter) (escape : Option Language) (language : Language) → escape ≡ Some language → b ≡ empty_engine → a ≡ with_callable (codes "verbatim") (formatter f) b → f ≡ default_format → e ≡ with_default_formatter g a → g ≡ language_format language → e ≡ escaping_engine escape
 with_language b a e f g escape language so before added verbatim set escapes =
     set
     ∙ (λ i. with_default_formatter (escapes i) ((added ∙ λ j. with_callable (codes "verbatim") (formatter (verbatim j)) (before j)) i))

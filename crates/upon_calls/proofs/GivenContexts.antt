@@ -9,8 +9,8 @@ use Rattle.upon_types.specs.declared.value.Value.{Value}
 use Rattle.upon_types.specs.declared.value.Value.TheVariants.{Map as MapValue}
 use Rattle.upon_types.proofs.Views.{view-Map}
 use Rattle.upon_shape_spec.specs.Shape.{Shape}
-use Rattle.upon_calls.specs.Arguments.{HasNoValue, IsValueOf}
-use Rattle.upon_calls.specs.Asked.{are_keys, has_keys, is_check_key, is_key, is_known, Asked, Asks, AsksNothing}
+use Rattle.upon_calls.specs.Arguments.{HasNoArgumentValue, IsArgumentValue}
+use Rattle.upon_calls.specs.Asked.{are_keys, has_keys, is_check_key, is_option_key, is_known, Asked, Asks, AsksNothing}
 use Rattle.upon_calls.specs.Contexts.{pages_in, read_each, sample_in, samples_in, AsksCheck, AsksNoCheck, Contexts, IsCheckAsked, IsCheckUnasked, IsShapeBy, NoShapeBy}
 use Rattle.upon_calls.specs.declared.options.Known.TheVariants.{Rendering, OnContexts}
 use Rattle.upon_calls.proofs.Kept.{first_true, second_true}
@@ -26,8 +26,8 @@ keys_on : (es : Entries) → are_keys Rendering es ≡ true → are_keys OnConte
 keys_on no_entries are = refl
 keys_on (entry_then key v es) are =
     both_true (is_known OnContexts key) (are_keys OnContexts es)
-    (ap (λ b. b || is_check_key key) (first_true (is_key key) (are_keys Rendering es) are))
-    (keys_on es (second_true (is_key key) (are_keys Rendering es) are))
+    (ap (λ b. b || is_check_key key) (first_true (is_option_key key) (are_keys Rendering es) are))
+    (keys_on es (second_true (is_option_key key) (are_keys Rendering es) are))
 
 has_keys_on : (v : Val) → has_keys Rendering v ≡ true → has_keys OnContexts v ≡ true
 has_keys_on none_val has = refl
@@ -48,18 +48,18 @@ asks_on v asked asks = record {
 }
 
 -- what a rendering knows has no other key
-not_here : (key k : List ℕ) (v : Val) (rest : Option Val) (b : Bool) → bytes_eq key k ≡ b → is_key k ≡ true → is_key key ≡ false → rest ≡ None → (if b then Some v else rest) ≡ None
+not_here : (key k : List ℕ) (v : Val) (rest : Option Val) (b : Bool) → bytes_eq key k ≡ b → is_option_key k ≡ true → is_option_key key ≡ false → rest ≡ None → (if b then Some v else rest) ≡ None
 not_here key k v rest true same is not none =
-    let no : true ≡ false = sym is ∙ ap is_key (sym ((bytes_eq-Decides key k).0 same)) ∙ not in absurd cc
+    let no : true ≡ false = sym is ∙ ap is_option_key (sym ((bytes_eq-Decides key k).0 same)) ∙ not in absurd cc
 not_here key k v rest false same is not none = none
 
-no_entry : (key : List ℕ) → is_key key ≡ false → (es : Entries) → are_keys Rendering es ≡ true → entry_at key es ≡ None
+no_entry : (key : List ℕ) → is_option_key key ≡ false → (es : Entries) → are_keys Rendering es ≡ true → entry_at key es ≡ None
 no_entry key not no_entries are = refl
 no_entry key not (entry_then k v es) are =
-    not_here key k v (entry_at key es) (bytes_eq key k) refl (first_true (is_key k) (are_keys Rendering es) are) not
-    (no_entry key not es (second_true (is_key k) (are_keys Rendering es) are))
+    not_here key k v (entry_at key es) (bytes_eq key k) refl (first_true (is_option_key k) (are_keys Rendering es) are) not
+    (no_entry key not es (second_true (is_option_key k) (are_keys Rendering es) are))
 
-no_key_of : (key : List ℕ) → is_key key ≡ false → (v : Val) → has_keys Rendering v ≡ true → key_of key v ≡ None
+no_key_of : (key : List ℕ) → is_option_key key ≡ false → (v : Val) → has_keys Rendering v ≡ true → key_of key v ≡ None
 no_key_of key not none_val has = refl
 no_key_of key not (bool_val b) has = refl
 no_key_of key not (int_val n) has = refl
@@ -123,10 +123,10 @@ pub not_paged : (v : Val) (s : Shape) → IsShapeBy (key_of (codes "samples") v)
 not_paged v s some none = inl (nothing_paged v s some none)
 
 -- ---- of a text
-pub unchecked_value : (text : List ℕ) → HasNoValue text → IsCheckUnasked text
+pub unchecked_value : (text : List ℕ) → HasNoArgumentValue text → IsCheckUnasked text
 unchecked_value text none v is = absurd (none v is)
 
-pub unchecked : (text : List ℕ) (v : Val) → IsValueOf text v → AsksNoCheck v → IsCheckUnasked text
+pub unchecked : (text : List ℕ) (v : Val) → IsArgumentValue text v → AsksNoCheck v → IsCheckUnasked text
 unchecked text v read nothing w is = subst AsksNoCheck (one_value text v w read is) nothing
 
 -- ---- samples

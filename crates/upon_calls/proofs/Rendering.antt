@@ -9,15 +9,15 @@ use Rattle.upon_language_spec.specs.Grammar.{HasTree}
 use Rattle.upon_language_spec.specs.Search.{DelimiterText}
 use Rattle.upon_syntax.specs.TagReading.{IsSyntaxError}
 use Rattle.upon_meaning_spec.specs.Outcome.{Outcome}
-use Rattle.upon_vm.specs.Within.{Fits}
+use Rattle.upon_vm.specs.Within.{FitsLimits}
 use Rattle.upon_vm.specs.declared.limits.Limits.{Limits}
 use Rattle.upon_engine.specs.Faults.{IsSyntaxErrorOf}
 use Rattle.upon_engine.specs.Texts.{Stored, Texts}
 use Rattle.upon_engine.specs.Theorem.{meaning}
 use Rattle.upon_engine.specs.Within.{runs}
 use Rattle.std.specs.Prelude.{⊤}
-use Rattle.upon_calls.specs.Failure.{is_memory_kind, IsReport, RefusedIf}
-use Rattle.upon_calls.specs.Rendering.{is_limited, AnswersIf, EndsWith, FailsNamed, FailsText, IsFirst, IsFirstNamed, IsFirstOfOne, IsMeaning, MeansNamed, MeansText}
+use Rattle.upon_calls.specs.Failure.{is_memory_kind, IsFaultReport, RefusedIf}
+use Rattle.upon_calls.specs.Rendering.{is_limited, AnswersIf, EndsWith, FailsNamed, FailsText, IsFirstFaultOf, IsFirstNamed, IsFirstOfOne, IsMeaning, MeansNamed, MeansText}
 use Rattle.upon_calls.specs.Work.{WorkFails}
 use Rattle.upon_calls.specs.declared.failure.Argument.TheVariants.{Name}
 use Rattle.upon_calls.specs.declared.failure.Failure.{Failure}
@@ -27,7 +27,7 @@ not_memory : (e : Error) → is_memory_kind (fault_of e).kind ≡ false → faul
 not_memory e is out = let no : true ≡ false = sym (ap (λ f. is_memory_kind f.kind) out) ∙ is in absurd cc
 
 -- a report of a fault that is so, if memory was not out
-pub reported : (Is : Fault → Type 0) (Absent : Type 0) (fault : Fault) (f : Failure) → IsReport fault f → (is_memory_kind fault.kind ≡ false → Is fault) → WorkFails Is Absent f
+pub reported : (Is : Fault → Type 0) (Absent : Type 0) (fault : Fault) (f : Failure) → IsFaultReport fault f → (is_memory_kind fault.kind ≡ false → Is fault) → WorkFails Is Absent f
 reported Is Absent fault (Faults pictures) said so = (fault, said.0, said.1, so said.0)
 reported Is Absent fault (Refused argument reason) said so = absurd said
 reported Is Absent fault (NotText argument) said so = absurd said
@@ -52,7 +52,7 @@ no_name Ends Absent (NotText argument) said absent = absurd said
 no_name Ends Absent OutOfMemory said absent = tt
 
 -- ---- no limit is set
-fits_unlimited : {Q : Type 0} (limits : Limits) (steps output values : Option ℕ) → limits.steps ≡ steps → limits.output ≡ output → ((is_some steps || is_some output) || is_some values) ≡ false → (ran : ℕ → Option (Outcome Q)) (o : Outcome Q) → Fits limits ran o
+fits_unlimited : {Q : Type 0} (limits : Limits) (steps output values : Option ℕ) → limits.steps ≡ steps → limits.output ≡ output → ((is_some steps || is_some output) || is_some values) ≡ false → (ran : ℕ → Option (Outcome Q)) (o : Outcome Q) → FitsLimits limits ran o
 fits_unlimited limits None None values no_steps no_output is ran o = record {
   steps = rw no_steps tt;
   output = rw no_output tt;

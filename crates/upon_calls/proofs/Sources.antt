@@ -6,7 +6,7 @@ use Rattle.upon_types.specs.View.{view, entries_view}
 use Rattle.upon_types.specs.declared.value.Value.{Value}
 use Rattle.upon_types.specs.declared.value.Value.TheVariants.{Map as MapValue}
 use Rattle.upon_types.proofs.Views.{view-Map}
-use Rattle.upon_calls.specs.Arguments.{text_in}
+use Rattle.upon_calls.specs.Arguments.{its_text}
 use Rattle.upon_calls.specs.Asked.{are_keys, has_keys}
 use Rattle.upon_calls.specs.Templates.{lent_pairs, sources_in, texts_in}
 use Rattle.upon_calls.specs.declared.options.Known.{Known}
@@ -24,7 +24,7 @@ one_before done s None = refl
 one_before done s (Some rest) = ap Some (sym (append_assoc done (s ∷ []) rest))
 
 -- a text, or none
-text_source : (v : Val) (source key : List ℕ) (es : Entries) → text_in v ≡ Some source → texts_in (entry_then key v es) ≡ option_map (λ rest. (key, source) ∷ rest) (texts_in es)
+text_source : (v : Val) (source key : List ℕ) (es : Entries) → its_text v ≡ Some source → texts_in (entry_then key v es) ≡ option_map (λ rest. (key, source) ∷ rest) (texts_in es)
 text_source none_val source key es is = absurd cc
 text_source (bool_val b) source key es is = absurd cc
 text_source (int_val n) source key es is = absurd cc
@@ -33,7 +33,7 @@ text_source (text_val text) source key es is =
 text_source (list_val vs) source key es is = absurd cc
 text_source (map_val fs) source key es is = absurd cc
 
-other_source : (v : Val) (key : List ℕ) (es : Entries) → text_in v ≡ None → texts_in (entry_then key v es) ≡ None
+other_source : (v : Val) (key : List ℕ) (es : Entries) → its_text v ≡ None → texts_in (entry_then key v es) ≡ None
 other_source none_val key es is = refl
 other_source (bool_val b) key es is = refl
 other_source (int_val n) key es is = refl
@@ -43,7 +43,7 @@ other_source (map_val fs) key es is = refl
 
 -- one template more
 pub source_more : (whole : Option (List (List ℕ × List ℕ))) (old new : List (Bor (List ℕ) × Bor (List ℕ))) (pair : Bor (List ℕ) × Bor (List ℕ)) (entry : String Global × Value) (items rest : List (String Global × Value)) (source : List ℕ)
-    → items ≡ entry ∷ rest → text_in (view entry.1) ≡ Some source → pair.0.now ≡ string_bytes entry.0 → pair.1.now ≡ source → new ≡ old ++ pair ∷ []
+    → items ≡ entry ∷ rest → its_text (view entry.1) ≡ Some source → pair.0.now ≡ string_bytes entry.0 → pair.1.now ≡ source → new ≡ old ++ pair ∷ []
     → whole ≡ before (lent_pairs old) (texts_in (entries_view items)) → whole ≡ before (lent_pairs new) (texts_in (entries_view rest))
 source_more whole old new pair entry items rest source is text named sourced pushed so_far =
     so_far
@@ -62,7 +62,7 @@ sources_whole whole all items none so_far =
     ∙ ap Some (append-nil (lent_pairs all))
 
 -- an entry that is none
-pub no_source : (whole : Option (List (List ℕ × List ℕ))) (old : List (Bor (List ℕ) × Bor (List ℕ))) (entry : String Global × Value) (items rest : List (String Global × Value)) → items ≡ entry ∷ rest → text_in (view entry.1) ≡ None → whole ≡ before (lent_pairs old) (texts_in (entries_view items)) → whole ≡ None
+pub no_source : (whole : Option (List (List ℕ × List ℕ))) (old : List (Bor (List ℕ) × Bor (List ℕ))) (entry : String Global × Value) (items rest : List (String Global × Value)) → items ≡ entry ∷ rest → its_text (view entry.1) ≡ None → whole ≡ before (lent_pairs old) (texts_in (entries_view items)) → whole ≡ None
 no_source whole old entry items rest is none so_far =
     so_far
     ∙ ap (λ items. before (lent_pairs old) (texts_in (entries_view items))) is

@@ -4,7 +4,7 @@ use Rattle.upon_types.specs.Val.{Val, bool_val, int_val, text_val, map_val, key_
 use Rattle.upon_language_spec.specs.Search.{DelimiterText}
 use Rattle.upon_lexer.specs.Syntax.{syntax_delimiters}
 use Rattle.upon_vm.specs.declared.limits.Limits.{Limits}
-use Rattle.upon_calls.specs.Arguments.{IsValueOf}
+use Rattle.upon_calls.specs.Arguments.{IsArgumentValue}
 use Rattle.upon_calls.specs.Escaping.{language_in}
 use Rattle.upon_calls.specs.Pairs.{delimiters_in}
 use Rattle.upon_calls.specs.declared.escaping.Language.{Language}
@@ -33,8 +33,8 @@ asked_by o = record {
 }
 
 -- whether a key is one of an option
-abbrev pub is_key : List ℕ → Bool
-is_key key = bytes_eq key (codes "escape") || (bytes_eq key (codes "html") || (bytes_eq key (codes "syntax")
+abbrev pub is_option_key : List ℕ → Bool
+is_option_key key = bytes_eq key (codes "escape") || (bytes_eq key (codes "html") || (bytes_eq key (codes "syntax")
     || (bytes_eq key (codes "functions") || (bytes_eq key (codes "max_include_depth")
     || (bytes_eq key (codes "max_steps")
     || (bytes_eq key (codes "max_output") || bytes_eq key (codes "max_memory")))))))
@@ -45,8 +45,8 @@ is_check_key key = bytes_eq key (codes "samples") || (bytes_eq key (codes "schem
 
 -- whether a key is one of an option, of a rendering or also of a check on contexts
 abbrev pub is_known : Known → List ℕ → Bool
-is_known Rendering key = is_key key
-is_known OnContexts key = is_key key || is_check_key key
+is_known Rendering key = is_option_key key
+is_known OnContexts key = is_option_key key || is_check_key key
 
 -- whether each key is one of an option
 abbrev pub are_keys : Known → Entries → Bool
@@ -65,10 +65,10 @@ flag_of (Some (bool_val b)) = Some b
 flag_of (Some _) = None
 
 -- the number from 0 on that is there, or nothing where nothing is; none of another value
-abbrev pub number_of : Option Val → Option (Option ℕ)
-number_of None = Some None
-number_of (Some (int_val (pos n))) = Some (Some n)
-number_of (Some _) = None
+abbrev pub asked_number : Option Val → Option (Option ℕ)
+asked_number None = Some None
+asked_number (Some (int_val (pos n))) = Some (Some n)
+asked_number (Some _) = None
 
 -- the language of a word, of which no other one than HTML agrees with `html`
 abbrev pub agreed : Bool → Option Language → Option Language
@@ -90,7 +90,7 @@ flag_at key v = flag_of (key_of key v)
 
 -- the number at a key
 abbrev pub number_at : List ℕ → Val → Option (Option ℕ)
-number_at key v = number_of (key_of key v)
+number_at key v = asked_number (key_of key v)
 
 -- the language that is asked for
 abbrev pub escape_at : Val → Option (Option Language)
@@ -125,7 +125,7 @@ AsksNothing known v = (asked : Asked) → Asks known v asked → ⊥
 
 -- the text of options asks for this
 abbrev pub IsAsked : List ℕ → Asked → Type 0
-IsAsked text asked = (v : Val) × IsValueOf text v × Asks Rendering v asked
+IsAsked text asked = (v : Val) × IsArgumentValue text v × Asks Rendering v asked
 
 -- it asks for nothing that is an option, or is no JSON
 abbrev pub IsUnasked : List ℕ → Type 0

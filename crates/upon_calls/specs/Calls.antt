@@ -3,7 +3,7 @@ use Rattle.std.specs.Prelude.{◌≡◌, ◌⊎◌, ℕ, List, [], Option, Some,
 use Rattle.std.specs.Str.{IsUtf8}
 use Rattle.upon_types.specs.Fault.{Fault}
 use Rattle.upon_types.specs.Val.{Val}
-use Rattle.upon_calls.specs.Arguments.{HasNoValue, IsValueOf}
+use Rattle.upon_calls.specs.Arguments.{HasNoArgumentValue, IsArgumentValue}
 use Rattle.upon_calls.specs.Asked.{Asked, IsAsked, IsUnasked}
 use Rattle.upon_calls.specs.Check.{AreRight}
 use Rattle.upon_calls.specs.Contexts.{Contexts, IsCheckAsked, IsCheckUnasked, LacksPage, PagesEndIf}
@@ -37,7 +37,7 @@ pub record Renders (templates context name options text : List ℕ) : Type 0 whe
   pub sources : List (List ℕ × List ℕ)
   pub value : Val
   pub given : AreGiven templates options asked sources
-  pub read : IsValueOf context value
+  pub read : IsArgumentValue context value
   pub means : MeansNamed asked.limits (filled asked sources) name value text
 
 -- The text is the picture of the first fault of a template's text, or of the one with which the rendering ends.
@@ -46,7 +46,7 @@ pub record RenderFaults (templates context name options text : List ℕ) : Type 
   pub sources : List (List ℕ × List ℕ)
   pub value : Val
   pub given : AreGiven templates options asked sources
-  pub read : IsValueOf context value
+  pub read : IsArgumentValue context value
   pub pictures : IsPicture (λ fault. IsFirstOfOne asked.delimiters sources fault
       ⊎ FailsNamed asked.limits (filled asked sources) name value fault) text
 
@@ -60,7 +60,7 @@ NoneNamed templates options name = (asked : Asked) × (sources : List (List ℕ 
 abbrev pub RenderRefuses : List ℕ → List ℕ → List ℕ → List ℕ → Argument → Type 0
 RenderRefuses templates context name options Templates = AreNone templates
 RenderRefuses templates context name options Source = ⊥
-RenderRefuses templates context name options Context = HasNoValue context
+RenderRefuses templates context name options Context = HasNoArgumentValue context
 RenderRefuses templates context name options Name = NoneNamed templates options name
 RenderRefuses templates context name options Options = IsUnasked options
 
@@ -83,7 +83,7 @@ pub record RendersText (source context options text : List ℕ) : Type 0 where
   pub asked : Asked
   pub value : Val
   pub asks : IsAsked options asked
-  pub read : IsValueOf context value
+  pub read : IsArgumentValue context value
   pub means : MeansText asked.limits (engine_for asked) source value text
 
 -- The text is the picture of the first fault of the source, or of the one with which its rendering ends.
@@ -91,14 +91,14 @@ pub record TextFaults (source context options text : List ℕ) : Type 0 where
   pub asked : Asked
   pub value : Val
   pub asks : IsAsked options asked
-  pub read : IsValueOf context value
+  pub read : IsArgumentValue context value
   pub pictures : IsPicture (FailsText asked.limits (engine_for asked) source value) text
 
 -- an argument is refused: the options ask for nothing, or the context has no value
 abbrev pub TextRefuses : List ℕ → List ℕ → List ℕ → Argument → Type 0
 TextRefuses source context options Templates = ⊥
 TextRefuses source context options Source = ⊥
-TextRefuses source context options Context = HasNoValue context
+TextRefuses source context options Context = HasNoArgumentValue context
 TextRefuses source context options Name = ⊥
 TextRefuses source context options Options = IsUnasked options
 
@@ -135,7 +135,7 @@ pub record ChecksRight (templates options text : List ℕ) : Type 0 where
   pub value : Val
   pub sources : List (List ℕ × List ℕ)
   pub asks : IsCheckAsked options asked contexts
-  pub read : IsValueOf templates value
+  pub read : IsArgumentValue templates value
   pub are : sources_in value ≡ Some sources
   pub right : AreRightOn asked contexts value sources
   pub empty : text ≡ []
@@ -147,14 +147,14 @@ pub record ChecksWrong (templates options text : List ℕ) : Type 0 where
   pub value : Val
   pub sources : List (List ℕ × List ℕ)
   pub asks : IsCheckAsked options asked contexts
-  pub read : IsValueOf templates value
+  pub read : IsArgumentValue templates value
   pub are : sources_in value ≡ Some sources
   pub wrong : AreWrongOn asked contexts value sources
 
 -- a page that the options name is none of the templates
 abbrev pub NamesNoPage : List ℕ → List ℕ → Type 0
 NamesNoPage templates options = (asked : Asked) × (contexts : Option Contexts) × (value : Val)
-    × IsCheckAsked options asked contexts × IsValueOf templates value × LacksPage contexts value
+    × IsCheckAsked options asked contexts × IsArgumentValue templates value × LacksPage contexts value
 
 -- an argument is refused: the options ask for nothing, or their schema is not read, or they name a page that is no
 -- template; or the templates are none
@@ -180,7 +180,7 @@ CheckFails templates options failure =
 
 -- ---- it is listed what a template needs
 -- The text is the JSON of what the template of a name needs.
-pub record Lists (templates name options text : List ℕ) : Type 0 where
+pub record ListsNeeds (templates name options text : List ℕ) : Type 0 where
   pub asked : Asked
   pub sources : List (List ℕ × List ℕ)
   pub given : AreGiven templates options asked sources

@@ -11,12 +11,12 @@ use Rattle.upon_meaning_spec.specs.MapOrder.{IsAmong}
 use Rattle.upon_json.specs.Context.{entries_in}
 use Rattle.upon_shape_spec.specs.Fits.{Fits, MapsRise}
 use Rattle.upon_shape_spec.specs.Shape.{Shape}
-use Rattle.upon_shape.specs.View.{view}
+use Rattle.upon_shape.specs.View.{shape_view}
 use Rattle.upon_schema.specs.Valid.{Valid}
 use Rattle.upon_engine.specs.Names.{texts}
 use Rattle.upon_engine.specs.Texts.{Stored, Texts}
 use Rattle.upon_engine.specs.Theorem.{IsTable, meaning}
-use Rattle.upon_calls.specs.Arguments.{IsValueOf, text_in}
+use Rattle.upon_calls.specs.Arguments.{IsArgumentValue, its_text}
 use Rattle.upon_calls.specs.Asked.{Asked, Asks}
 use Rattle.upon_calls.specs.Check.{is_missing}
 use Rattle.upon_calls.specs.declared.contexts.CheckContexts.{CheckContexts}
@@ -29,7 +29,7 @@ pub record Contexts : Type 0 where
 
 -- what the code knows of them
 abbrev pub contexts_by : CheckContexts → Contexts
-contexts_by c = record { shape = view c.shape; pages = option_map (λ names. texts names.items) c.pages }
+contexts_by c = record { shape = shape_view c.shape; pages = option_map (λ names. texts names.items) c.pages }
 
 -- the context of a sample: an object, or a list at the key `items`
 abbrev pub sample_in : Val → Option Val
@@ -68,7 +68,7 @@ NoShapeBy samples schema = ((shape : Option Shape) → IsShapeBy samples schema 
 -- the names of pages at a key: none are given if nothing is there
 abbrev pub pages_in : Option Val → Option (Option (List (List ℕ)))
 pages_in None = Some None
-pages_in (Some (list_val vs)) = option_map (λ names. Some names) (read_each text_in vs)
+pages_in (Some (list_val vs)) = option_map (λ names. Some names) (read_each its_text vs)
 pages_in (Some _) = None
 
 -- A value asks for this, and for a check on contexts.
@@ -89,11 +89,11 @@ AsksNoCheck v = ((asked : Asked) (contexts : Option Contexts) → AsksCheck v as
 
 -- the text of options asks a check for this
 abbrev pub IsCheckAsked : List ℕ → Asked → Option Contexts → Type 0
-IsCheckAsked text asked contexts = (v : Val) × IsValueOf text v × AsksCheck v asked contexts
+IsCheckAsked text asked contexts = (v : Val) × IsArgumentValue text v × AsksCheck v asked contexts
 
 -- it asks for nothing, its schema is not read, or it is no JSON
 abbrev pub IsCheckUnasked : List ℕ → Type 0
-IsCheckUnasked text = (v : Val) → IsValueOf text v → AsksNoCheck v
+IsCheckUnasked text = (v : Val) → IsArgumentValue text v → AsksNoCheck v
 
 -- the pages that are checked: those that are named, or all templates
 abbrev pub checked_pages : Option (List (List ℕ)) → List (List ℕ × List ℕ) → List (List ℕ)

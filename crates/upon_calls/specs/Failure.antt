@@ -32,11 +32,11 @@ failure_text (NotText argument) = Some (no_text_text argument)
 failure_text OutOfMemory = None
 
 -- the number that stands for what went wrong
-abbrev pub status_of : Failure → ℕ
-status_of (Faults pictures) = 1
-status_of (Refused argument reason) = 2
-status_of (NotText argument) = 3
-status_of OutOfMemory = 5
+abbrev pub call_status : Failure → ℕ
+call_status (Faults pictures) = 1
+call_status (Refused argument reason) = 2
+call_status (NotText argument) = 3
+call_status OutOfMemory = 5
 
 -- whether it is said that memory is out
 abbrev pub is_memory_kind : Kind → Bool
@@ -53,18 +53,18 @@ abbrev pub IsPicture : (Fault → Type 0) → List ℕ → Type 0
 IsPicture Is text = (fault : Fault) × (is_memory_kind fault.kind ≡ false) × (text ≡ pretty fault) × Is fault
 
 -- the report of a fault: its picture, unless that is, or memory was out
-abbrev pub IsReport : Fault → Failure → Type 0
-IsReport fault (Faults pictures) = (is_memory_kind fault.kind ≡ false) × (string_bytes pictures ≡ pretty fault)
-IsReport fault (Refused argument reason) = ⊥
-IsReport fault (NotText argument) = ⊥
-IsReport fault OutOfMemory = Unit {0}
+abbrev pub IsFaultReport : Fault → Failure → Type 0
+IsFaultReport fault (Faults pictures) = (is_memory_kind fault.kind ≡ false) × (string_bytes pictures ≡ pretty fault)
+IsFaultReport fault (Refused argument reason) = ⊥
+IsFaultReport fault (NotText argument) = ⊥
+IsFaultReport fault OutOfMemory = Unit {0}
 
 -- an argument is not UTF-8, and that is said
-abbrev pub IsNoText : Argument → List ℕ → Failure → Type 0
-IsNoText argument bytes (Faults pictures) = ⊥
-IsNoText argument bytes (Refused other reason) = ⊥
-IsNoText argument bytes (NotText other) = (other ≡ argument) × (IsUtf8 bytes → ⊥)
-IsNoText argument bytes OutOfMemory = ⊥
+abbrev pub TellsNoText : Argument → List ℕ → Failure → Type 0
+TellsNoText argument bytes (Faults pictures) = ⊥
+TellsNoText argument bytes (Refused other reason) = ⊥
+TellsNoText argument bytes (NotText other) = (other ≡ argument) × (IsUtf8 bytes → ⊥)
+TellsNoText argument bytes OutOfMemory = ⊥
 
 -- an argument is refused, and this is so; or memory was out
 abbrev pub RefusedIf : Argument → Type 0 → Failure → Type 0

@@ -8,13 +8,13 @@ use Rattle.upon_std.specs.Table.{standard_answer, standard_name}
 use Rattle.upon_std.specs.declared.table.TheConstants.{ALL}
 use Rattle.upon_std.specs.declared.table.StandardFunction.{StandardFunction}
 use Rattle.upon_calls.specs.Asked.{Asked}
-use Rattle.upon_calls.specs.Escaping.{format_for}
+use Rattle.upon_calls.specs.Escaping.{language_format}
 use Rattle.upon_calls.specs.declared.escaping.Language.{Language}
 
 -- an engine for a language into which values are written: with its formatter, and `verbatim`
 abbrev pub escaping_engine : Option Language → Texts
 escaping_engine None = empty_engine
-escaping_engine (Some language) = with_default_formatter (format_for language)
+escaping_engine (Some language) = with_default_formatter (language_format language)
     (with_callable (codes "verbatim") (formatter default_format) empty_engine)
 
 -- with functions under their names, one after the other

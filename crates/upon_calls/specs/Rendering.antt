@@ -12,10 +12,10 @@ use Rattle.upon_language_spec.specs.Search.{DelimiterText}
 use Rattle.upon_meaning_spec.specs.Alone.{fault_of_end}
 use Rattle.upon_meaning_spec.specs.Engine.{Table}
 use Rattle.upon_meaning_spec.specs.Outcome.{good}
-use Rattle.upon_vm.specs.Within.{Fits, NamesLimit}
+use Rattle.upon_vm.specs.Within.{FitsLimits, NamesLimit}
 use Rattle.upon_vm.specs.declared.limits.Limits.{Limits}
 use Rattle.upon_engine.specs.Texts.{Stored, Texts}
-use Rattle.upon_engine.specs.Theorem.{Answers, IsTable, meaning}
+use Rattle.upon_engine.specs.Theorem.{AnswersTree, IsTable, meaning}
 use Rattle.upon_engine.specs.Within.{AnswersWithin, runs}
 
 -- whether a limit is set
@@ -25,7 +25,7 @@ is_limited limits = (is_some limits.steps || is_some limits.output) || is_some l
 -- what is answered of the tree of a text: without limits, or within them
 abbrev pub AnswersIf : Bool → Limits → Texts → Option (List ℕ) → List ℕ → Statements → Val
     → Result (String Global) Error → Type 0
-AnswersIf false limits e name source tree v result = Answers e name source tree v result
+AnswersIf false limits e name source tree v result = AnswersTree e name source tree v result
 AnswersIf true limits e name source tree v result = AnswersWithin e limits name source tree v result
 
 -- a text is what the tree of a text means on a value, and the limits that are set let it be
@@ -33,14 +33,14 @@ abbrev pub IsMeaning : Limits → Texts → Option (List ℕ) → List ℕ → S
 IsMeaning limits e name source tree v text =
     (table : Table) → IsTable e.texts table
     → ((meaning e table name source tree v).end ≡ good) × (text ≡ (meaning e table name source tree v).text)
-    × Fits limits (runs e table name source tree v) (meaning e table name source tree v)
+    × FitsLimits limits (runs e table name source tree v) (meaning e table name source tree v)
 
 -- a fault is the one with which the meaning of a tree ends, or it names a limit beyond which that goes
 abbrev pub EndsWith : Limits → Texts → Option (List ℕ) → List ℕ → Statements → Val → Fault → Type 0
 EndsWith limits e name source tree v fault =
     (table : Table) → IsTable e.texts table
     → ((fault_of_end e.depth (meaning e table name source tree v).end ≡ Some fault)
-    × Fits limits (runs e table name source tree v) (meaning e table name source tree v))
+    × FitsLimits limits (runs e table name source tree v) (meaning e table name source tree v))
     ⊎ NamesLimit limits (runs e table name source tree v) (meaning e table name source tree v) fault
 
 -- a text is what the template of a name means on a value
@@ -61,13 +61,13 @@ MeansText limits e source v text =
     (tree : Statements) × HasTree e.syntax source tree × IsMeaning limits e None source tree v text
 
 -- a fault is the first one of a text
-abbrev pub IsFirst : List DelimiterText → List ℕ → Fault → Type 0
-IsFirst delimiters s fault = (span : Span) × (reason : List ℕ) × IsFirstFault delimiters s span reason
+abbrev pub IsFirstFaultOf : List DelimiterText → List ℕ → Fault → Type 0
+IsFirstFaultOf delimiters s fault = (span : Span) × (reason : List ℕ) × IsFirstFault delimiters s span reason
     × (fault ≡ fault_with_picture s (bare_fault syntax (Some reason) (Some span)))
 
 -- a text has a first fault, or its rendering on a value ends with one
 abbrev pub FailsText : Limits → Texts → List ℕ → Val → Fault → Type 0
-FailsText limits e source v fault = IsFirst e.syntax source fault
+FailsText limits e source v fault = IsFirstFaultOf e.syntax source fault
     ⊎ ((tree : Statements) × HasTree e.syntax source tree × EndsWith limits e None source tree v fault)
 
 -- a fault is the first one of a text, with the name of its template

@@ -2,7 +2,7 @@
 use Rattle.std.specs.Prelude.{◌≡◌, ℕ, List, [], ◌∷◌, map, Option, Some, None, option_map}
 use Rattle.std.specs.Borrow.{Bor}
 use Rattle.upon_types.specs.Val.{Val, text_val, map_val, Entries, no_entries, entry_then}
-use Rattle.upon_calls.specs.Arguments.{IsValueOf}
+use Rattle.upon_calls.specs.Arguments.{IsArgumentValue}
 
 -- names and texts, as they are lent
 abbrev pub lent_pairs : List (Bor (List ℕ) × Bor (List ℕ)) → List (List ℕ × List ℕ)
@@ -21,7 +21,7 @@ sources_in _ = None
 
 -- the templates that a text of JSON is, in the order of their names
 abbrev pub AreTemplates : List ℕ → List (List ℕ × List ℕ) → Type 0
-AreTemplates text sources = (v : Val) × IsValueOf text v × (sources_in v ≡ Some sources)
+AreTemplates text sources = (v : Val) × IsArgumentValue text v × (sources_in v ≡ Some sources)
 
 -- it is no templates
 abbrev pub AreNone : List ℕ → Type 0

@@ -3,7 +3,7 @@ use Rattle.std.specs.Prelude.{◌≡◌, ◌⊎◌, ℕ, List, [], All, None, st
 use Rattle.upon_types.specs.Fault.{Fault}
 use Rattle.upon_types.specs.View.{view}
 use Rattle.upon_vm.specs.declared.limits.Limits.{Limits}
-use Rattle.upon_shape.specs.View.{view as shape_view}
+use Rattle.upon_shape.specs.View.{shape_view}
 use Rattle.upon_checked.specs.Callables.{declared_view}
 use Rattle.upon_engine.specs.Names.{texts}
 use Rattle.upon_engine.specs.Texts.{Texts}

@@ -2,9 +2,9 @@
 ghost use Rattle.std.specs.Prelude.{◌≡◌, None, Some, IfErr, IfOk, map, codes, option_map};
 ghost use Rattle.upon_types.specs.Val.{entry_then, key_of, list_val, map_val, no_entries};
 ghost use Rattle.upon_types.specs.View.{view, vals_view};
-ghost use Rattle.upon_shape.specs.View.{view as shape_view};
+ghost use Rattle.upon_shape.specs.View.{shape_view};
 ghost use Rattle.upon_engine.specs.Names.{texts};
-ghost use Rattle.upon_calls.specs.Arguments.{text_in};
+ghost use Rattle.upon_calls.specs.Arguments.{its_text};
 ghost use Rattle.upon_calls.specs.Asked.{asked_by, Asks, AsksNothing};
 ghost use Rattle.upon_calls.specs.Contexts.{contexts_by, read_each, pages_in, sample_in, samples_in, AsksCheck, AsksNoCheck, IsShapeBy, NoShapeBy, SamplesFit};
 ghost use Rattle.upon_calls.specs.Failure.{RefusedIf};
@@ -176,8 +176,8 @@ const PAGES: &str = "a list of names";
 
 // The texts that values are.
 fn names_of<'v>(alloc: Global, items: &'v [Value]) -> Result<Vec<&'v str>, Failure>
-    ensures read { IfOk result (λ names. read_each text_in (vals_view items.entry.now) ≡ Some (texts names.items)) }
-    ensures refused { IfErr result (RefusedIf OptionsRefused (read_each text_in (vals_view items.entry.now) ≡ None)) }
+    ensures read { IfOk result (λ names. read_each its_text (vals_view items.entry.now) ≡ Some (texts names.items)) }
+    ensures refused { IfErr result (RefusedIf OptionsRefused (read_each its_text (vals_view items.entry.now) ≡ None)) }
 {
     let mut names = Vec::new(alloc);
     for item in items {

@@ -2,7 +2,7 @@
 ghost use Rattle.std.specs.Prelude.{◌≡◌, ℕ, List, IfOk};
 ghost use Rattle.upon_meaning_spec.specs.DefaultFormat.{formatter_or_default};
 ghost use Rattle.upon_shape_spec.specs.Declared.{CallableKeeps, KeepsDeclared};
-ghost use Rattle.upon_shape.specs.View.{view};
+ghost use Rattle.upon_shape.specs.View.{shape_view};
 ghost use Rattle.upon_checked.specs.Callables.{declared_view};
 ghost use Rattle.upon_calls.specs.Asked.{asked_by};
 ghost use Rattle.upon_calls.specs.Escaping.{written_shape};
@@ -44,7 +44,7 @@ fn declared_into(alloc: Global, escape: Option<Language>) -> Result<Declared, Al
 
 // The values that are written into a language, or as they are, whatever they are.
 fn written_into(escape: Option<Language>) -> Shape
-    ensures { view result ≡ written_shape escape }
+    ensures { shape_view result ≡ written_shape escape }
 {
     match escape {
         Some(Language::Shell) => Shape::plain(Plain {

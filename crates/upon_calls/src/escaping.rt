@@ -49,9 +49,9 @@ pub struct Escaping {
 }
 
 impl Format for Escaping {
-    ghost use Rattle.upon_calls.specs.Escaping.{format_for};
+    ghost use Rattle.upon_calls.specs.Escaping.{language_format};
 
-    ghost formats = { λ e. format_for e.language };
+    ghost formats = { λ e. language_format e.language };
 
     fn format(&self, f: &mut Formatter, value: &Value) -> fmt::Result {
         match self.language {

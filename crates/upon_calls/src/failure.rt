@@ -1,7 +1,7 @@
 // Why a call gives no text of its own.
 ghost use Rattle.std.specs.Prelude.{◌≡◌, IfOk, Some, string_bytes};
 ghost use Rattle.upon_types.specs.Error.{fault_of};
-ghost use Rattle.upon_calls.specs.Failure.{argument_word, failure_text, is_memory_kind, status_of, IsReport};
+ghost use Rattle.upon_calls.specs.Failure.{argument_word, failure_text, is_memory_kind, call_status, IsFaultReport};
 ghost use Rattle.upon_calls.specs.declared.failure.Failure.TheVariants.{OutOfMemory};
 
 use std::alloc::{AllocError, AllocFailed, Global};
@@ -70,7 +70,7 @@ impl<T: Drop> From<AllocFailed<T>> for Failure {
 impl Failure {
     /// Returns the report of an error of templates, with its picture.
     pub fn of_error(alloc: Global, error: &Error) -> Failure
-        ensures { IsReport (fault_of error.now) result }
+        ensures { IsFaultReport (fault_of error.now) result }
     {
         if is_memory(error) {
             return Failure::OutOfMemory;
@@ -84,7 +84,7 @@ impl Failure {
     /// Returns the number that stands for what went wrong: 1 for faults, 2 for a refusal, 3 for bytes that are not
     /// UTF-8, and 5 if there was no memory.
     pub fn status(&self) -> u8
-        ensures { result ≡ status_of self.now }
+        ensures { result ≡ call_status self.now }
     {
         match self {
             Failure::Faults(_) => 1,

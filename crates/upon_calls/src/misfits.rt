@@ -1,6 +1,6 @@
 // Whether pages are accepted on a shape, and the pictures of where they may fail.
 ghost use Rattle.std.specs.Prelude.{◌≡◌, [], IfErr, IfOk, OnOk, string_bytes};
-ghost use Rattle.upon_shape.specs.View.{view};
+ghost use Rattle.upon_shape.specs.View.{shape_view};
 ghost use Rattle.upon_checked.specs.Callables.{declared_view};
 ghost use Rattle.upon_accepts.specs.EndsOn.{EndsOn};
 ghost use Rattle.upon_calls.specs.Work.{PagesFit};
@@ -49,7 +49,7 @@ fn show_page(
 ) -> Result<(), AllocError>
     ensures { OnOk result (string_bytes pictures.new.text ≡ [] → (string_bytes pictures.old.text ≡ [])
         × EndsOn (⟦<AnyEngine as EngineTexts>⟧.texts known.now.engine.now) (declared_view known.now.declared.now)
-        name.now (view shape.now)) }
+        name.now (shape_view shape.now)) }
 {
     match accepts(alloc, known.engine, known.declared, name, shape) {
         Ok(_) => Ok(()),

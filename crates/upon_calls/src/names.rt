@@ -4,7 +4,7 @@ ghost use Rattle.serde_json.specs.Data.{string};
 ghost use Rattle.serde_json.specs.View.{items_of, items_view, view};
 ghost use Rattle.serde_json.specs.Written.{compact_text};
 ghost use Rattle.upon_engine.specs.Names.{texts};
-ghost use Rattle.upon_calls.specs.Calls.{ListFails, Lists};
+ghost use Rattle.upon_calls.specs.Calls.{ListFails, ListsNeeds};
 ghost use Rattle.upon_calls.specs.Names.{needs_data, ListsNamed};
 ghost use Rattle.upon_calls.specs.Work.{WorkFails};
 ghost use Rattle.upon_calls.specs.declared.failure.Failure.TheVariants.{OutOfMemory};
@@ -27,7 +27,7 @@ pub fn names(
     name: &[u8],
     options: &[u8],
 ) -> Result<String, Failure>
-    ensures lists { IfOk result (λ text. Lists templates.now name.now options.now (string_bytes text)) }
+    ensures lists { IfOk result (λ text. ListsNeeds templates.now name.now options.now (string_bytes text)) }
     ensures fails { IfErr result (ListFails templates.now name.now options.now) }
 {
     let templates = text_of(Argument::Templates, templates)?;

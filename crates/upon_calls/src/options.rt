@@ -1,7 +1,7 @@
 // The options of a call.
 ghost use Rattle.std.specs.Prelude.{◌≡◌, ⊤, None, Some, IfErr, IfOk, OnOk, true, false};
 ghost use Rattle.upon_types.specs.View.{view};
-ghost use Rattle.upon_calls.specs.Asked.{agreed, asked_by, depth_at, escape_at, flag_at, has_keys, is_check_key, is_key, is_known, number_at, Asks, AsksNothing, HasLimits, HasNoLimits, IsAsked, IsUnasked};
+ghost use Rattle.upon_calls.specs.Asked.{agreed, asked_by, depth_at, escape_at, flag_at, has_keys, is_check_key, is_option_key, is_known, number_at, Asks, AsksNothing, HasLimits, HasNoLimits, IsAsked, IsUnasked};
 ghost use Rattle.upon_calls.specs.Failure.{RefusedIf};
 ghost use Rattle.upon_calls.specs.declared.failure.Argument.TheVariants.{Options as OptionsRefused};
 ghost use Rattle.upon_calls.specs.declared.options.Known.TheVariants.{Rendering};
@@ -69,7 +69,7 @@ pub(crate) fn options_of(alloc: Global, known: Known, value: &Value) -> Result<O
 
 // Whether a key is one of an option.
 fn is_key(key: &str) -> bool
-    ensures { result ≡ is_key key.now }
+    ensures { result ≡ is_option_key key.now }
 {
     key == "escape"
         || key == "html"

@@ -1,7 +1,7 @@
 // The pages of a check: which they are, and whether they end without a fault on contexts.
 ghost use Rattle.std.specs.Prelude.{◌≡◌, ⊤, None, Some, ℕ, List, [], All, Contains, IfErr, IfOk, IfSome, IsNone, IsSome, map, option_map, string_bytes, true, false};
 ghost use Rattle.upon_types.specs.View.{view};
-ghost use Rattle.upon_shape.specs.View.{view as shape_view};
+ghost use Rattle.upon_shape.specs.View.{shape_view};
 ghost use Rattle.upon_engine.specs.Names.{texts};
 ghost use Rattle.upon_calls.specs.Asked.{asked_by};
 ghost use Rattle.upon_calls.specs.Check.{is_missing};

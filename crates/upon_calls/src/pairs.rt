@@ -5,7 +5,7 @@ ghost use Rattle.upon_types.specs.View.{view, vals_view};
 ghost use Rattle.upon_lexer.specs.Builder.{builder_texts};
 ghost use Rattle.upon_lexer.specs.Syntax.{syntax_delimiters};
 ghost use Rattle.upon_calls.specs.Failure.{RefusedIf};
-ghost use Rattle.upon_calls.specs.Arguments.{text_in};
+ghost use Rattle.upon_calls.specs.Arguments.{its_text};
 ghost use Rattle.upon_calls.specs.Pairs.{delimiters_in, pairs_in, some_text_in, sort_in, triple_in, triple_of};
 ghost use Rattle.upon_calls.specs.declared.failure.Argument.TheVariants.{Options as OptionsRefused};
 
@@ -128,7 +128,7 @@ fn three<'v>(
 
 // What a pair is for, by the word that a value is.
 fn sort_of(value: &Value) -> Option<Sort>
-    ensures { result ≡ option_and_then sort_in (text_in (view value.now)) }
+    ensures { result ≡ option_and_then sort_in (its_text (view value.now)) }
 {
     match value {
         Value::String(word) => Sort::of_word(word),

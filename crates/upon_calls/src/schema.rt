@@ -1,7 +1,7 @@
 // The shape of contexts that a JSON Schema gives.
 ghost use Rattle.std.specs.Prelude.{⊤, IfErr, IfOk};
 ghost use Rattle.upon_types.specs.View.{view};
-ghost use Rattle.upon_shape.specs.View.{view as shape_view};
+ghost use Rattle.upon_shape.specs.View.{shape_view};
 ghost use Rattle.upon_calls.specs.Contexts.{ValidFit};
 ghost use Rattle.upon_calls.specs.Failure.{RefusedIf};
 ghost use Rattle.upon_calls.specs.declared.failure.Argument.TheVariants.{Options as OptionsRefused};

@@ -12,7 +12,7 @@ use Rattle.upon_shape_spec.specs.Paths.{takes_plain, takes_lists, takes_maps}
 use Rattle.upon_shape_spec.specs.Scope.{NameShape, Scope, name_shape, scope_over, value_of}
 use Rattle.upon_shape_spec.specs.Shape.{Shape, any_shape, one_of, never}
 use Rattle.upon_checked_spec.specs.Known.{Known, KnownOperand, known, known_operand, with_operand, with_operands, both_shapes}
-use Rattle.upon_checked_spec.specs.ProgramDoubts.{binds, include_doubts, leaves, other_case, shapes_of, tests, with_taken}
+use Rattle.upon_checked_spec.specs.ProgramDoubts.{binds_shapes, include_doubts, leaves_block, other_case, shapes_of, tests, with_known_taken}
 use Rattle.upon_checked.specs.Loops.{looped, looped_names}
 use Rattle.upon_checked.specs.Steps.{Steps}
 
@@ -59,23 +59,23 @@ never_names (key_value key value both) = refl
 
 -- a loop over what has items
 pub loop_over : (d : Declared) (inc : List ℕ → Scope → Bool) (at : ℕ) (names : LoopVars) (span : Span) (mid next : Known) (o : KnownOperand) (s t : Shape) → s ≡ or_never o.shape → Some t ≡ looped names s
-    → next ≡ binds (iteration_names (looped_names names t)) mid.operands mid → Steps d inc at (with_operand o mid) (loop_start names span) [] next
+    → next ≡ binds_shapes (iteration_names (looped_names names t)) mid.operands mid → Steps d inc at (with_operand o mid) (loop_start names span) [] next
 loop_over d inc at names span mid next o s t is found e =
     let names_are : loop_names names (or_never o.shape) ≡ Some (looped_names names t) = ap (loop_names names) (sym is) ∙ (loop_names-looped names s ∙ ap (names_from names) (sym found)) in (
       sym (ap (λ n. if_none n (doubt span (has_items (or_never o.shape)))) names_are),
-      e ∙ sym (ap (λ n. binds (iteration_names (or_names n (loop_names names never))) mid.operands (with_operand o mid)) names_are),
+      e ∙ sym (ap (λ n. binds_shapes (iteration_names (or_names n (loop_names names never))) mid.operands (with_operand o mid)) names_are),
     )
 
 -- a loop over what may have none
 pub loop_in_doubt : (d : Declared) (inc : List ℕ → Scope → Bool) (at : ℕ) (names : LoopVars) (span : Span) (mid next : Known) (o : KnownOperand) (s t : Shape) → s ≡ or_never o.shape → None ≡ looped names s → t ≡ never
-    → next ≡ binds (iteration_names (looped_names names t)) mid.operands mid → Steps d inc at (with_operand o mid) (loop_start names span) (doubt span (has_items s)) next
+    → next ≡ binds_shapes (iteration_names (looped_names names t)) mid.operands mid → Steps d inc at (with_operand o mid) (loop_start names span) (doubt span (has_items s)) next
 loop_in_doubt d inc at names span mid next o s t is found t_is e =
     let names_are : loop_names names (or_never o.shape) ≡ None = ap (loop_names names) (sym is) ∙ (loop_names-looped names s ∙ ap (names_from names) (sym found)) in (
       ap (λ u. doubt span (has_items u)) is ∙ sym (ap (λ n. if_none n (doubt span (has_items (or_never o.shape)))) names_are),
       e
-          ∙ (ap (λ u. binds (iteration_names (looped_names names u)) mid.operands mid) t_is
-          ∙ (sym (ap (λ n. binds (iteration_names (or_names None n)) mid.operands mid) (never_names names))
-          ∙ sym (ap (λ n. binds (iteration_names (or_names n (loop_names names never))) mid.operands mid) names_are))),
+          ∙ (ap (λ u. binds_shapes (iteration_names (looped_names names u)) mid.operands mid) t_is
+          ∙ (sym (ap (λ n. binds_shapes (iteration_names (or_names None n)) mid.operands mid) (never_names names))
+          ∙ sym (ap (λ n. binds_shapes (iteration_names (or_names n (loop_names names never))) mid.operands mid) names_are))),
     )
 
 -- ---- literals of lists and maps
@@ -98,40 +98,40 @@ put_alone d inc at i old mid low next o first none same e so =
 -- ---- calls
 pub few_shown : (d : Declared) (inc : List ℕ → Scope → Bool) (at : ℕ) (name : Ident) (n : ℕ) (span : Span) (old new : Known) → taken n old.operands ≡ None → new ≡ old → Steps d inc at old (emit_with name n span) [] new
 few_shown d inc at name n span old new few same = (
-  sym (ap (λ t. with_taken [] t (λ os below. if_some (shapes_of os) (shown_call_doubts d old.scope name.span span (d.callables name.text)))) few),
-  same ∙ sym (ap (λ t. with_taken old t (λ os below. with_operands below old)) few),
+  sym (ap (λ t. with_known_taken [] t (λ os below. if_some (shapes_of os) (shown_call_doubts d old.scope name.span span (d.callables name.text)))) few),
+  same ∙ sym (ap (λ t. with_known_taken old t (λ os below. with_operands below old)) few),
 )
 
 pub shown_of : (d : Declared) (inc : List ℕ → Scope → Bool) (at : ℕ) (name : Ident) (n : ℕ) (span : Span) (old new : Known) (os : List KnownOperand) (ds : List Doubt) → taken n old.operands ≡ Some (os, new.operands) → new ≡ with_operands new.operands old
     → ds ≡ if_some (shapes_of os) (shown_call_doubts d old.scope name.span span (d.callables name.text)) → Steps d inc at old (emit_with name n span) ds new
 shown_of d inc at name n span old new os ds some rest is = (
-  is ∙ sym (ap (λ t. with_taken [] t (λ os below. if_some (shapes_of os) (shown_call_doubts d old.scope name.span span (d.callables name.text)))) some),
-  rest ∙ sym (ap (λ t. with_taken old t (λ os below. with_operands below old)) some),
+  is ∙ sym (ap (λ t. with_known_taken [] t (λ os below. if_some (shapes_of os) (shown_call_doubts d old.scope name.span span (d.callables name.text)))) some),
+  rest ∙ sym (ap (λ t. with_known_taken old t (λ os below. with_operands below old)) some),
 )
 
 pub few_applied : (d : Declared) (inc : List ℕ → Scope → Bool) (at : ℕ) (name : Ident) (n : ℕ) (span : Span) (old new : Known) → taken n old.operands ≡ None → new ≡ old → Steps d inc at old (apply name n span) [] new
 few_applied d inc at name n span old new few same = (
-  sym (ap (λ t. with_taken [] t (λ os below. if_some (shapes_of os) (given_doubts name.span (d.callables name.text)))) few),
-  same ∙ sym (ap (λ t. with_taken old t (λ os below. with_operands (known_operand (call_shape (d.callables name.text) (shapes_of os)) span None ∷ below) old)) few),
+  sym (ap (λ t. with_known_taken [] t (λ os below. if_some (shapes_of os) (given_doubts name.span (d.callables name.text)))) few),
+  same ∙ sym (ap (λ t. with_known_taken old t (λ os below. with_operands (known_operand (call_shape (d.callables name.text) (shapes_of os)) span None ∷ below) old)) few),
 )
 
 pub applied_to : (d : Declared) (inc : List ℕ → Scope → Bool) (at : ℕ) (name : Ident) (n : ℕ) (span : Span) (old mid new : Known) (os : List KnownOperand) (ds : List Doubt) (s : Option Shape) → taken n old.operands ≡ Some (os, mid.operands) → mid ≡ with_operands mid.operands old
     → ds ≡ if_some (shapes_of os) (given_doubts name.span (d.callables name.text)) → s ≡ call_shape (d.callables name.text) (shapes_of os) → new ≡ with_operand (known_operand s span None) mid
     → Steps d inc at old (apply name n span) ds new
 applied_to d inc at name n span old mid new os ds s some rest is shape_is e = (
-  is ∙ sym (ap (λ t. with_taken [] t (λ os below. if_some (shapes_of os) (given_doubts name.span (d.callables name.text)))) some),
+  is ∙ sym (ap (λ t. with_known_taken [] t (λ os below. if_some (shapes_of os) (given_doubts name.span (d.callables name.text)))) some),
   e
       ∙ (ap (with_operand (known_operand s span None)) rest
       ∙ (ap (λ t. with_operands (known_operand t span None ∷ mid.operands) old) shape_is
-      ∙ sym (ap (λ t. with_taken old t (λ os below. with_operands (known_operand (call_shape (d.callables name.text) (shapes_of os)) span None ∷ below) old)) some))),
+      ∙ sym (ap (λ t. with_known_taken old t (λ os below. with_operands (known_operand (call_shape (d.callables name.text) (shapes_of os)) span None ∷ below) old)) some))),
 )
 
 -- ---- jumps
-pub jumped_out : (d : Declared) (inc : List ℕ → Scope → Bool) (at n : ℕ) (old new : Known) → leb n at ≡ true → new ≡ leaves old old.opens → Steps d inc at old (jump n) [] new
-jumped_out d inc at n old new h e = (refl, e ∙ sym (ap (λ b. cond b (leaves old old.opens) (other_case n old old.opens)) h))
+pub jumped_out : (d : Declared) (inc : List ℕ → Scope → Bool) (at n : ℕ) (old new : Known) → leb n at ≡ true → new ≡ leaves_block old old.opens → Steps d inc at old (jump n) [] new
+jumped_out d inc at n old new h e = (refl, e ∙ sym (ap (λ b. cond b (leaves_block old old.opens) (other_case n old old.opens)) h))
 
 pub jumped_on : (d : Declared) (inc : List ℕ → Scope → Bool) (at n : ℕ) (old new : Known) → leb n at ≡ false → new ≡ other_case n old old.opens → Steps d inc at old (jump n) [] new
-jumped_on d inc at n old new h e = (refl, e ∙ sym (ap (λ b. cond b (leaves old old.opens) (other_case n old old.opens)) h))
+jumped_on d inc at n old new h e = (refl, e ∙ sym (ap (λ b. cond b (leaves_block old old.opens) (other_case n old old.opens)) h))
 
 -- ---- what takes one operand
 pub emitted : (d : Declared) (inc : List ℕ → Scope → Bool) (at : ℕ) (old mid : Known) (o : KnownOperand) (s : Option Shape) (ds : List Doubt) → old ≡ with_operand o mid → o.shape ≡ s → ds ≡ if_some s (text_doubts d mid.scope o.place)
@@ -144,9 +144,9 @@ included_alone d inc at old mid o word s ds e same is =
     after_pop d inc at old mid mid o (include_with word) ds e (is ∙ ap (λ r. if_some r (λ t. include_doubts d inc word (scope_over t))) (sym same), refl)
 
 pub named : (d : Declared) (inc : List ℕ → Scope → Bool) (at : ℕ) (old mid next : Known) (o : KnownOperand) (word : Ident) (s : Shape) → old ≡ with_operand o mid → s ≡ or_never o.shape
-    → next ≡ binds (name_shape word.text (value_of s) ∷ []) mid.operands mid → Steps d inc at old (with_start word) [] next
+    → next ≡ binds_shapes (name_shape word.text (value_of s) ∷ []) mid.operands mid → Steps d inc at old (with_start word) [] next
 named d inc at old mid next o word s e is b =
-    after_pop d inc at old mid next o (with_start word) [] e (refl, b ∙ ap (λ t. binds (name_shape word.text (value_of t) ∷ []) mid.operands mid) is)
+    after_pop d inc at old mid next o (with_start word) [] e (refl, b ∙ ap (λ t. binds_shapes (name_shape word.text (value_of t) ∷ []) mid.operands mid) is)
 
 pub is_included_so : (d : Declared) (inc : List ℕ → Scope → Bool) (word : Ident) (scope : Scope) (b : Bool) → b ≡ inc word.text scope → b ≡ true → [] ≡ include_doubts d inc word scope
 is_included_so d inc word scope b is holds = sym (ap (λ c. unless c (doubt word.span (is_included scope))) (sym is ∙ holds))

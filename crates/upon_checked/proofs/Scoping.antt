@@ -3,7 +3,7 @@ use Rattle.std.proofs.Common.{◌≡◌, ℕ, ◌+◌, ◌-◌, ◌<◌, ◌≤�
 use Rattle.std.specs.Str.{bytes_eq}
 use Rattle.upon_shape_spec.specs.Scope.{BoundShape, NameShape, first_bound_shape, both_wider, names_wider}
 use Rattle.upon_shape_spec.specs.Shape.{Shape}
-use Rattle.upon_checked.specs.Scope.{bound_view, depth_of, name_view, names_view}
+use Rattle.upon_checked.specs.Scope.{bound_view, name_depth, name_view, names_view}
 use Rattle.upon_checked.specs.declared.scope.NameShape.{NameShape as CodeName}
 use Rattle.upon_checked.proofs.Names.{scope_of}
 use Rattle.upon_checked.proofs.OnTop.{drop-on_top, on_top-more, on_top-push}
@@ -42,12 +42,12 @@ first_passed key xs left k x next within is same first =
     ∙ ap (λ b. cond b (Some (bound_view x.bound)) (first_bound_shape key (names_view (take k xs)))) same)
 
 pub depth_here : (key : List ℕ) (xs : List CodeName) (left k : ℕ) (x : CodeName) → left ≡ k + 1 → left ≤ length xs → x ≡ get_or xs k x → bytes_eq key x.name.now ≡ true
-    → depth_of key (names_view xs) ≡ option_map (λ n. n + (length xs - left)) (depth_of key (names_view (take left xs))) → depth_of key (names_view xs) ≡ Some (length xs - 1 - k)
+    → name_depth key (names_view xs) ≡ option_map (λ n. n + (length xs - left)) (name_depth key (names_view (take left xs))) → name_depth key (names_view xs) ≡ Some (length xs - 1 - k)
 depth_here key xs left k x next within is same depth =
     let even : 0 + (length xs - left) ≡ length xs - 1 - k = omega arith in
     depth
-    ∙ (ap (λ l. option_map (λ n. n + (length xs - left)) (depth_of key l)) (on_top-more name_view xs left k x next within is)
-    ∙ (ap (λ b. option_map (λ n. n + (length xs - left)) (cond b (Some 0) (option_map (λ n. n + 1) (depth_of key (names_view (take k xs)))))) same
+    ∙ (ap (λ l. option_map (λ n. n + (length xs - left)) (name_depth key l)) (on_top-more name_view xs left k x next within is)
+    ∙ (ap (λ b. option_map (λ n. n + (length xs - left)) (cond b (Some 0) (option_map (λ n. n + 1) (name_depth key (names_view (take k xs)))))) same
     ∙ ap Some even))
 
 further : (o : Option ℕ) (len left k : ℕ) → left ≡ k + 1 → left ≤ len → option_map (λ n. n + (len - left)) (option_map (λ n. n + 1) o) ≡ option_map (λ n. n + (len - k)) o
@@ -55,13 +55,13 @@ further None len left k next within = refl
 further (Some m) len left k next within = let even : m + 1 + (len - left) ≡ m + (len - k) = omega arith in ap Some even
 
 pub depth_passed : (key : List ℕ) (xs : List CodeName) (left k : ℕ) (x : CodeName) → left ≡ k + 1 → left ≤ length xs → x ≡ get_or xs k x → bytes_eq key x.name.now ≡ false
-    → depth_of key (names_view xs) ≡ option_map (λ n. n + (length xs - left)) (depth_of key (names_view (take left xs)))
-    → depth_of key (names_view xs) ≡ option_map (λ n. n + (length xs - k)) (depth_of key (names_view (take k xs)))
+    → name_depth key (names_view xs) ≡ option_map (λ n. n + (length xs - left)) (name_depth key (names_view (take left xs)))
+    → name_depth key (names_view xs) ≡ option_map (λ n. n + (length xs - k)) (name_depth key (names_view (take k xs)))
 depth_passed key xs left k x next within is same depth =
     depth
-    ∙ (ap (λ l. option_map (λ n. n + (length xs - left)) (depth_of key l)) (on_top-more name_view xs left k x next within is)
-    ∙ (ap (λ b. option_map (λ n. n + (length xs - left)) (cond b (Some 0) (option_map (λ n. n + 1) (depth_of key (names_view (take k xs)))))) same
-    ∙ further (depth_of key (names_view (take k xs))) (length xs) left k next within))
+    ∙ (ap (λ l. option_map (λ n. n + (length xs - left)) (name_depth key l)) (on_top-more name_view xs left k x next within is)
+    ∙ (ap (λ b. option_map (λ n. n + (length xs - left)) (cond b (Some 0) (option_map (λ n. n + 1) (name_depth key (names_view (take k xs)))))) same
+    ∙ further (name_depth key (names_view (take k xs))) (length xs) left k next within))
 
 -- ---- each name as widely
 pub wider_step : (xs : List CodeName) (bs cs : List NameShape) (left k : ℕ) (x : CodeName) (answer : Bool) → left ≡ k + 1 → left ≤ length xs → x ≡ get_or xs k x
@@ -84,8 +84,8 @@ get_or_any (x ∷ xs) zero a b less = refl
 get_or_any (x ∷ xs) (suc k) a b less = get_or_any xs k a b (omega arith)
 
 pub found_here : (key : List ℕ) (xs : List CodeName) (left : ℕ) (x d : CodeName) → 0 < left → left ≤ length xs → x ≡ get_or xs (left - 1) x → true ≡ bytes_eq key (get_or xs (left - 1) x).name.now
-    → depth_of key (names_view xs) ≡ option_map (λ n. n + (length xs - left)) (depth_of key (names_view (take left xs))) → first_bound_shape key (names_view xs) ≡ first_bound_shape key (names_view (take left xs))
-    → (depth_of key (names_view xs) ≡ Some (length xs - 1 - (left - 1))) × (first_bound_shape key (names_view xs) ≡ Some (bound_view (get_or xs (left - 1) d).bound))
+    → name_depth key (names_view xs) ≡ option_map (λ n. n + (length xs - left)) (name_depth key (names_view (take left xs))) → first_bound_shape key (names_view xs) ≡ first_bound_shape key (names_view (take left xs))
+    → (name_depth key (names_view xs) ≡ Some (length xs - 1 - (left - 1))) × (first_bound_shape key (names_view xs) ≡ Some (bound_view (get_or xs (left - 1) d).bound))
 found_here key xs left x d some within is same depth first =
     let next : left ≡ (left - 1) + 1 = omega arith in
     let below : left - 1 < length xs = omega arith in

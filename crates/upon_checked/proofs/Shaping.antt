@@ -8,7 +8,7 @@ use Rattle.upon_shape_spec.specs.Accepted.{value_shape}
 use Rattle.upon_shape_spec.specs.Paths.{takes_plain}
 use Rattle.upon_shape_spec.specs.Shape.{Shape, no_list, one_of}
 use Rattle.upon_shape_spec.specs.Wider.{wider, all_wider}
-use Rattle.upon_shape.specs.View.{lists_view, maps_view, plain_view, view}
+use Rattle.upon_shape.specs.View.{lists_view, maps_view, plain_view, shape_view}
 use Rattle.upon_shape.specs.declared.shape.Keys.{Keys as CodeKeys}
 use Rattle.upon_shape.specs.declared.shape.Plain.{Plain as CodePlain}
 use Rattle.upon_shape.specs.declared.shape.Shape.{Shape as CodeShape, OneOf}
@@ -28,10 +28,10 @@ all_wider-lengths (s ∷ ss) (t ∷ ts) differ = ap (λ b. wider s t && b) (all_
 
 -- ---- loops
 pub looped_pair : (names : AstLoopVars) (both : AstKeyValue) (shape : CodeShape) (p : CodePlain) (l : Option (Box CodeShape Global)) (m : Option (CodeKeys CodeShape)) (v : CodeShape) → names ≡ KeyValueVars both → shape ≡ OneOf p l m → l ≡ None
-    → takes_plain (plain_view p) ≡ false → view v ≡ value_shape (maps_view m) → Some (view v) ≡ looped (loop_vars_of names) (view shape)
+    → takes_plain (plain_view p) ≡ false → shape_view v ≡ value_shape (maps_view m) → Some (shape_view v) ≡ looped (loop_vars_of names) (shape_view shape)
 looped_pair names both shape p l m v vars is none plain e =
-    let seen : view shape ≡ one_of (plain_view p) no_list (maps_view m) = ap view is ∙ (view-OneOf p l m ∙ ap (λ k. one_of (plain_view p) (lists_view k) (maps_view m)) none) in
+    let seen : shape_view shape ≡ one_of (plain_view p) no_list (maps_view m) = ap shape_view is ∙ (view-OneOf p l m ∙ ap (λ k. one_of (plain_view p) (lists_view k) (maps_view m)) none) in
     ap Some e
     ∙ sym
-    (ap (λ n. looped (loop_vars_of n) (view shape)) vars
+    (ap (λ n. looped (loop_vars_of n) (shape_view shape)) vars
     ∙ (ap (looped (loop_vars_of (KeyValueVars both))) seen ∙ ap (λ b. cond (b || false) None (Some (value_shape (maps_view m)))) plain))

@@ -7,7 +7,7 @@ use Rattle.upon_machine_spec.specs.Operands.{taken, taken_before}
 use Rattle.upon_shape_spec.specs.Accepted.{iteration_names}
 use Rattle.upon_shape_spec.specs.Scope.{NameShape, Scope, a_loop, name_shape, with_names}
 use Rattle.upon_checked_spec.specs.Known.{Known, KnownOperand, KnownPath, Open, body_to, other_to, binding, known, around, has_ended, path_tested}
-use Rattle.upon_checked_spec.specs.ProgramDoubts.{binds, leaves, other_case, tests}
+use Rattle.upon_checked_spec.specs.ProgramDoubts.{binds_shapes, leaves_block, other_case, tests}
 use Rattle.upon_checked.specs.Rows.{on_top}
 use Rattle.upon_checked.specs.Known.{ends_at, open_view, opens_view, opens_within, operand_view, operands_view, outside, path_view}
 use Rattle.upon_checked.specs.Undo.{undone}
@@ -58,15 +58,15 @@ around-open (Names count) outer = refl
 
 -- the innermost block is left
 pub left : (os : List KnownOperand) (scope next : Scope) (blocks rest : List Block) (b : Block) → blocks ≡ rest ++ b ∷ [] → next ≡ outside b scope
-    → known os next (opens_view next rest) ≡ leaves (known os scope (opens_view scope blocks)) (opens_view scope blocks)
+    → known os next (opens_view next rest) ≡ leaves_block (known os scope (opens_view scope blocks)) (opens_view scope blocks)
 left os scope next blocks rest b e go =
     ap (λ s. known os s (opens_view s rest)) go
     ∙ (ap (λ s. known os s (opens_view (outside b scope) rest)) (sym (around-open b (outside b scope)))
-    ∙ sym (ap (leaves (known os scope (opens_view scope blocks))) (opens-push scope rest blocks b e)))
+    ∙ sym (ap (leaves_block (known os scope (opens_view scope blocks))) (opens-push scope rest blocks b e)))
 
 -- ---- names are bound in a block
 pub bound : (os : List KnownOperand) (names : List NameShape) (scope next : Scope) (blocks new : List Block) (count : ℕ) → next ≡ with_names names scope → new ≡ blocks ++ Names count ∷ [] → drop count (names ++ scope.names) ≡ scope.names
-    → known os next (opens_view next new) ≡ binds names os (known os scope (opens_view scope blocks))
+    → known os next (opens_view next new) ≡ binds_shapes names os (known os scope (opens_view scope blocks))
 bound os names scope next blocks new count go e back =
     ap (λ s. known os s (opens_view s new)) go
     ∙ (ap (known os (with_names names scope)) (opens-push (with_names names scope) blocks new (Names count) e)
@@ -102,7 +102,7 @@ none_popped [] (o ∷ os) scope opens e f = absurd (omega arith)
 none_popped (o ∷ os) new scope opens e f = absurd (omega arith)
 
 pub bound_loop : (os : List KnownOperand) (looped : List NameShape) (scope mid next : Scope) (blocks new : List Block) (count : ℕ) → mid ≡ with_names looped scope → next ≡ with_names (name_shape (codes "loop") a_loop ∷ []) mid
-    → count ≡ length looped → new ≡ blocks ++ Names (count + 1) ∷ [] → known os next (opens_view next new) ≡ binds (iteration_names looped) os (known os scope (opens_view scope blocks))
+    → count ≡ length looped → new ≡ blocks ++ Names (count + 1) ∷ [] → known os next (opens_view next new) ≡ binds_shapes (iteration_names looped) os (known os scope (opens_view scope blocks))
 bound_loop os looped scope mid next blocks new count go on many e =
     let all : count + 1 ≡ length (iteration_names looped) = omega arith in
     bound os (iteration_names looped) scope next blocks new (count + 1) (on ∙ ap (with_names (name_shape (codes "loop") a_loop ∷ [])) go) e
@@ -153,7 +153,7 @@ none_open os scope [] (b ∷ bs) end e f = absurd (omega arith)
 none_open os scope (b ∷ bs) new end e f = absurd (omega arith)
 
 pub none_left : (os : List KnownOperand) (scope : Scope) (old new : List Block) → length old ≡ 0 → length new ≡ 0
-    → known os scope (opens_view scope new) ≡ leaves (known os scope (opens_view scope old)) (opens_view scope old)
+    → known os scope (opens_view scope new) ≡ leaves_block (known os scope (opens_view scope old)) (opens_view scope old)
 none_left os scope [] [] e f = refl
 none_left os scope [] (b ∷ bs) e f = absurd (omega arith)
 none_left os scope (b ∷ bs) new e f = absurd (omega arith)
@@ -174,9 +174,9 @@ ends_in number scope blocks b count all some is =
     sym (ap (λ l. ends_at number (opens_view scope l)) (take_whole blocks count all))
     ∙ ap (λ l. ends_at number (opens_within scope l)) (on_top-more (λ (b : Block). b) blocks count (count - 1) b next within is)
 
-fewer_left : (k : Known) (number : ℕ) (opens : List Open) → ends_at number opens ≡ true → length (leaves k opens).opens < length opens
+fewer_left : (k : Known) (number : ℕ) (opens : List Open) → ends_at number opens ≡ true → length (leaves_block k opens).opens < length opens
 fewer_left k number [] e = cc
 fewer_left k number (block ∷ opens) e = omega arith
 
-pub fewer : (number : ℕ) (k new : Known) → ends_at number k.opens ≡ true → new ≡ leaves k k.opens → length new.opens < length k.opens
+pub fewer : (number : ℕ) (k new : Known) → ends_at number k.opens ≡ true → new ≡ leaves_block k k.opens → length new.opens < length k.opens
 fewer number k new ends e = subst (λ (n : Known). length n.opens < length k.opens) (sym e) (fewer_left k number k.opens ends)

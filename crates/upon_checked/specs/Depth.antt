@@ -13,6 +13,6 @@ is_too_deep n (Some into) None = false
 is_too_deep n (Some into) (Some item) = is_deeper n item
 
 -- why nothing is put into the literal here: that, or there is no memory
-abbrev pub Refuses : Span → Bool → Unchecked → Type 0
-Refuses at deep (Memory error) = deep ≡ false
-Refuses at deep (TooDeep place) = (place ≡ at) × (deep ≡ true)
+abbrev pub RefusesLiteral : Span → Bool → Unchecked → Type 0
+RefusesLiteral at deep (Memory error) = deep ≡ false
+RefusesLiteral at deep (TooDeep place) = (place ≡ at) × (deep ≡ true)

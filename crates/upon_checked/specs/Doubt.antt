@@ -1,7 +1,7 @@
 -- What a doubt of a program denotes.
 use Rattle.std.specs.Prelude.{List, [], ◌∷◌, map, Option, Some, None}
 use Rattle.upon_shape_spec.specs.Doubts as spec
-use Rattle.upon_shape.specs.View.{view}
+use Rattle.upon_shape.specs.View.{shape_view}
 use Rattle.upon_checked.specs.Scope.{scope_view}
 use Rattle.upon_checked.specs.declared.doubt.Doubt.{Doubt}
 use Rattle.upon_checked.specs.declared.doubt.Unsure.{Unsure}
@@ -9,11 +9,11 @@ use Rattle.upon_checked.specs.declared.doubt.Unsure.TheVariants.{HasMember, Loop
 
 -- what is not sure; which template is included is known by the place
 abbrev pub unsure_view : Unsure → spec.Unsure
-unsure_view (HasMember shape) = spec.has_member (view shape)
+unsure_view (HasMember shape) = spec.has_member (shape_view shape)
 unsure_view LoopHasMember = spec.loop_has_member
-unsure_view (TakesValues shapes) = spec.takes_values (map view shapes.items)
-unsure_view (HasText shape) = spec.has_text (view shape)
-unsure_view (HasItems shape) = spec.has_items (view shape)
+unsure_view (TakesValues shapes) = spec.takes_values (map shape_view shapes.items)
+unsure_view (HasText shape) = spec.has_text (shape_view shape)
+unsure_view (HasItems shape) = spec.has_items (shape_view shape)
 unsure_view (IsIncluded name scope) = spec.is_included (scope_view scope)
 
 -- a doubt

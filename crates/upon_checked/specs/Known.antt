@@ -3,7 +3,7 @@ use Rattle.std.specs.Prelude.{ℕ, List, [], ◌∷◌, Bool, true, false, drop,
 use Rattle.upon_types.specs.AstPath.{first_member, rest_members}
 use Rattle.upon_types.specs.declared.types.ast.path.Var.{Var}
 use Rattle.upon_shape_spec.specs.Scope as spec_scope
-use Rattle.upon_shape.specs.View.{view}
+use Rattle.upon_shape.specs.View.{shape_view}
 use Rattle.upon_checked_spec.specs.Known as spec
 use Rattle.upon_checked.specs.Rows.{on_top}
 use Rattle.upon_checked.specs.Scope.{scope_view}
@@ -19,7 +19,8 @@ path_view path = record { first = first_member path; rest = rest_members path }
 
 -- an operand
 abbrev pub operand_view : Operand → spec.KnownOperand
-operand_view o = spec.known_operand (option_map view o.shape) o.place (option_map (λ path. path_view path.now) o.path)
+operand_view o = spec.known_operand (option_map shape_view o.shape) o.place
+    (option_map (λ path. path_view path.now) o.path)
 
 -- operands, of which the last is on top
 abbrev pub operands_view : List Operand → List spec.KnownOperand

@@ -6,7 +6,7 @@ ghost use Rattle.upon_shape_spec.specs.Doubts as doubts;
 ghost use Rattle.upon_shape_spec.specs.ExpressionShapes.{call_shape, value_given};
 ghost use Rattle.upon_shape_spec.specs.Scope.{Scope as SpecScope};
 ghost use Rattle.upon_checked_spec.specs.ProgramDoubts as walks;
-ghost use Rattle.upon_shape.specs.View.{view};
+ghost use Rattle.upon_shape.specs.View.{shape_view};
 ghost use Rattle.upon_checked.specs.Callables.{callable_view, declared_view};
 ghost use Rattle.upon_checked.specs.Doubt.{maybe_doubt};
 ghost use Rattle.upon_checked.specs.Known.{known_view, operand_view};
@@ -60,7 +60,7 @@ fn shown_of<'t>(
 
 // Returns the shapes of operands, if all are sure to come to something.
 fn shapes_of(alloc: Global, operands: &[Operand<'_>]) -> Result<Option<Vec<Shape>>, AllocError>
-    ensures { IfOk result (λ some. option_map (λ shapes. map view shapes.items) some
+    ensures { IfOk result (λ some. option_map (λ shapes. map shape_view shapes.items) some
         ≡ walks.shapes_of (map operand_view operands.now)) }
 {
     let mut shapes = Vec::with_capacity(alloc, operands.len())?;
@@ -83,7 +83,7 @@ fn shown_doubt<'t>(
 ) -> Result<Option<Doubt<'t>>, AllocError>
     ensures { IfOk result (λ d. (scope : SpecScope) → maybe_doubt d
         ≡ doubts.shown_call_doubts (declared_view declared.now) scope name.now.span whole
-        ((declared_view declared.now).callables (ident_of name.now).text) (map view shapes.items)) }
+        ((declared_view declared.now).callables (ident_of name.now).text) (map shape_view shapes.items)) }
 {
     match declared.callable(name.name.as_str()) {
         None => Ok(Some(not_taken(name.span, shapes))),
@@ -102,7 +102,7 @@ fn shown_by<'t>(
 ) -> Result<Option<Doubt<'t>>, AllocError>
     ensures { IfOk result (λ d. (scope : SpecScope) → maybe_doubt d
         ≡ doubts.shown_call_doubts (declared_view declared.now) scope place whole (Some (callable_view callable.now))
-        (map view shapes.items)) }
+        (map shape_view shapes.items)) }
 {
     match callable {
         DeclaredCallable::Gives(signatures) => {
@@ -129,8 +129,8 @@ fn shown_value<'t>(
     shapes: Vec<Shape>,
 ) -> Result<Option<Doubt<'t>>, AllocError>
     ensures { IfOk result (λ d. (scope : SpecScope) → maybe_doubt d
-        ≡ doubts.shown_value_doubts (declared_view declared.now) scope place whole (map view shapes.items)
-        (option_map view (option_copied given.entry))) }
+        ≡ doubts.shown_value_doubts (declared_view declared.now) scope place whole (map shape_view shapes.items)
+        (option_map shape_view (option_copied given.entry))) }
 {
     match given {
         None => Ok(Some(not_taken(place, shapes))),
@@ -140,7 +140,7 @@ fn shown_value<'t>(
 
 // Returns the doubt that a callable takes values of these shapes.
 fn not_taken<'t>(place: Span, shapes: Vec<Shape>) -> Doubt<'t>
-    ensures { maybe_doubt (Some result) ≡ doubts.doubt place (doubts.takes_values (map view shapes.items)) }
+    ensures { maybe_doubt (Some result) ≡ doubts.doubt place (doubts.takes_values (map shape_view shapes.items)) }
 {
     Doubt {
         place,
@@ -182,7 +182,7 @@ fn called<'t>(
     name: &Ident,
     operands: &[Operand<'_>],
 ) -> Result<(Option<Shape>, Option<Doubt<'t>>), AllocError>
-    ensures shape { IfOk result (λ both. option_map view both.0
+    ensures shape { IfOk result (λ both. option_map shape_view both.0
         ≡ call_shape ((declared_view declared.now).callables (ident_of name.now).text)
         (walks.shapes_of (map operand_view operands.now))) }
     ensures doubt { IfOk result (λ both. maybe_doubt both.1
@@ -202,11 +202,11 @@ fn given_for<'t>(
     name: &Ident,
     shapes: Vec<Shape>,
 ) -> Result<(Option<Shape>, Option<Doubt<'t>>), AllocError>
-    ensures shape { IfOk result (λ both. option_map view both.0
-        ≡ value_given ((declared_view declared.now).callables (ident_of name.now).text) (map view shapes.items)) }
+    ensures shape { IfOk result (λ both. option_map shape_view both.0
+        ≡ value_given ((declared_view declared.now).callables (ident_of name.now).text) (map shape_view shapes.items)) }
     ensures doubt { IfOk result (λ both. maybe_doubt both.1
         ≡ doubts.given_doubts name.now.span ((declared_view declared.now).callables (ident_of name.now).text)
-        (map view shapes.items)) }
+        (map shape_view shapes.items)) }
 {
     match declared.value_given(name.name.as_str(), &shapes) {
         Some(shape) => Ok((Some(shape.try_clone(alloc)?), None)),

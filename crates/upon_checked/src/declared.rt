@@ -4,7 +4,7 @@ ghost use Rattle.std.specs.Map.{update};
 ghost use Rattle.upon_shape_spec.specs.Declared as spec;
 ghost use Rattle.upon_shape_spec.specs.ExpressionShapes.{is_formatted as spec_is_formatted, value_given as spec_value_given};
 ghost use Rattle.upon_shape_spec.specs.Wider.{all_wider};
-ghost use Rattle.upon_shape.specs.View.{view};
+ghost use Rattle.upon_shape.specs.View.{shape_view};
 ghost use Rattle.upon_checked.specs.Callables.{callable_view, declared_view, signature_view};
 
 use std::alloc::{AllocError, Global};
@@ -40,7 +40,7 @@ impl Declared {
     /// Returns no callables, and what the default formatter has a text for.
     pub fn new(alloc: Global, default_formats: Shape) -> Declared
         ensures callables { (name : List ℕ) → (declared_view result).callables name ≡ None }
-        ensures default { (declared_view result).default_formats ≡ view default_formats }
+        ensures default { (declared_view result).default_formats ≡ shape_view default_formats }
     {
         Declared {
             default_formats,
@@ -72,7 +72,7 @@ impl Declared {
     pub fn add_formatter(&mut self, name: String, formats: Shape) -> Result<(), AllocError>
         ensures ok { OnOk result ((other : List ℕ) → (declared_view self.new).callables other
             ≡ update bytes_eq (declared_view self.old).callables (string_bytes name)
-            (Some (spec.formats (view formats))) other) }
+            (Some (spec.formats (shape_view formats))) other) }
         ensures err { OnErr result ((other : List ℕ) → (declared_view self.new).callables other
             ≡ (declared_view self.old).callables other) }
         ensures default { (declared_view self.new).default_formats ≡ (declared_view self.old).default_formats }
@@ -91,8 +91,8 @@ impl Declared {
 
     /// Returns the shape of what a call gives where its value is not shown: a formatter gives none.
     pub fn value_given(&self, name: &str, shapes: &[Shape]) -> Option<&Shape>
-        ensures { option_map view (option_copied result)
-            ≡ spec_value_given ((declared_view self.now).callables name.now) (map view shapes.now) }
+        ensures { option_map shape_view (option_copied result)
+            ≡ spec_value_given ((declared_view self.now).callables name.now) (map shape_view shapes.now) }
     {
         match self.callable(name) {
             Some(DeclaredCallable::Gives(signatures)) => given_by(signatures, shapes),
@@ -104,8 +104,8 @@ impl Declared {
 
 // Returns what a function of these signatures gives.
 pub(crate) fn given_by<'a>(signatures: &'a [Signature], shapes: &[Shape]) -> Option<&'a Shape>
-    ensures { option_map view (option_copied result)
-        ≡ spec.given_by (map signature_view signatures.now) (map view shapes.now) }
+    ensures { option_map shape_view (option_copied result)
+        ≡ spec.given_by (map signature_view signatures.now) (map shape_view shapes.now) }
 {
     for signature in signatures {
         if are_as_wide(&signature.takes, shapes) {
@@ -117,7 +117,7 @@ pub(crate) fn given_by<'a>(signatures: &'a [Signature], shapes: &[Shape]) -> Opt
 
 // Returns whether each shape is at least as wide as the one in its place, and there are as many.
 fn are_as_wide(wide: &[Shape], shapes: &[Shape]) -> bool
-    ensures { result ≡ all_wider (map view wide.now) (map view shapes.now) }
+    ensures { result ≡ all_wider (map shape_view wide.now) (map shape_view shapes.now) }
 {
     if wide.len() != shapes.len() {
         return false;
@@ -132,7 +132,7 @@ fn are_as_wide(wide: &[Shape], shapes: &[Shape]) -> bool
 
 // Returns whether a formatter that has a text for the shape is given one value, and has a text for it.
 pub(crate) fn is_formatted(shape: &Shape, shapes: &[Shape]) -> bool
-    ensures { result ≡ spec_is_formatted (view shape.now) (map view shapes.now) }
+    ensures { result ≡ spec_is_formatted (shape_view shape.now) (map shape_view shapes.now) }
 {
     match shapes {
         [only] => shape.is_as_wide_as(only),

@@ -6,7 +6,7 @@ ghost use Rattle.upon_shape_spec.specs.Doubts as doubts;
 ghost use Rattle.upon_shape_spec.specs.Join.{shape_of};
 ghost use Rattle.upon_shape_spec.specs.Paths.{walk_shape};
 ghost use Rattle.upon_shape_spec.specs.Scope as spec;
-ghost use Rattle.upon_shape.specs.View.{view};
+ghost use Rattle.upon_shape.specs.View.{shape_view};
 ghost use Rattle.upon_checked.specs.Doubt.{maybe_doubt};
 ghost use Rattle.upon_checked.specs.Found.{found_doubts, found_shape};
 ghost use Rattle.upon_checked.specs.Scope.{bound_view, names_view, scope_view};
@@ -31,7 +31,7 @@ pub(crate) enum Found<'t> {
 impl<'t> Found<'t> {
     // Returns the shape, if something is sure to be there, and else the doubt.
     pub(crate) fn parts(self) -> (Option<Shape>, Option<Doubt<'t>>)
-        ensures shape { option_map view result.0 ≡ found_shape self.entry }
+        ensures shape { option_map shape_view result.0 ≡ found_shape self.entry }
         ensures doubts { maybe_doubt result.1 ≡ found_doubts self.entry }
     {
         match self {
@@ -95,7 +95,7 @@ fn bound_found<'t>(
 
 // Returns the shape of a loop's state.
 fn loop_shape(alloc: Global) -> Result<Shape, AllocError>
-    ensures { IfOk result (λ s. view s ≡ shape_of (state_map 0 1)) }
+    ensures { IfOk result (λ s. shape_view s ≡ shape_of (state_map 0 1)) }
 {
     let keys = Keys::no_others(alloc)?
         .with_key(String::from_str(alloc, "first")?, true, Shape::truth())?
@@ -106,7 +106,7 @@ fn loop_shape(alloc: Global) -> Result<Shape, AllocError>
 
 // Returns the shape of a member of a loop's state.
 fn state_shape(member: &Member) -> Option<Shape>
-    ensures { option_map view result ≡ spec.state_shape (member_of member.now).op (member_of member.now).access }
+    ensures { option_map shape_view result ≡ spec.state_shape (member_of member.now).op (member_of member.now).access }
 {
     let Access::Key(word) = &member.access else {
         return None;
@@ -133,9 +133,9 @@ fn no_member<'t>(place: Span) -> Found<'t>
 
 // Goes from member to member in a value of this shape.
 fn walk<'t>(alloc: Global, shape: &Shape, members: &[Member]) -> Result<Found<'t>, AllocError>
-    ensures shape { IfOk result (λ f. found_shape f ≡ walk_shape (map member_of members.now) (view shape.now)) }
+    ensures shape { IfOk result (λ f. found_shape f ≡ walk_shape (map member_of members.now) (shape_view shape.now)) }
     ensures doubts { IfOk result (λ f. found_doubts f
-        ≡ doubts.walk_doubts (map member_of members.now) (view shape.now)) }
+        ≡ doubts.walk_doubts (map member_of members.now) (shape_view shape.now)) }
 {
     let never = Shape::never();
     let mut current = shape;

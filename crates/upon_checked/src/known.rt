@@ -4,7 +4,7 @@ ghost use Rattle.std.specs.Prelude.{◌≡◌, ◌∷◌, ◌<◌, true, [], len
 ghost use Rattle.upon_types.specs.AstPath.{loop_vars_of};
 ghost use Rattle.upon_shape_spec.specs.Accepted.{iteration_names};
 ghost use Rattle.upon_shape_spec.specs.Scope.{Scope as SpecScope, name_shape, with_names};
-ghost use Rattle.upon_shape.specs.View.{view};
+ghost use Rattle.upon_shape.specs.View.{shape_view};
 ghost use Rattle.upon_machine_spec.specs.Operands.{taken};
 ghost use Rattle.upon_checked_spec.specs.Known as spec;
 ghost use Rattle.upon_checked_spec.specs.ProgramDoubts as walks;
@@ -101,7 +101,7 @@ impl<'t> Known<'t> {
     // Begins a block that binds a name.
     pub(crate) fn bind(&mut self, name: &'t str, bound: BoundShape) -> Result<(), AllocError>
         ensures { OnOk result (known_view self.new
-            ≡ walks.binds (name_shape name.now (bound_view bound) ∷ []) (known_view self.old).operands
+            ≡ walks.binds_shapes (name_shape name.now (bound_view bound) ∷ []) (known_view self.old).operands
             (known_view self.old)) }
     {
         self.scope.bind(name, bound)?;
@@ -112,7 +112,7 @@ impl<'t> Known<'t> {
     // Begins a loop, the items or the values of which have this shape.
     pub(crate) fn bind_loop(&mut self, names: &'t LoopVars, shape: Shape) -> Result<(), AllocError>
         ensures { OnOk result (known_view self.new
-            ≡ walks.binds (iteration_names (looped_names (loop_vars_of names.now) (view shape)))
+            ≡ walks.binds_shapes (iteration_names (looped_names (loop_vars_of names.now) (shape_view shape)))
             (known_view self.old).operands (known_view self.old)) }
     {
         let count = bind_looped(&mut self.scope, names, shape)?;
@@ -170,7 +170,7 @@ impl<'t> Known<'t> {
 
     // Leaves the innermost block, if one is open.
     pub(crate) fn leave(&mut self)
-        ensures { known_view self.new ≡ walks.leaves (known_view self.old) (known_view self.old).opens }
+        ensures { known_view self.new ≡ walks.leaves_block (known_view self.old) (known_view self.old).opens }
     {
         match self.blocks.pop() {
             Some(block) => go_outside(&mut self.scope, block),
@@ -217,10 +217,10 @@ fn bind_looped<'t>(
     names: &'t LoopVars,
     shape: Shape,
 ) -> Result<usize, AllocError>
-    ensures count { IfOk result (λ n. n ≡ length (looped_names (loop_vars_of names.now) (view shape))) }
+    ensures count { IfOk result (λ n. n ≡ length (looped_names (loop_vars_of names.now) (shape_view shape))) }
     ensures few { IfOk result (λ n. n < 3) }
     ensures scope { OnOk result (scope_view scope.new
-        ≡ with_names (looped_names (loop_vars_of names.now) (view shape)) (scope_view scope.old)) }
+        ≡ with_names (looped_names (loop_vars_of names.now) (shape_view shape)) (scope_view scope.old)) }
 {
     match names {
         LoopVars::Item(item) => {

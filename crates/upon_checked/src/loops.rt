@@ -2,7 +2,7 @@
 ghost use Rattle.std.specs.Prelude.{◌≡◌, IfOk, option_map};
 ghost use Rattle.upon_types.specs.AstPath.{loop_vars_of};
 ghost use Rattle.upon_shape_spec.specs.Accepted as spec;
-ghost use Rattle.upon_shape.specs.View.{keys_view, lists_view, maps_view, view};
+ghost use Rattle.upon_shape.specs.View.{keys_view, lists_view, maps_view, shape_view};
 ghost use Rattle.upon_checked.specs.Loops as loops;
 
 use std::alloc::{AllocError, Global};
@@ -15,7 +15,8 @@ pub(crate) fn looped(
     names: &LoopVars,
     shape: &Shape,
 ) -> Result<Option<Shape>, AllocError>
-    ensures { IfOk result (λ s. option_map view s ≡ loops.looped (loop_vars_of names.now) (view shape.now)) }
+    ensures { IfOk result (λ s. option_map shape_view s
+        ≡ loops.looped (loop_vars_of names.now) (shape_view shape.now)) }
 {
     let Shape::OneOf { plain, items, keys } = shape else {
         return Ok(None);
@@ -32,7 +33,7 @@ pub(crate) fn looped(
 
 // Returns the shape of an item.
 fn item_shape(alloc: Global, items: &Option<Box<Shape>>) -> Result<Shape, AllocError>
-    ensures { IfOk result (λ s. view s ≡ spec.item_shape (lists_view items.now)) }
+    ensures { IfOk result (λ s. shape_view s ≡ spec.item_shape (lists_view items.now)) }
 {
     match items {
         None => Ok(Shape::never()),
@@ -42,7 +43,7 @@ fn item_shape(alloc: Global, items: &Option<Box<Shape>>) -> Result<Shape, AllocE
 
 // Returns the shape of what a key has.
 fn value_shape(alloc: Global, keys: &Option<Keys<Shape>>) -> Result<Shape, AllocError>
-    ensures { IfOk result (λ s. view s ≡ spec.value_shape (maps_view keys.now)) }
+    ensures { IfOk result (λ s. shape_view s ≡ spec.value_shape (maps_view keys.now)) }
 {
     match keys {
         None => Ok(Shape::never()),
@@ -52,7 +53,7 @@ fn value_shape(alloc: Global, keys: &Option<Keys<Shape>>) -> Result<Shape, Alloc
 
 // Returns the shape of what any key has.
 fn keys_joined(alloc: Global, keys: &Keys<Shape>) -> Result<Shape, AllocError>
-    ensures { IfOk result (λ s. view s ≡ spec.keys_joined (keys_view keys.now)) }
+    ensures { IfOk result (λ s. shape_view s ≡ spec.keys_joined (keys_view keys.now)) }
 {
     let mut joined = keys.others.try_clone(alloc)?;
     let mut left = keys.named.len();

@@ -1,8 +1,8 @@
 // Steps of a walk inside literals of lists and maps.
 ghost use Rattle.std.specs.Prelude.{◌≡◌, ℕ, false, IfOk, MatchResult, option_map};
 ghost use Rattle.upon_checked_spec.specs.Known.{both_shapes, with_operand};
-ghost use Rattle.upon_shape.specs.View.{view};
-ghost use Rattle.upon_checked.specs.Depth.{Refuses, is_too_deep};
+ghost use Rattle.upon_shape.specs.View.{shape_view};
+ghost use Rattle.upon_checked.specs.Depth.{RefusesLiteral, is_too_deep};
 ghost use Rattle.upon_checked.specs.Doubt.{maybe_doubt};
 ghost use Rattle.upon_checked.specs.Known.{known_view, operand_view};
 ghost use Rattle.upon_checked.specs.Puts.{part_instr, with_part as spec_with_part};
@@ -80,12 +80,12 @@ fn shape_with(
     into: Option<Shape>,
     added: Option<Shape>,
 ) -> Result<Option<Shape>, Unchecked>
-    ensures shape { IfOk result (λ s. option_map view s
-        ≡ both_shapes (spec_with_part part.entry) (option_map view into) (option_map view added)) }
+    ensures shape { IfOk result (λ s. option_map shape_view s
+        ≡ both_shapes (spec_with_part part.entry) (option_map shape_view into) (option_map shape_view added)) }
     ensures deep { MatchResult
         result
-        (λ s. is_too_deep 128 (option_map view into) (option_map view added) ≡ false)
-        (Refuses place (is_too_deep 128 (option_map view into) (option_map view added))) }
+        (λ s. is_too_deep 128 (option_map shape_view into) (option_map shape_view added) ≡ false)
+        (RefusesLiteral place (is_too_deep 128 (option_map shape_view into) (option_map shape_view added))) }
 {
     match (into, added) {
         (Some(into), Some(added)) => {
@@ -100,7 +100,7 @@ fn shape_with(
 
 // Returns the shape of a literal of this shape into which something of that shape is put.
 fn with_part(alloc: Global, part: Part<'_>, into: Shape, added: Shape) -> Result<Shape, AllocError>
-    ensures { IfOk result (λ s. view s ≡ spec_with_part part.entry (view into) (view added)) }
+    ensures { IfOk result (λ s. shape_view s ≡ spec_with_part part.entry (shape_view into) (shape_view added)) }
 {
     match part {
         Part::Item => into.with_item(alloc, &added),

@@ -1,8 +1,8 @@
 // What is known of names, and of the context under them.
 ghost use Rattle.std.specs.Prelude.{◌≡◌, ◌∷◌, [], None, Some, MatchOption, IfOk, OnOk, OnErr, drop, option_copied, option_map};
 ghost use Rattle.upon_shape_spec.specs.Scope as spec;
-ghost use Rattle.upon_shape.specs.View.{view};
-ghost use Rattle.upon_checked.specs.Scope.{bound_view, depth_of, names_view, scope_view};
+ghost use Rattle.upon_shape.specs.View.{shape_view};
+ghost use Rattle.upon_checked.specs.Scope.{bound_view, name_depth, names_view, scope_view};
 
 use std::alloc::{AllocError, Global};
 use upon_shape::shape::Shape;
@@ -62,7 +62,7 @@ impl BoundShape {
 impl<'t> Scope<'t> {
     /// Returns a context alone.
     pub fn over(alloc: Global, root: Shape) -> Scope<'t>
-        ensures { scope_view result ≡ spec.scope_over (view root) }
+        ensures { scope_view result ≡ spec.scope_over (shape_view root) }
     {
         Scope {
             names: Vec::new(alloc),
@@ -129,9 +129,9 @@ pub(crate) struct Place<'a> {
 pub(crate) fn find<'a>(names: &'a [NameShape<'_>], name: &str) -> Option<Place<'a>>
     ensures { MatchOption
         result
-        ((depth_of name.now (names_view names.now) ≡ None)
+        ((name_depth name.now (names_view names.now) ≡ None)
         × (spec.first_bound_shape name.now (names_view names.now) ≡ None))
-        (λ found. (depth_of name.now (names_view names.now) ≡ Some found.depth)
+        (λ found. (name_depth name.now (names_view names.now) ≡ Some found.depth)
         × (spec.first_bound_shape name.now (names_view names.now) ≡ Some (bound_view found.bound.now))) }
 {
     let mut left = names.len();

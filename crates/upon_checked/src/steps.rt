@@ -10,7 +10,7 @@ ghost use Rattle.upon_shape_spec.specs.Declared.{Declared as SpecDeclared};
 ghost use Rattle.upon_shape_spec.specs.Scope.{Scope as SpecScope};
 ghost use Rattle.upon_checked_spec.specs.Known as spec;
 ghost use Rattle.upon_checked_spec.specs.ProgramDoubts as walks;
-ghost use Rattle.upon_shape.specs.View.{view};
+ghost use Rattle.upon_shape.specs.View.{shape_view};
 ghost use Rattle.upon_checked.specs.Callables.{declared_view};
 ghost use Rattle.upon_checked.specs.Doubt.{maybe_doubt};
 ghost use Rattle.upon_checked.specs.Known.{known_view};
@@ -82,7 +82,7 @@ pub(crate) fn emits<'t>(declared: &Declared, known: &mut Known<'t>) -> Option<Do
 // Returns the doubt that a value has a text.
 pub(crate) fn text_doubt<'t>(declared: &Declared, place: Span, shape: Shape) -> Option<Doubt<'t>>
     ensures { (scope : SpecScope) → maybe_doubt result
-        ≡ doubts.text_doubts (declared_view declared.now) scope place (view shape) }
+        ≡ doubts.text_doubts (declared_view declared.now) scope place (shape_view shape) }
 {
     if declared.default_formats.is_as_wide_as(&shape) {
         return None;
@@ -118,7 +118,7 @@ fn loops_over<'t>(
     span: Span,
     shape: Shape,
 ) -> Result<Option<Doubt<'t>>, AllocError>
-    ensures { IfOk result (λ d. (number : ℕ) (o : spec.KnownOperand) → view shape ≡ doubts.or_never o.shape
+    ensures { IfOk result (λ d. (number : ℕ) (o : spec.KnownOperand) → shape_view shape ≡ doubts.or_never o.shape
         → AlwaysSteps
         number (spec.with_operand o (known_view known.old)) (instr.loop_start (loop_vars_of names.now) span)
         (maybe_doubt d)
@@ -141,7 +141,7 @@ fn loops_over<'t>(
 
 // Returns the shape, or that of no value.
 fn or_never(shape: Option<Shape>) -> Shape
-    ensures { view result ≡ doubts.or_never (option_map view shape) }
+    ensures { shape_view result ≡ doubts.or_never (option_map shape_view shape) }
 {
     match shape {
         Some(shape) => shape,
@@ -267,7 +267,7 @@ pub(crate) fn starts_literal<'t>(
 
 // Returns the shape of a value that occurs in a template.
 fn literal_shape(value: &Value) -> Shape
-    ensures { view result ≡ spec_literal_shape (value_view value.now) }
+    ensures { shape_view result ≡ spec_literal_shape (value_view value.now) }
 {
     match value {
         Value::None => Shape::none(),
@@ -282,7 +282,7 @@ fn literal_shape(value: &Value) -> Shape
 // Leaves an operand of this shape that no path found.
 fn leave<'t>(known: &mut Known<'t>, shape: Shape, place: Span) -> Result<(), AllocError>
     ensures { OnOk result (known_view known.new
-        ≡ spec.with_operand (spec.known_operand (Some (view shape)) place None) (known_view known.old)) }
+        ≡ spec.with_operand (spec.known_operand (Some (shape_view shape)) place None) (known_view known.old)) }
 {
     known.push(Operand {
         shape: Some(shape),

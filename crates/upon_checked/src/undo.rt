@@ -63,8 +63,8 @@ fn narrowed_bound(
 // Binds the name at this depth to something else, and returns what it was bound to.
 fn rebind(names: &mut [NameShape<'_>], depth: usize, bound: BoundShape) -> BoundShape
     requires { depth < length names.old }
-    ensures names { names_view names.new ≡ undoing.bound_at depth (bound_view bound) (names_view names.old) }
-    ensures undo { undoing.bound_at depth (bound_view result) (names_view names.new) ≡ names_view names.old }
+    ensures names { names_view names.new ≡ undoing.bound_anew depth (bound_view bound) (names_view names.old) }
+    ensures undo { undoing.bound_anew depth (bound_view result) (names_view names.new) ≡ names_view names.old }
 {
     let index = names.len() - 1 - depth;
     mem::replace(&mut names[index].bound, bound)

@@ -13,7 +13,7 @@ use Rattle.upon_shape_spec.specs.ExpressionShapes.{shape_then, expression_shape,
 use Rattle.upon_shape_spec.specs.Scope.{Scope}
 use Rattle.upon_shape_spec.specs.Shape.{Shape}
 use Rattle.upon_checked_spec.specs.Known.{KnownOperand, Open, left_at}
-use Rattle.upon_checked_spec.specs.ProgramDoubts.{shapes_of, with_taken}
+use Rattle.upon_checked_spec.specs.ProgramDoubts.{shapes_of, with_known_taken}
 use Rattle.upon_checked_spec.proofs.Blocks.{EndFrom, sooner}
 use Rattle.upon_checked_spec.proofs.Expressions.{over, Puts, expression_walks, base_walks, arguments_walk}
 use Rattle.upon_checked_spec.proofs.Operands.{operand_of, base_operand, base_value_span, arguments_operands, counted, shaped}
@@ -36,8 +36,8 @@ module _ (declared : Declared) (included : List ℕ → Scope → Bool) (scope :
       to_number declared included at p (at + length (c ++ end)) (over declared included scope opens before) (c ++ end) (ds ++ es) below scope opens len
       (walk_then declared included at (over declared included scope opens before) (over declared included scope opens (onto os below)) (left_at p below scope opens) c end ds es w
       (walk_step declared included (at + length c) (over declared included scope opens (onto os below)) (emit_with name n span) es below scope opens
-      (ap (λ x. with_taken [] x (λ os below. if_some (shapes_of os) (shown_call_doubts declared scope name.span span (declared.callables name.text)))) t ∙ ap (λ x. if_some x (shown_call_doubts declared scope name.span span (declared.callables name.text))) e)
-      (ap (λ x. with_taken (over declared included scope opens (onto os below)) x (λ os below. over declared included scope opens below)) t)))
+      (ap (λ x. with_known_taken [] x (λ os below. if_some (shapes_of os) (shown_call_doubts declared scope name.span span (declared.callables name.text)))) t ∙ ap (λ x. if_some x (shown_call_doubts declared scope name.span span (declared.callables name.text))) e)
+      (ap (λ x. with_known_taken (over declared included scope opens (onto os below)) x (λ os below. over declared included scope opens below)) t)))
 
   -- a value is shown
   shown : (b : Base) (at : ℕ) (os : List KnownOperand) → EndFrom (at + length (base_code b ++ emit ∷ [])) opens

@@ -4,7 +4,7 @@ use Rattle.upon_types.specs.Tree.{Statement}
 use Rattle.upon_machine_spec.specs.Code.{program_of}
 use Rattle.upon_machine_spec.specs.Instr.{jump}
 use Rattle.upon_shape_spec.specs.Doubts.{Doubt, doubt, has_member, takes_values}
-use Rattle.upon_shape_spec.specs.Join.{join}
+use Rattle.upon_shape_spec.specs.Join.{join_shapes}
 use Rattle.upon_shape_spec.specs.Scope.{Scope, scope_over}
 use Rattle.upon_shape_spec.specs.Shape.{Shape, text_shape, integer_shape, map_of, no_others}
 use Rattle.upon_shape_spec.proofs.Written.{nowhere, dot, maybe, path, name, number, quote, list_literal, filter_of, shows, show, if_true, if_not, for_each, required, may_be, declared}
@@ -45,7 +45,7 @@ told_once = refl
 
 -- `{% for x in ["a", 1] %}{{ x | upper }}{% endfor %}`: each is a text or an integer
 of_two_kinds : doubts (for_each (codes "x") (list_literal (quote (codes "a") ∷ number (pos 1) ∷ [])) (shows (filter_of (name (codes "x")) (codes "upper")) ∷ []) ∷ []) page
-    ≡ doubt nowhere (takes_values (join text_shape integer_shape ∷ []))
+    ≡ doubt nowhere (takes_values (join_shapes text_shape integer_shape ∷ []))
 of_two_kinds = refl
 
 -- at the end of a body: the other case

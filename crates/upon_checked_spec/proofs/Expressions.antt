@@ -13,7 +13,7 @@ use Rattle.upon_shape_spec.specs.ExpressionShapes.{shape_then, call_shape, expre
 use Rattle.upon_shape_spec.specs.Scope.{Scope}
 use Rattle.upon_shape_spec.specs.Shape.{Shape, Keys, never, list_of, map_of, no_others}
 use Rattle.upon_checked_spec.specs.Known.{KnownOperand, Open, Known, known, known_operand}
-use Rattle.upon_checked_spec.specs.ProgramDoubts.{shapes_of, with_taken}
+use Rattle.upon_checked_spec.specs.ProgramDoubts.{shapes_of, with_known_taken}
 use Rattle.upon_checked_spec.proofs.Blocks.{EndFrom, sooner}
 use Rattle.upon_checked_spec.proofs.Operands.{operand_of, base_operand, bases_operands, arguments_operands, counted, shaped, list_with, list_begun, joined_with, item_put, list_ended, list_more, keys_with, entry_put, map_ended, map_more}
 use Rattle.upon_checked_spec.proofs.Walks.{Walks, walk_nothing, walk_then, walk_within, with_code, to_known}
@@ -33,8 +33,8 @@ module _ (declared : Declared) (included : List ℕ → Scope → Bool) (scope :
   applied at os below shapes name n span h counts e =
       let t : taken n (onto os below) ≡ Some (os, below) = taken_onto n os below counts in
       walk_within declared included at (over (onto os below)) (apply name n span) (if_some shapes (given_doubts name.span (declared.callables name.text))) (known_operand (call_shape (declared.callables name.text) shapes) span None ∷ below) scope opens h
-      (ap (λ x. with_taken [] x (λ os below. if_some (shapes_of os) (given_doubts name.span (declared.callables name.text)))) t ∙ ap (λ x. if_some x (given_doubts name.span (declared.callables name.text))) e)
-      (ap (λ x. with_taken (over (onto os below)) x (λ os below. over (known_operand (call_shape (declared.callables name.text) (shapes_of os)) span None ∷ below))) t ∙ ap (λ x. over (known_operand (call_shape (declared.callables name.text) x) span None ∷ below)) e)
+      (ap (λ x. with_known_taken [] x (λ os below. if_some (shapes_of os) (given_doubts name.span (declared.callables name.text)))) t ∙ ap (λ x. if_some x (given_doubts name.span (declared.callables name.text))) e)
+      (ap (λ x. with_known_taken (over (onto os below)) x (λ os below. over (known_operand (call_shape (declared.callables name.text) (shapes_of os)) span None ∷ below))) t ∙ ap (λ x. over (known_operand (call_shape (declared.callables name.text) x) span None ∷ below)) e)
 
   called : (at : ℕ) (before : List KnownOperand) (c : List Instr) (ds : List Doubt) (os below : List KnownOperand) (shapes : Option (List Shape)) (name : Ident) (n : ℕ) (span : Span) → EndFrom (at + length c + 1 + 1) opens → length os ≡ n → shapes_of os ≡ shapes → Puts at before c ds (onto os below)
       → Puts at before (c ++ apply name n span ∷ []) (ds ++ if_some shapes (given_doubts name.span (declared.callables name.text))) (known_operand (call_shape (declared.callables name.text) shapes) span None ∷ below)

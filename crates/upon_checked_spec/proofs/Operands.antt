@@ -7,10 +7,10 @@ use Rattle.upon_machine_spec.specs.Code.{count_bases, count}
 use Rattle.upon_shape_spec.specs.Added.{with_item_shape, with_entry_shape}
 use Rattle.upon_shape_spec.specs.Declared.{Declared}
 use Rattle.upon_shape_spec.specs.ExpressionShapes.{join_onto, shape_then, expression_shape, base_shape, bases_shapes, arguments_shapes}
-use Rattle.upon_shape_spec.specs.Join.{join}
+use Rattle.upon_shape_spec.specs.Join.{join_shapes}
 use Rattle.upon_shape_spec.specs.Narrowed.{tested_scope}
 use Rattle.upon_shape_spec.specs.Scope.{Scope}
-use Rattle.upon_shape_spec.specs.Shape.{Shape, Keys, key_then, list_of, map_of, without}
+use Rattle.upon_shape_spec.specs.Shape.{Shape, Keys, key_then, list_of, map_of, keys_without}
 use Rattle.upon_checked_spec.specs.Known.{KnownPath, KnownOperand, known_operand, path_tested, both_shapes}
 use Rattle.upon_checked_spec.specs.ProgramDoubts.{shapes_of}
 
@@ -109,7 +109,7 @@ list_begun (Some shapes) s = refl
 
 -- the items so far, joined, and one more
 abbrev pub joined_with : Option Shape → Option Shape → Option Shape
-joined_with s t = both_shapes join s t
+joined_with s t = both_shapes join_shapes s t
 
 pub item_put : (s t : Option Shape) → both_shapes with_item_shape (option_map list_of s) t ≡ option_map list_of (joined_with s t)
 item_put None t = refl
@@ -131,7 +131,7 @@ list_more (Some s) (Some t) (Some shapes) = refl
 abbrev pub keys_with : List ℕ → Option Keys → Option Shape → Option Keys
 keys_with key None s = None
 keys_with key (Some ks) None = None
-keys_with key (Some ks) (Some s) = Some (key_then key true s (without key ks))
+keys_with key (Some ks) (Some s) = Some (key_then key true s (keys_without key ks))
 
 pub entry_put : (key : List ℕ) (ks : Option Keys) (s : Option Shape) → both_shapes (with_entry_shape key) (option_map map_of ks) s ≡ option_map map_of (keys_with key ks s)
 entry_put key None s = refl
@@ -142,7 +142,7 @@ pub map_ended : (ks : Option Keys) → ks ≡ option_and_then (λ ks. Some ks) k
 map_ended None = refl
 map_ended (Some ks) = refl
 
-pub map_more : (key : List ℕ) (ks : Option Keys) (s : Option Shape) (keys : Keys → Option Keys) → option_and_then keys (keys_with key ks s) ≡ option_and_then (λ ks. option_and_then (λ s. keys (key_then key true s (without key ks))) s) ks
+pub map_more : (key : List ℕ) (ks : Option Keys) (s : Option Shape) (keys : Keys → Option Keys) → option_and_then keys (keys_with key ks s) ≡ option_and_then (λ ks. option_and_then (λ s. keys (key_then key true s (keys_without key ks))) s) ks
 map_more key None s keys = refl
 map_more key (Some ks) None keys = refl
 map_more key (Some ks) (Some s) keys = refl

@@ -15,7 +15,7 @@ use Rattle.upon_shape_spec.specs.Narrowed.{tested_scope}
 use Rattle.upon_shape_spec.specs.Scope.{value_of, name_shape, Scope, scope_over, with_names}
 use Rattle.upon_shape_spec.specs.Shape.{Shape}
 use Rattle.upon_checked_spec.specs.Known.{KnownOperand, Open, body_to, other_to, binding, Known, known, known_at_begin, path_tested, left_at}
-use Rattle.upon_checked_spec.specs.ProgramDoubts.{leaves, other_case, include_doubts, instr_doubts, stepped, program_doubts}
+use Rattle.upon_checked_spec.specs.ProgramDoubts.{leaves_block, other_case, include_doubts, instr_doubts, stepped, program_doubts}
 use Rattle.upon_checked_spec.proofs.Blocks.{EndFrom, sooner, stays, leaves_body, leaves_other}
 use Rattle.upon_checked_spec.proofs.Emissions.{emission_walks}
 use Rattle.upon_checked_spec.proofs.Expressions.{expression_walks}
@@ -57,13 +57,13 @@ module _ (declared : Declared) (included : List ℕ → Scope → Bool) where
       → stepped declared included at (known os scope (body_to end other outer ∷ opens)) (jump n) ≡ known os other (other_to n outer ∷ opens)
   forward at n os scope other outer end opens h =
       let k : Known = known os scope (body_to end other outer ∷ opens) in
-      ap (λ b. if b then leaves k k.opens else other_case n k k.opens) (lt-leb n at (omega (arith, h)))
+      ap (λ b. if b then leaves_block k k.opens else other_case n k k.opens) (lt-leb n at (omega (arith, h)))
 
   back : (at n : ℕ) (os : List KnownOperand) (scope outer : Scope) (opens : List Open) → n ≤ at
       → stepped declared included at (known os scope (binding outer ∷ opens)) (jump n) ≡ known os outer opens
   back at n os scope outer opens h =
       let k : Known = known os scope (binding outer ∷ opens) in
-      ap (λ b. if b then leaves k k.opens else other_case n k k.opens) (le-leb n at h)
+      ap (λ b. if b then leaves_block k k.opens else other_case n k k.opens) (le-leb n at h)
 
   -- a walk, from where the blocks are left that end there to where the ones are left that end there
   abbrev Turns : ℕ → List KnownOperand → Scope → List Open → List Instr → List Doubt → Type 0

@@ -18,24 +18,24 @@ shapes_of [] = Some []
 shapes_of (o ∷ os) = shape_then o.shape (shapes_of os)
 
 -- with the top operand and those below it, or else another answer
-abbrev pub with_top : {A : Type 0} → A → List KnownOperand → (KnownOperand → List KnownOperand → A) → A
-with_top other [] go = other
-with_top other (o ∷ os) go = go o os
+abbrev pub with_known_top : {A : Type 0} → A → List KnownOperand → (KnownOperand → List KnownOperand → A) → A
+with_known_top other [] go = other
+with_known_top other (o ∷ os) go = go o os
 
 -- with operands that were taken and those below them, or else another answer
-abbrev pub with_taken : {A : Type 0} → A → Option (List KnownOperand × List KnownOperand)
+abbrev pub with_known_taken : {A : Type 0} → A → Option (List KnownOperand × List KnownOperand)
     → (List KnownOperand → List KnownOperand → A) → A
-with_taken other None go = other
-with_taken other (Some both) go = go both.0 both.1
+with_known_taken other None go = other
+with_known_taken other (Some both) go = go both.0 both.1
 
 -- a block that binds names begins, over these operands
-abbrev pub binds : List NameShape → List KnownOperand → Known → Known
-binds names os k = known os (with_names names k.scope) (binding k.scope ∷ k.opens)
+abbrev pub binds_shapes : List NameShape → List KnownOperand → Known → Known
+binds_shapes names os k = known os (with_names names k.scope) (binding k.scope ∷ k.opens)
 
 -- the innermost of these blocks ends
-abbrev pub leaves : Known → List Open → Known
-leaves k [] = k
-leaves k (block ∷ opens) = known k.operands (around block) opens
+abbrev pub leaves_block : Known → List Open → Known
+leaves_block k [] = k
+leaves_block k (block ∷ opens) = known k.operands (around block) opens
 
 -- the body of an `if` ends before its other case, which ends at the instruction of this number
 abbrev pub other_case : ℕ → Known → List Open → Known
@@ -50,7 +50,7 @@ tests so n o os k =
 -- an item is put at the end of the list under it, or a value at a key of the map under it
 abbrev pub puts : (Shape → Shape → Shape) → Known → Known
 puts put k =
-    with_top k k.operands (λ o os. with_top k os (λ into below.
+    with_known_top k k.operands (λ o os. with_known_top k os (λ into below.
     with_operands (record into { shape = both_shapes put into.shape o.shape } ∷ below) k))
 
 module _ (declared : Declared) (included : List ℕ → Scope → Bool) where
@@ -60,39 +60,39 @@ module _ (declared : Declared) (included : List ℕ → Scope → Bool) where
 
   -- what is in doubt at an instruction
   abbrev pub instr_doubts : Known → Instr → List Doubt
-  instr_doubts k emit = with_top [] k.operands (λ o os. if_some o.shape (text_doubts declared k.scope o.place))
+  instr_doubts k emit = with_known_top [] k.operands (λ o os. if_some o.shape (text_doubts declared k.scope o.place))
   instr_doubts k (emit_with name n span) =
-      with_taken [] (taken n k.operands)
+      with_known_taken [] (taken n k.operands)
       (λ os below. if_some (shapes_of os)
       (shown_call_doubts declared k.scope name.span span (declared.callables name.text)))
   instr_doubts k (loop_start names span) =
-      with_top [] k.operands (λ o os. items_in_doubt span names (or_never o.shape))
+      with_known_top [] k.operands (λ o os. items_in_doubt span names (or_never o.shape))
   instr_doubts k (include word) = include_doubts word k.scope
   instr_doubts k (include_with word) =
-      with_top [] k.operands (λ o os. if_some o.shape (λ s. include_doubts word (scope_over s)))
+      with_known_top [] k.operands (λ o os. if_some o.shape (λ s. include_doubts word (scope_over s)))
   instr_doubts k (expr_start_var first rest) = path_doubts k.scope first rest
   instr_doubts k (apply name n span) =
-      with_taken [] (taken n k.operands)
+      with_known_taken [] (taken n k.operands)
       (λ os below. if_some (shapes_of os) (given_doubts name.span (declared.callables name.text)))
   instr_doubts k i = []
 
   -- on after an instruction, which has this number
   abbrev pub stepped : ℕ → Known → Instr → Known
-  stepped at k (jump n) = if leb n at then leaves k k.opens else other_case n k k.opens
-  stepped at k (jump_if_true n) = with_top k k.operands (λ o os. tests false n o os k)
-  stepped at k (jump_if_false n) = with_top k k.operands (λ o os. tests true n o os k)
-  stepped at k emit = with_top k k.operands (λ o os. with_operands os k)
+  stepped at k (jump n) = if leb n at then leaves_block k k.opens else other_case n k k.opens
+  stepped at k (jump_if_true n) = with_known_top k k.operands (λ o os. tests false n o os k)
+  stepped at k (jump_if_false n) = with_known_top k k.operands (λ o os. tests true n o os k)
+  stepped at k emit = with_known_top k k.operands (λ o os. with_operands os k)
   stepped at k (emit_raw span) = k
-  stepped at k (emit_with name n span) = with_taken k (taken n k.operands) (λ os below. with_operands below k)
+  stepped at k (emit_with name n span) = with_known_taken k (taken n k.operands) (λ os below. with_operands below k)
   stepped at k (loop_start names span) =
-      with_top k k.operands (λ o os. binds (iteration_names (bound_names names (or_never o.shape))) os k)
+      with_known_top k k.operands (λ o os. binds_shapes (iteration_names (bound_names names (or_never o.shape))) os k)
   stepped at k (loop_next n) = k
   stepped at k (loop_next_else other past) = k
   stepped at k (with_start word) =
-      with_top k k.operands (λ o os. binds (name_shape word.text (value_of (or_never o.shape)) ∷ []) os k)
-  stepped at k with_end = leaves k k.opens
+      with_known_top k k.operands (λ o os. binds_shapes (name_shape word.text (value_of (or_never o.shape)) ∷ []) os k)
+  stepped at k with_end = leaves_block k k.opens
   stepped at k (include word) = k
-  stepped at k (include_with word) = with_top k k.operands (λ o os. with_operands os k)
+  stepped at k (include_with word) = with_known_top k k.operands (λ o os. with_operands os k)
   stepped at k (expr_start_var first rest) =
       with_operand (known_operand (path_shape k.scope first rest) (path_span first rest)
       (Some (record { first = first; rest = rest }))) k
@@ -102,7 +102,7 @@ module _ (declared : Declared) (included : List ℕ → Scope → Bool) where
   stepped at k expr_list_push = puts with_item_shape k
   stepped at k (expr_map_insert key) = puts (with_entry_shape key.text) k
   stepped at k (apply name n span) =
-      with_taken k (taken n k.operands) (λ os below.
+      with_known_taken k (taken n k.operands) (λ os below.
       with_operands (known_operand (call_shape (declared.callables name.text) (shapes_of os)) span None ∷ below) k)
 
   -- what is known after an instruction, which has this number

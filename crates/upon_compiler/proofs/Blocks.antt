@@ -7,7 +7,7 @@ use Rattle.std.specs.Option.{option_to_list}
 use Rattle.std.specs.Prelude.{MatchOption}
 use Rattle.upon_machine_spec.specs.Instr.{Instr}
 use Rattle.upon_compiler.specs.After.{LeavesElseIf, branch_ended, else_begun, else_if_begun, else_ifs_ended, for_ended, if_ended, is_else_if, outer}
-use Rattle.upon_compiler.specs.Compiler.{State, state}
+use Rattle.upon_compiler.specs.Compiler.{CompilerState, state}
 use Rattle.upon_compiler.specs.declared.compile.OpenBlock.{OpenBlock}
 use Rattle.upon_compiler.specs.declared.compile.OpenBlock.TheVariants.{If, Else, ElseIf, For, ForElse, With}
 
@@ -104,19 +104,19 @@ pub one_block : (f : ℕ → OpenBlock) (new mid old : List OpenBlock) (n m : �
 one_block f new mid old n m is number rest = is ∙ ap (λ k. f k ∷ mid) number ∙ ap (λ b. f m ∷ b) rest
 
 -- where no block is open, none is closed
-pub none_open : (F : List OpenBlock → State) (c d : List Instr) (old new : List OpenBlock) → c ≡ d → new ≡ outer old → old ≡ []
+pub none_open : (F : List OpenBlock → CompilerState) (c d : List Instr) (old new : List OpenBlock) → c ≡ d → new ≡ outer old → old ≡ []
     → F [] ≡ state d [] → state c new ≡ F old
 none_open F c d old new code rest none here =
     same_state c d new [] code (rest ∙ ap outer none) ∙ sym here ∙ sym (ap F none)
 
 -- the innermost block is closed
-pub closed : (F : List OpenBlock → State) (c d : List Instr) (new left old : List OpenBlock) (block was : OpenBlock) → c ≡ d → new ≡ left
+pub closed : (F : List OpenBlock → CompilerState) (c d : List Instr) (new left old : List OpenBlock) (block was : OpenBlock) → c ≡ d → new ≡ left
     → old ≡ block ∷ left → block ≡ was → F (was ∷ left) ≡ state d left → state c new ≡ F old
 closed F c d new left old block was code rest is same here =
     same_state c d new left code rest ∙ sym here ∙ ap (λ b. F (b ∷ left)) (sym same) ∙ sym (ap F is)
 
 -- the innermost block goes on as another one, that holds a number
-pub went_on : (F : List OpenBlock → State) (f : ℕ → OpenBlock) (c d : List Instr) (new mid left old : List OpenBlock) (n m : ℕ)
+pub went_on : (F : List OpenBlock → CompilerState) (f : ℕ → OpenBlock) (c d : List Instr) (new mid left old : List OpenBlock) (n m : ℕ)
     (block was : OpenBlock) → c ≡ d → new ≡ f n ∷ mid → n ≡ m → mid ≡ left → old ≡ block ∷ left → block ≡ was
     → F (was ∷ left) ≡ state d (f m ∷ left) → state c new ≡ F old
 went_on F f c d new mid left old n m block was code opened number rest is same here =
@@ -156,7 +156,7 @@ no_loop (ForElse next other) blocks code no_for no_other = absurd (no_other next
 no_loop With blocks code no_for no_other = refl
 
 -- the last branch of an `if` is closed, and then each `if` that goes on with it
-pub if_closed : (code left done : List Instr) (old around blocks : List OpenBlock) (block : OpenBlock) (end : State)
+pub if_closed : (code left done : List Instr) (old around blocks : List OpenBlock) (block : OpenBlock) (end : CompilerState)
     → end ≡ else_ifs_ended done blocks → done ≡ branch_ended block left → left ≡ code → blocks ≡ around → old ≡ block ∷ around
     → end ≡ if_ended code old
 if_closed code left done old around blocks block end is ended same rest here =

@@ -7,7 +7,7 @@ use Rattle.upon_types.specs.declared.types.Span.{Span}
 use Rattle.upon_types.specs.Tree.{Statements, no_else, otherwise}
 use Rattle.upon_machine_spec.specs.Code.{for_code, if_code, jump_unless}
 use Rattle.upon_machine_spec.specs.Instr.{Instr, jump, loop_next, loop_next_else, loop_start}
-use Rattle.upon_compiler.specs.After.{between}
+use Rattle.upon_compiler.specs.After.{between_branches}
 
 -- after instructions, what depends on how many there are
 abbrev pub then_from : List Instr → (ℕ → List Instr) → List Instr
@@ -40,7 +40,7 @@ if_alone base inner code negated old is =
 
 -- between the cases of an `if`
 between_is : (base inner code : List Instr) (negated : Bool) (old : Instr) → code ≡ base ++ old ∷ inner
-    → between negated (length base) code
+    → between_branches negated (length base) code
     ≡ base ++ jump_unless negated (length base + 1 + length inner + 1) ∷ (inner ++ jump 0 ∷ [])
 between_is base inner code negated old is =
     let way : List Instr = code ++ jump 0 ∷ [] in
@@ -56,11 +56,11 @@ between_is base inner code negated old is =
 -- an `if` with another case
 pub if_otherwise : (base inner code : List Instr) (negated : Bool) (old : Instr) (body : Statements) (rest : ℕ → List Instr)
     → code ≡ base ++ old ∷ inner
-    → slice_set (then_from (between negated (length base) code) rest) (length code)
-    (jump (length (then_from (between negated (length base) code) rest)))
+    → slice_set (then_from (between_branches negated (length base) code) rest) (length code)
+    (jump (length (then_from (between_branches negated (length base) code) rest)))
     ≡ base ++ if_code negated (otherwise body) (length base) inner (rest (length base + 1 + length inner + 1))
 if_otherwise base inner code negated old body rest is =
-    let way : List Instr = between negated (length base) code in
+    let way : List Instr = between_branches negated (length base) code in
     let both : List Instr = then_from way rest in
     let second : ℕ = length base + 1 + length inner + 1 in
     let test : Instr = jump_unless negated second in

@@ -7,7 +7,7 @@ use Rattle.upon_types.specs.Tree.{Statement, raw, inline_expr, include, if_else,
 use Rattle.upon_machine_spec.specs.Code.{expression_code, else_code, else_start, for_code, if_code, program_of, statement_code, statements_code}
 use Rattle.upon_machine_spec.specs.Instr.{Instr, jump, loop_next, loop_start, with_end, with_start}
 use Rattle.upon_machine_spec.specs.Instr.{include_with as enter_with}
-use Rattle.upon_compiler.specs.After.{after_all, between, branch_ended, else_ifs_ended}
+use Rattle.upon_compiler.specs.After.{after_all, between_branches, branch_ended, else_ifs_ended}
 use Rattle.upon_compiler.specs.Compiler.{nothing, state}
 use Rattle.upon_compiler.specs.Events.{Event}
 use Rattle.upon_compiler.specs.Told.{AreTold, IsElseIfTold, IsElseTold, IsForElseTold, IsIfAfterElseTold, IsTold}
@@ -99,7 +99,7 @@ mutual
       ap (λ es. after_all es (state code (If negated (length base) ∷ blocks))) told
       ∙ ap (λ c. after_all rest (else_ifs_ended c blocks)) (if_alone base inner code negated old is)
   told_else (otherwise body) before rest negated base inner code old blocks (inl told) is =
-      let way : List Instr = between negated (length base) code in
+      let way : List Instr = between_branches negated (length base) code in
       let both : List Instr = way ++ statements_code (length way) body in
       ap (λ es. after_all es (state code (If negated (length base) ∷ blocks))) told.2
       ∙ told_statements body told.0 told.1 way (InElse (length code) ∷ blocks) (λ c. refl) told.3
@@ -116,10 +116,10 @@ mutual
       (blocks : List OpenBlock) → IsElseIfTold ts before rest
       → after_all before (state code (If negated start ∷ blocks))
       ≡ after_all rest (else_ifs_ended (branch_ended (ElseIf (length code))
-      (between negated start code ++ statements_code (length (between negated start code)) ts)) blocks)
+      (between_branches negated start code ++ statements_code (length (between_branches negated start code)) ts)) blocks)
   told_else_if no_statements before rest negated start code blocks told = absurd told
   told_else_if (statement_then t no_statements) before rest negated start code blocks told =
-      let way : List Instr = between negated start code in
+      let way : List Instr = between_branches negated start code in
       told_if_after_else t before rest negated start code blocks told
       ∙ ap (λ c. after_all rest (else_ifs_ended (branch_ended (ElseIf (length code)) (way ++ c)) blocks))
       (sym (append-nil (statement_code (length way) t)))
@@ -130,9 +130,9 @@ mutual
       (blocks : List OpenBlock) → IsIfAfterElseTold t before rest
       → after_all before (state code (If negated start ∷ blocks))
       ≡ after_all rest (else_ifs_ended (branch_ended (ElseIf (length code))
-      (between negated start code ++ statement_code (length (between negated start code)) t)) blocks)
+      (between_branches negated start code ++ statement_code (length (between_branches negated start code)) t)) blocks)
   told_if_after_else (if_else second e body other) before rest negated start code blocks told =
-      let way : List Instr = between negated start code in
+      let way : List Instr = between_branches negated start code in
       let base : List Instr = way ++ expression_code e in
       let begun : List Instr = base ++ jump 0 ∷ [] in
       let around : List OpenBlock = ElseIf (length code) ∷ blocks in

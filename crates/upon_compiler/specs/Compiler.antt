@@ -6,16 +6,16 @@ use Rattle.upon_compiler.specs.declared.compile.Compiler.{Compiler}
 use Rattle.upon_compiler.specs.declared.compile.OpenBlock.{OpenBlock}
 
 -- instructions, and open blocks, the innermost first
-pub record State : Type 0 where
+pub record CompilerState : Type 0 where
   pub code : List Instr
   pub blocks : List OpenBlock
 
 -- these instructions and open blocks
-abbrev pub state : List Instr → List OpenBlock → State
+abbrev pub state : List Instr → List OpenBlock → CompilerState
 state code blocks = record { code = code; blocks = blocks }
 
 -- no instruction, and no open block
-abbrev pub nothing : State
+abbrev pub nothing : CompilerState
 nothing = state [] []
 
 -- the instructions of a compiler
@@ -27,5 +27,5 @@ abbrev pub blocks_of : Compiler → List OpenBlock
 blocks_of compiler = reverse compiler.blocks.items
 
 -- both
-abbrev pub state_of : Compiler → State
-state_of compiler = state (code_of compiler) (blocks_of compiler)
+abbrev pub compiler_state : Compiler → CompilerState
+compiler_state compiler = state (code_of compiler) (blocks_of compiler)

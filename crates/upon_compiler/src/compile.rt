@@ -3,7 +3,7 @@
 ghost use Rattle.std.specs.Prelude.{◌≡◌, ◌++◌, [], ◌∷◌, OnOk, MatchOption, length, slice_set};
 ghost use Rattle.upon_types.specs.AstPath.{ident_of, string_of};
 ghost use Rattle.upon_instructions.specs.Program.{instr_of, program_view};
-ghost use Rattle.upon_compiler.specs.After.{after, outer};
+ghost use Rattle.upon_compiler.specs.After.{after_event, outer};
 ghost use Rattle.upon_compiler.specs.Events.{raw_event, shown_event, with_event, endwith_event, include_event};
 ghost use Rattle.upon_compiler.specs.Events.{include_with_event};
 
@@ -39,11 +39,11 @@ pub struct Compiler {
 }
 
 impl Compiler {
-    ghost use Rattle.upon_compiler.specs.Compiler.{code_of, blocks_of, state_of, nothing};
+    ghost use Rattle.upon_compiler.specs.Compiler.{code_of, blocks_of, compiler_state, nothing};
 
     /// Creates a compiler that was told of nothing.
     pub fn new(alloc: Global) -> Compiler
-        ensures { state_of result ≡ nothing }
+        ensures { compiler_state result ≡ nothing }
     {
         Compiler {
             instrs: Vec::new(alloc),
@@ -61,7 +61,7 @@ impl Compiler {
 
     /// Appends a raw part. It fails if memory is out.
     pub fn raw(&mut self, span: Span) -> Result<(), AllocError>
-        ensures { OnOk result (state_of self.new ≡ after (raw_event span) (state_of self.old)) }
+        ensures { OnOk result (compiler_state self.new ≡ after_event (raw_event span) (compiler_state self.old)) }
     {
         self.push(Instr::EmitRaw(span))?;
         Ok(())
@@ -69,8 +69,8 @@ impl Compiler {
 
     /// Appends the instructions that show an expression, and leaves none of them behind. It fails if memory is out.
     pub fn shown(&mut self, code: &mut Vec<Instr>) -> Result<(), AllocError>
-        ensures state { OnOk result (state_of self.new
-            ≡ after (shown_event (program_view code.old.items)) (state_of self.old)) }
+        ensures state { OnOk result (compiler_state self.new
+            ≡ after_event (shown_event (program_view code.old.items)) (compiler_state self.old)) }
         ensures moved { OnOk result (code.new.items ≡ []) }
     {
         self.append(code)?;
@@ -80,8 +80,8 @@ impl Compiler {
     /// Begins a `with`, whose expression has these instructions, and leaves none of them behind. It fails if memory
     /// is out.
     pub fn begin_with(&mut self, code: &mut Vec<Instr>, name: Ident) -> Result<(), AllocError>
-        ensures state { OnOk result (state_of self.new
-            ≡ after (with_event (ident_of name) (program_view code.old.items)) (state_of self.old)) }
+        ensures state { OnOk result (compiler_state self.new
+            ≡ after_event (with_event (ident_of name) (program_view code.old.items)) (compiler_state self.old)) }
         ensures moved { OnOk result (code.new.items ≡ []) }
     {
         self.append(code)?;
@@ -92,7 +92,7 @@ impl Compiler {
 
     /// Ends the innermost block, which is a `with`. It fails if memory is out.
     pub fn end_with(&mut self) -> Result<(), AllocError>
-        ensures { OnOk result (state_of self.new ≡ after endwith_event (state_of self.old)) }
+        ensures { OnOk result (compiler_state self.new ≡ after_event endwith_event (compiler_state self.old)) }
     {
         self.leave();
         self.push(Instr::WithEnd)?;
@@ -101,7 +101,8 @@ impl Compiler {
 
     /// Appends an include of the template with this name. It fails if memory is out.
     pub fn include(&mut self, name: String) -> Result<(), AllocError>
-        ensures { OnOk result (state_of self.new ≡ after (include_event (string_of name)) (state_of self.old)) }
+        ensures { OnOk result (compiler_state self.new
+            ≡ after_event (include_event (string_of name)) (compiler_state self.old)) }
     {
         self.push(Instr::Include(name))?;
         Ok(())
@@ -110,8 +111,9 @@ impl Compiler {
     /// Appends an include of the template with this name, which sees the value of the expression that has these
     /// instructions, and leaves none of them behind. It fails if memory is out.
     pub fn include_with(&mut self, code: &mut Vec<Instr>, name: String) -> Result<(), AllocError>
-        ensures state { OnOk result (state_of self.new
-            ≡ after (include_with_event (string_of name) (program_view code.old.items)) (state_of self.old)) }
+        ensures state { OnOk result (compiler_state self.new
+            ≡ after_event (include_with_event (string_of name) (program_view code.old.items))
+            (compiler_state self.old)) }
         ensures moved { OnOk result (code.new.items ≡ []) }
     {
         self.append(code)?;

@@ -5,7 +5,7 @@ use Rattle.std.specs.Str.Iter.{lines_steps}
 use Rattle.upon_types.specs.Val.{Vals, no_vals, val_then}
 use Rattle.upon_types.specs.View.{view, vals_view}
 use Rattle.upon_types.specs.declared.value.Value.{Value}
-use Rattle.upon_data.specs.Lines.{is_blank, line_val, values_in}
+use Rattle.upon_data.specs.Lines.{is_blank, line_val, lines_values}
 
 -- values before others
 abbrev pub vals_before : Vals → Vals → Vals
@@ -31,21 +31,21 @@ all_before_next vs v (Some ws) = ap Some (before_next vs v ws)
 
 -- a line that is blank
 pub past_blank : (vs : List Value) (line : List ℕ) (more : List (List ℕ)) → is_blank line ≡ true
-    → option_map (vals_before (vals_view vs)) (values_in (line ∷ more)) ≡ option_map (vals_before (vals_view vs)) (values_in more)
+    → option_map (vals_before (vals_view vs)) (lines_values (line ∷ more)) ≡ option_map (vals_before (vals_view vs)) (lines_values more)
 past_blank vs line more blank = rw blank refl
 
 -- a line that has a value
 pub past_value : (vs : List Value) (v : Value) (line : List ℕ) (more : List (List ℕ)) → is_blank line ≡ false → line_val line ≡ Some (view v)
-    → option_map (vals_before (vals_view vs)) (values_in (line ∷ more)) ≡ option_map (vals_before (vals_view (vs ++ v ∷ []))) (values_in more)
-past_value vs v line more full is = rw (full, is) (all_before_next vs v (values_in more))
+    → option_map (vals_before (vals_view vs)) (lines_values (line ∷ more)) ≡ option_map (vals_before (vals_view (vs ++ v ∷ []))) (lines_values more)
+past_value vs v line more full is = rw (full, is) (all_before_next vs v (lines_values more))
 
 -- a line that has none
 pub at_no_value : (vs : List Value) (line : List ℕ) (more : List (List ℕ)) → is_blank line ≡ false → line_val line ≡ None
-    → option_map (vals_before (vals_view vs)) (values_in (line ∷ more)) ≡ None
+    → option_map (vals_before (vals_view vs)) (lines_values (line ∷ more)) ≡ None
 at_no_value vs line more full none = rw (full, none) refl
 
 -- no line
-pub at_end : (vs : List Value) → option_map (vals_before (vals_view vs)) (values_in []) ≡ Some (vals_view vs)
+pub at_end : (vs : List Value) → option_map (vals_before (vals_view vs)) (lines_values []) ≡ Some (vals_view vs)
 at_end vs = ap Some (before_none (vals_view vs))
 
 -- ---- the lines that are left

@@ -14,7 +14,7 @@ use Rattle.upon_types.specs.View.{view, entries_view}
 use Rattle.upon_types.specs.declared.value.Value.{Value}
 use Rattle.upon_types.proofs.Views.{Entry}
 use Rattle.upon_json.specs.Value.{put}
-use Rattle.upon_data.specs.Entries.{changed_at, inside, keys_of, replaced, with_member}
+use Rattle.upon_data.specs.Entries.{changed_at, inside, keys_of, replaced_value, with_member}
 
 -- ---- keys
 -- what a text cut at its first dot is
@@ -61,24 +61,24 @@ with_member-more key rest v es =
 
 -- ---- entries
 -- the entry that is written through what a map lends
-pub entries_view-set_value : (key : List ℕ) (es : List Entry) (w : Value) → entries_view (set_value (is_at (λ k. slice_cmp nat_cmp key (string_bytes k))) es w) ≡ replaced key (view w) (entries_view es)
+pub entries_view-set_value : (key : List ℕ) (es : List Entry) (w : Value) → entries_view (set_value (is_at (λ k. slice_cmp nat_cmp key (string_bytes k))) es w) ≡ replaced_value key (view w) (entries_view es)
 entries_view-set_value key [] w = refl
 entries_view-set_value key (e ∷ es) w =
     let more = entries_view-set_value key es w in
     let rest = set_value (is_at (λ k. slice_cmp nat_cmp key (string_bytes k))) es w in
     let at = bytes_eq key (string_bytes e.0) in
-    subst (λ b. entries_view (if b then (e.0, w) ∷ es else e ∷ rest) ≡ (if at then entry_then (string_bytes e.0) (view w) (entries_view es) else entry_then (string_bytes e.0) (view e.1) (replaced key (view w) (entries_view es)))) (sym (is_eq-slice_cmp key (string_bytes e.0)))
-    (elim at as (λ b. entries_view (if b then (e.0, w) ∷ es else e ∷ rest) ≡ (if b then entry_then (string_bytes e.0) (view w) (entries_view es) else entry_then (string_bytes e.0) (view e.1) (replaced key (view w) (entries_view es)))) [
+    subst (λ b. entries_view (if b then (e.0, w) ∷ es else e ∷ rest) ≡ (if at then entry_then (string_bytes e.0) (view w) (entries_view es) else entry_then (string_bytes e.0) (view e.1) (replaced_value key (view w) (entries_view es)))) (sym (is_eq-slice_cmp key (string_bytes e.0)))
+    (elim at as (λ b. entries_view (if b then (e.0, w) ∷ es else e ∷ rest) ≡ (if b then entry_then (string_bytes e.0) (view w) (entries_view es) else entry_then (string_bytes e.0) (view e.1) (replaced_value key (view w) (entries_view es)))) [
       | true ↦ refl
       | false ↦ ap (entry_then (string_bytes e.0) (view e.1)) more
     ])
 
 -- the same value in its place changes nothing
-replaced-same : (key : List ℕ) (v : Val) (es : Entries) → entry_at key es ≡ Some v → replaced key v es ≡ es
+replaced-same : (key : List ℕ) (v : Val) (es : Entries) → entry_at key es ≡ Some v → replaced_value key v es ≡ es
 replaced-same key v no_entries is = refl
 replaced-same key v (entry_then other w es) is =
     let more = replaced-same key v es in
-    (elim (bytes_eq key other) as (λ b. (if b then Some w else entry_at key es) ≡ Some v → (if b then entry_then other v es else entry_then other w (replaced key v es)) ≡ entry_then other w es) [
+    (elim (bytes_eq key other) as (λ b. (if b then Some w else entry_at key es) ≡ Some v → (if b then entry_then other v es else entry_then other w (replaced_value key v es)) ≡ entry_then other w es) [
       | true ↦ λ is. let same : v ≡ w = cc is in ap (λ x. entry_then other x es) same
       | false ↦ λ is. ap (entry_then other w) (more is)
     ]) is
@@ -90,11 +90,11 @@ module _ (path key rest : List ℕ) (v : Val) (es : Entries) (keys : keys_of pat
   begins = ap (λ ks. with_member ks v es) keys ∙ with_member-more key rest v es
 
   -- a value is there
-  pub set_there : (slot whole : Val) → entry_at key es ≡ Some slot → inside (with_member (keys_of rest) v) slot ≡ Some whole → with_member (keys_of path) v es ≡ Some (replaced key whole es)
-  set_there slot whole there is = begins ∙ ap (changed_at key (with_member (keys_of rest) v) es) there ∙ ap (option_map (λ w. replaced key w es)) is
+  pub set_there : (slot whole : Val) → entry_at key es ≡ Some slot → inside (with_member (keys_of rest) v) slot ≡ Some whole → with_member (keys_of path) v es ≡ Some (replaced_value key whole es)
+  set_there slot whole there is = begins ∙ ap (changed_at key (with_member (keys_of rest) v) es) there ∙ ap (option_map (λ w. replaced_value key w es)) is
 
   pub not_there : (slot : Val) → entry_at key es ≡ Some slot → inside (with_member (keys_of rest) v) slot ≡ None → with_member (keys_of path) v es ≡ None
-  not_there slot there is = begins ∙ ap (changed_at key (with_member (keys_of rest) v) es) there ∙ ap (option_map (λ w. replaced key w es)) is
+  not_there slot there is = begins ∙ ap (changed_at key (with_member (keys_of rest) v) es) there ∙ ap (option_map (λ w. replaced_value key w es)) is
 
   -- no value is there
   pub set_new : (inner : Entries) → entry_at key es ≡ None → with_member (keys_of rest) v no_entries ≡ Some inner → with_member (keys_of path) v es ≡ Some (put key (map_val inner) es)
@@ -109,5 +109,5 @@ on_error (Ok a) P Q weaker is = tt
 on_error (Err fault) P Q weaker is = weaker fault is
 
 -- the value in its place was written back
-pub written_back : (key : List ℕ) (slot whole : Val) (es : Entries) → entry_at key es ≡ Some slot → whole ≡ slot → replaced key whole es ≡ es
-written_back key slot whole es there same = ap (λ w. replaced key w es) same ∙ replaced-same key slot es there
+pub written_back : (key : List ℕ) (slot whole : Val) (es : Entries) → entry_at key es ≡ Some slot → whole ≡ slot → replaced_value key whole es ≡ es
+written_back key slot whole es there same = ap (λ w. replaced_value key w es) same ∙ replaced-same key slot es there

@@ -23,10 +23,10 @@ abbrev pub keys_of : List ℕ → List (List ℕ)
 keys_of path = slice_split (λ byte. byte == 46) path
 
 -- entries with another value at a key that they have
-abbrev pub replaced : List ℕ → Val → Entries → Entries
-replaced key v no_entries = no_entries
-replaced key v (entry_then other w es) =
-    if bytes_eq key other then entry_then other v es else entry_then other w (replaced key v es)
+abbrev pub replaced_value : List ℕ → Val → Entries → Entries
+replaced_value key v no_entries = no_entries
+replaced_value key v (entry_then other w es) =
+    if bytes_eq key other then entry_then other v es else entry_then other w (replaced_value key v es)
 
 -- a map with its entries changed; any other value can't be changed so
 abbrev pub inside : (Entries → Option Entries) → Val → Option Val
@@ -40,7 +40,7 @@ inside change (map_val es) = option_map map_val (change es)
 -- entries with the map at a key changed, which is made if it is not there
 abbrev pub changed_at : List ℕ → (Entries → Option Entries) → Entries → Option Val → Option Entries
 changed_at key change es None = option_map (λ inner. put key (map_val inner) es) (change no_entries)
-changed_at key change es (Some v) = option_map (λ w. replaced key w es) (inside change v)
+changed_at key change es (Some v) = option_map (λ w. replaced_value key w es) (inside change v)
 
 -- entries with a value set at a path of keys, whose maps are made if they are not there
 abbrev pub with_member : List (List ℕ) → Val → Entries → Option Entries

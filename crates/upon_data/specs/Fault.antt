@@ -4,6 +4,6 @@ use Rattle.upon_data.specs.declared.fault.DataFault.{DataFault}
 use Rattle.upon_data.specs.declared.fault.DataFault.TheVariants.{Refused, OutOfMemory}
 
 -- memory is out
-abbrev pub is_memory : DataFault → Bool
-is_memory (Refused refusal) = false
-is_memory OutOfMemory = true
+abbrev pub is_data_memory : DataFault → Bool
+is_data_memory (Refused refusal) = false
+is_data_memory OutOfMemory = true

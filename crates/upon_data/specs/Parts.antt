@@ -11,7 +11,7 @@ abbrev pub data_entries : Data → Entries
 data_entries d = entries_view d.entries.entries
 
 -- memory is out
-abbrev pub is_memory : PartFault → Bool
-is_memory NotObject = false
-is_memory NotMap = false
-is_memory OutOfMemory = true
+abbrev pub is_part_memory : PartFault → Bool
+is_part_memory NotObject = false
+is_part_memory NotMap = false
+is_part_memory OutOfMemory = true

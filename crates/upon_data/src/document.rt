@@ -5,7 +5,7 @@ ghost use Rattle.toml.specs.View.{view as data_of, array_view, table_view};
 ghost use Rattle.toml_writer.specs.Text.{IsFloatText};
 ghost use Rattle.upon_types.specs.View.{view, vals_view, entries_view};
 ghost use Rattle.upon_data.specs.Document.{AreEntriesOf, AreValuesOf, IsDocument, IsValueOf};
-ghost use Rattle.upon_data.specs.Fault.{is_memory};
+ghost use Rattle.upon_data.specs.Fault.{is_data_memory};
 
 use crate::fault::{DataFault, Refusal};
 use std::alloc::{AllocError, Global};
@@ -23,7 +23,7 @@ use upon_types::value::Value;
 /// The error is `Refused` if the text is no TOML, as if it defines a key twice, and `OutOfMemory`.
 pub fn document(alloc: Global, text: &str) -> Result<Value, DataFault>
     ensures read { IfOk result (λ v. IsDocument text.now (view v)) }
-    ensures refused { IfErr result (λ fault. is_memory fault ≡ false → parse_document text.now ≡ None) }
+    ensures refused { IfErr result (λ fault. is_data_memory fault ≡ false → parse_document text.now ≡ None) }
 {
     match toml::table_from_str(alloc, text) {
         Ok(table) => Ok(Value::Map(entries(alloc, &table)?)),

@@ -1,6 +1,6 @@
 // Why a text gives no value, and where.
 ghost use Rattle.std.specs.Prelude.{◌≡◌, true};
-ghost use Rattle.upon_data.specs.Fault.{is_memory};
+ghost use Rattle.upon_data.specs.Fault.{is_data_memory};
 
 use std::alloc::{AllocError, AllocFailed};
 use std::fmt;
@@ -16,7 +16,7 @@ pub enum DataFault {
 }
 
 impl From<AllocError> for DataFault {
-    ghost from_gives = { λ _ fault. is_memory fault ≡ true };
+    ghost from_gives = { λ _ fault. is_data_memory fault ≡ true };
 
     fn from(_: AllocError) -> DataFault {
         DataFault::OutOfMemory
@@ -24,7 +24,7 @@ impl From<AllocError> for DataFault {
 }
 
 impl<T: Drop> From<AllocFailed<T>> for DataFault {
-    ghost from_gives = { λ _ fault. is_memory fault ≡ true };
+    ghost from_gives = { λ _ fault. is_data_memory fault ≡ true };
 
     fn from(_: AllocFailed<T>) -> DataFault {
         DataFault::OutOfMemory

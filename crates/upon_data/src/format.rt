@@ -1,7 +1,7 @@
 // The formats that data are read of.
 ghost use Rattle.std.specs.Prelude.{◌≡◌, false, IfOk, IfErr};
 ghost use Rattle.upon_types.specs.View.{view};
-ghost use Rattle.upon_data.specs.Fault.{is_memory};
+ghost use Rattle.upon_data.specs.Fault.{is_data_memory};
 ghost use Rattle.upon_data.specs.Format.{HasNoValue, IsValueIn, format_named, format_of_path, has_ending};
 
 use crate::document::document;
@@ -71,7 +71,7 @@ fn has_ending(path: &str, ending: &[u8]) -> bool
 /// The error is `Refused` if the text is not of the format, and `OutOfMemory`.
 pub fn read(alloc: Global, format: Format, text: &str) -> Result<Value, DataFault>
     ensures read { IfOk result (λ v. IsValueIn format text.now (view v)) }
-    ensures refused { IfErr result (λ fault. is_memory fault ≡ false → HasNoValue format text.now) }
+    ensures refused { IfErr result (λ fault. is_data_memory fault ≡ false → HasNoValue format text.now) }
 {
     match format {
         Format::Json => json(alloc, text),

@@ -2,8 +2,8 @@
 ghost use Rattle.std.specs.Prelude.{◌≡◌, Some, None, true, false, IfOk, IfErr};
 ghost use Rattle.upon_types.specs.View.{view};
 ghost use Rattle.upon_json.specs.Context.{text_value, without_mark};
-ghost use Rattle.upon_json.specs.Reads.{is_memory as is_memory_fault};
-ghost use Rattle.upon_data.specs.Fault.{is_memory};
+ghost use Rattle.upon_json.specs.Reads.{is_memory_fault};
+ghost use Rattle.upon_data.specs.Fault.{is_data_memory};
 ghost use Rattle.upon_data.specs.Lines.{is_blank, line_val, lines_val};
 
 use crate::fault::{DataFault, Refusal};
@@ -20,7 +20,7 @@ use upon_types::value::Value;
 /// The error is `Refused` if the text is no JSON or nests deeper than 128, and `OutOfMemory`.
 pub fn json(alloc: Global, text: &str) -> Result<Value, DataFault>
     ensures read { IfOk result (λ v. text_value text.now ≡ Some (view v)) }
-    ensures refused { IfErr result (λ fault. is_memory fault ≡ false → text_value text.now ≡ None) }
+    ensures refused { IfErr result (λ fault. is_data_memory fault ≡ false → text_value text.now ≡ None) }
 {
     value_from(alloc, without_mark(text), 1)
 }
@@ -32,7 +32,7 @@ pub fn json(alloc: Global, text: &str) -> Result<Value, DataFault>
 /// The error is `Refused` if a line is no JSON or nests deeper than 128, and `OutOfMemory`.
 pub fn lines(alloc: Global, text: &str) -> Result<Value, DataFault>
     ensures read { IfOk result (λ v. lines_val text.now ≡ Some (view v)) }
-    ensures refused { IfErr result (λ fault. is_memory fault ≡ false → lines_val text.now ≡ None) }
+    ensures refused { IfErr result (λ fault. is_data_memory fault ≡ false → lines_val text.now ≡ None) }
 {
     let mut values = Vec::new(alloc);
     let mut number = 0usize;
@@ -67,7 +67,7 @@ fn is_blank(line: &str) -> bool
 // The value of a text of JSON that begins in the line of this number.
 fn value_from(alloc: Global, text: &str, line: usize) -> Result<Value, DataFault>
     ensures read { IfOk result (λ v. line_val text.now ≡ Some (view v)) }
-    ensures refused { IfErr result (λ fault. is_memory fault ≡ false → line_val text.now ≡ None) }
+    ensures refused { IfErr result (λ fault. is_data_memory fault ≡ false → line_val text.now ≡ None) }
 {
     let mut scratch = Scratch::new(alloc);
     let mut reader = Reader::new(text, &mut scratch)?;
@@ -80,7 +80,7 @@ fn value_from(alloc: Global, text: &str, line: usize) -> Result<Value, DataFault
 // Why a text is refused that begins in the line of this number, and that reading stopped in, so many bytes into it.
 #[cold]
 fn refusal(alloc: Global, text: &str, line: usize, fault: ReadFault, offset: usize) -> DataFault
-    ensures { is_memory_fault fault ≡ true → is_memory result ≡ true }
+    ensures { is_memory_fault fault ≡ true → is_data_memory result ≡ true }
 {
     match fault {
         ReadFault::OutOfMemory => DataFault::OutOfMemory,

@@ -4,7 +4,7 @@ ghost use Rattle.upon_types.specs.Val.{map_val, no_entries};
 ghost use Rattle.upon_types.specs.View.{view, entries_view};
 ghost use Rattle.upon_json.specs.Value.{put};
 ghost use Rattle.upon_data.specs.Entries.{entries_over, inside, keys_of, merged, with_member};
-ghost use Rattle.upon_data.specs.Parts.{data_entries, is_memory};
+ghost use Rattle.upon_data.specs.Parts.{data_entries, is_part_memory};
 
 use std::alloc::{AllocError, AllocFailed, Global};
 use std::collections::BTreeMap;
@@ -23,7 +23,7 @@ pub enum PartFault {
 }
 
 impl From<AllocError> for PartFault {
-    ghost from_gives = { λ _ fault. is_memory fault ≡ true };
+    ghost from_gives = { λ _ fault. is_part_memory fault ≡ true };
 
     fn from(_: AllocError) -> PartFault {
         PartFault::OutOfMemory
@@ -31,7 +31,7 @@ impl From<AllocError> for PartFault {
 }
 
 impl<T: Drop> From<AllocFailed<T>> for PartFault {
-    ghost from_gives = { λ _ fault. is_memory fault ≡ true };
+    ghost from_gives = { λ _ fault. is_part_memory fault ≡ true };
 
     fn from(_: AllocFailed<T>) -> PartFault {
         PartFault::OutOfMemory
@@ -60,9 +60,10 @@ impl Data {
     /// may leave some of the entries merged in.
     pub fn merge(&mut self, alloc: Global, value: Value) -> Result<(), PartFault>
         ensures ok { OnOk result (merged (view value) (data_entries self.old) ≡ Some (data_entries self.new)) }
-        ensures refused { IfErr result (λ fault. is_memory fault ≡ false
+        ensures refused { IfErr result (λ fault. is_part_memory fault ≡ false
             → merged (view value) (data_entries self.old) ≡ None) }
-        ensures kept { IfErr result (λ fault. is_memory fault ≡ false → data_entries self.new ≡ data_entries self.old) }
+        ensures kept { IfErr result (λ fault. is_part_memory fault ≡ false → data_entries self.new
+            ≡ data_entries self.old) }
     {
         match value {
             Value::Map(entries) => Ok(merge_entries(&mut self.entries, entries)?),
@@ -95,7 +96,7 @@ impl Data {
     pub fn set(&mut self, alloc: Global, path: &str, value: Value) -> Result<(), PartFault>
         ensures ok { OnOk result (with_member (keys_of path.now) (view value) (data_entries self.old)
             ≡ Some (data_entries self.new)) }
-        ensures refused { IfErr result (λ fault. is_memory fault ≡ false
+        ensures refused { IfErr result (λ fault. is_part_memory fault ≡ false
             → with_member (keys_of path.now) (view value) (data_entries self.old) ≡ None) }
         ensures kept { OnErr result (data_entries self.new ≡ data_entries self.old) }
     {
@@ -149,7 +150,7 @@ fn set_in(
 ) -> Result<(), PartFault>
     ensures ok { OnOk result (with_member (keys_of path.now) (view value) (entries_view entries.old.entries)
         ≡ Some (entries_view entries.new.entries)) }
-    ensures refused { IfErr result (λ fault. is_memory fault ≡ false
+    ensures refused { IfErr result (λ fault. is_part_memory fault ≡ false
         → with_member (keys_of path.now) (view value) (entries_view entries.old.entries) ≡ None) }
     ensures kept { OnErr result (entries_view entries.new.entries ≡ entries_view entries.old.entries) }
 {
@@ -189,7 +190,7 @@ fn set_inside(
 ) -> (Value, Result<(), PartFault>)
     ensures ok { OnOk result.1 (inside (with_member (keys_of path.now) (view value)) (view whole)
         ≡ Some (view result.0)) }
-    ensures refused { IfErr result.1 (λ fault. is_memory fault ≡ false
+    ensures refused { IfErr result.1 (λ fault. is_part_memory fault ≡ false
         → inside (with_member (keys_of path.now) (view value)) (view whole) ≡ None) }
     ensures kept { OnErr result.1 (view result.0 ≡ view whole) }
 {

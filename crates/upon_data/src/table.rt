@@ -3,7 +3,7 @@ ghost use Rattle.std.specs.Prelude.{◌≡◌, Some, None, false, IfOk, IfErr};
 ghost use Rattle.csv.specs.Reading.{error_kind, stops_reader};
 ghost use Rattle.csv.specs.Records.{fields_of};
 ghost use Rattle.upon_types.specs.View.{view};
-ghost use Rattle.upon_data.specs.Fault.{is_memory};
+ghost use Rattle.upon_data.specs.Fault.{is_data_memory};
 ghost use Rattle.upon_data.specs.Table.{row_val, table_val};
 
 use crate::fault::{DataFault, Ragged, Refusal};
@@ -20,7 +20,7 @@ use upon_types::value::Value;
 /// The error is `Refused` if a record has another number of fields than the head, and `OutOfMemory`.
 pub fn table(alloc: Global, text: &str) -> Result<Value, DataFault>
     ensures read { IfOk result (λ v. table_val text.now ≡ Some (view v)) }
-    ensures refused { IfErr result (λ fault. is_memory fault ≡ false → table_val text.now ≡ None) }
+    ensures refused { IfErr result (λ fault. is_data_memory fault ≡ false → table_val text.now ≡ None) }
 {
     let reader = ReaderBuilder::new()
         .has_headers(false)
@@ -56,7 +56,7 @@ fn row(alloc: Global, head: &StringRecord, record: &StringRecord) -> Result<Valu
 // Why reading a record of a text failed. A text in memory gives no error of input.
 #[cold]
 fn fault_of(text: &str, error: Error) -> DataFault
-    ensures { is_memory result ≡ stops_reader (error_kind error) }
+    ensures { is_data_memory result ≡ stops_reader (error_kind error) }
 {
     match error.into_kind() {
         ErrorKind::UnequalLengths {

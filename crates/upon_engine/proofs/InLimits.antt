@@ -9,7 +9,7 @@ use Rattle.upon_types.specs.Val.{Val}
 use Rattle.upon_types.specs.View.{view}
 use Rattle.upon_types.specs.declared.error.Error.{Error}
 use Rattle.upon_types.specs.declared.value.Value.{Value as CodeValue}
-use Rattle.upon_render.specs.Asked.{never}
+use Rattle.upon_render.specs.Asked.{refuses_all}
 use Rattle.upon_render.specs.Environment.{context}
 use Rattle.upon_render.specs.Roots.{pure_root}
 use Rattle.upon_render.specs.declared.stack.Root.{Root}
@@ -25,22 +25,22 @@ use Rattle.upon_fmt.specs.declared.output.Mark.{Mark}
 use Rattle.upon_vm.specs.Keeps.{SourceHas}
 use Rattle.upon_vm.specs.Limits.{AtMost}
 use Rattle.upon_vm.specs.Machine.{source_state}
-use Rattle.upon_vm.specs.Reports.{IsAnyIo, IsTaken}
-use Rattle.upon_vm.specs.Within.{EndsSo, Fits, IsReportWithin, RanWithin, ReportMarksWithin, TextWithin, WritesWithin}
+use Rattle.upon_vm.specs.Reports.{IsAnyIo, IsTakenError}
+use Rattle.upon_vm.specs.Within.{EndsSo, FitsLimits, IsReportWithin, RanWithin, ReportMarksWithin, TextWithin, WritesWithin}
 use Rattle.upon_vm.specs.declared.limits.Limits.{Limits}
 use Rattle.upon_vm.specs.declared.within.Within.{Within}
 use Rattle.upon_vm.proofs.WithinWrites.{writes_within}
 use Rattle.upon_engine.specs.Answers.{AnswersText}
 use Rattle.upon_engine.specs.Engine.{engine_templates}
 use Rattle.upon_engine.specs.Texts.{Texts, texts_of}
-use Rattle.upon_engine.specs.Theorem.{Answers, meaning, rendering}
+use Rattle.upon_engine.specs.Theorem.{AnswersTree, meaning, rendering}
 use Rattle.upon_engine.specs.Within.{AnswersWithin, AreNoLess, EndsWithin, IsNoLess, NamesALimit, SendsWithin, runs}
 use Rattle.upon_engine.specs.declared.engine.Engine.{Engine as Held}
 use Rattle.upon_engine.proofs.Tables.{is_table, made, only_table, table_held}
 
 -- ---- over a value
 -- each source asks alike that is never asked
-pub never_asks : {V : Type 0} (root : Root V) → SourceHas (λ _. never {Q = Unit {0}}) root (never {Q = Unit {0}})
+pub never_asks : {V : Type 0} (root : Root V) → SourceHas (λ _. refuses_all {Q = Unit {0}}) root (refuses_all {Q = Unit {0}})
 never_asks (Value v) = tt
 never_asks (Source s) = refl
 
@@ -98,7 +98,7 @@ module _ {X Y : Type 0} {P : X → Type 0} {Q : Y → Type 0} (formats : DynBox 
 
   abbrev SaidHere : Mark → Result (Unit {0}) Error → Option (List ℕ) → Type 0
   SaidHere mark r final =
-      WritesWithin e.depth (IsTaken mark) limits (runs engine (engine_templates e) name t.source t.tree (view v.now)) r old final
+      WritesWithin e.depth (IsTakenError mark) limits (runs engine (engine_templates e) name t.source t.tree (view v.now)) r old final
       (meaning engine (engine_templates e) name t.source t.tree (view v.now))
 
   pub write_said : {V : Type 0} (root : Root V) (depth left : ℕ) (r : Result (Unit {0}) Error) (mid mark : Mark) (final : Option (List ℕ))
@@ -177,7 +177,7 @@ module _ {Q : Type 0} (runs : ℕ → Option (Outcome Q)) (o : Outcome Q) (on : 
   most_greater None (Some n) count le most = absurd le
   most_greater (Some m) (Some n) count le most = omega (arith, le, most)
 
-  fits_greater : (one other : Limits) → AreNoLess one other → Fits one runs o → Fits other runs o
+  fits_greater : (one other : Limits) → AreNoLess one other → FitsLimits one runs o → FitsLimits other runs o
   fits_greater one other le fits = record {
     steps = ends_greater one.steps other.steps le.steps fits.steps;
     output = most_greater one.output other.output (length o.text) le.output fits.output;
@@ -217,10 +217,10 @@ module _ {X Y : Type 0} {P : X → Type 0} {Q : Y → Type 0} (formats : DynBox 
       either (inl names) = inl names
       either (inr is) = inr (λ table it. subst (Within_table other) (sym (only_table (get_by_text e.templates) table it)) is)
 
-  pub theorem_answers : (limits : Limits) → AnswersWithin held limits name source tree v result → NamesALimit result ⊎ Answers held name source tree v result
+  pub theorem_answers : (limits : Limits) → AnswersWithin held limits name source tree v result → NamesALimit result ⊎ AnswersTree held name source tree v result
   theorem_answers limits said =
       either (text_theorem e.depth limits (runs held the_table name source tree v) (meaning held the_table name source tree v) result (said the_table (is_table (get_by_text e.templates))))
     where
-      either : NamesALimit result ⊎ AnswersText e.depth (meaning held the_table name source tree v) result → NamesALimit result ⊎ Answers held name source tree v result
+      either : NamesALimit result ⊎ AnswersText e.depth (meaning held the_table name source tree v) result → NamesALimit result ⊎ AnswersTree held name source tree v result
       either (inl names) = inl names
       either (inr is) = inr (λ table it. subst (λ z. AnswersText e.depth (meaning held z name source tree v) result) (sym (only_table (get_by_text e.templates) table it)) is)

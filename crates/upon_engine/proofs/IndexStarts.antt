@@ -8,7 +8,7 @@ use Rattle.upon_meaning_spec.specs.Needs.{an_index, IsStart, LoopHides, Expressi
 use Rattle.upon_machine_spec.specs.Code.{expression_code, base_code, bases_code, arguments_code, list_code, map_code, emission_code, base_emission_code, else_start, else_part, if_code, for_code, statement_code, statements_code, else_code, program_of}
 use Rattle.upon_machine_spec.specs.Instr.{Instr, jump, emit, with_start, with_end, expr_list_push, expr_map_insert}
 use Rattle.upon_machine_spec.specs.Instr.{include_with as enter_with}
-use Rattle.upon_machine_spec.specs.ProgramNames.{is_this, plain_include, Lists}
+use Rattle.upon_machine_spec.specs.ProgramNames.{is_this, plain_include, IsListed}
 use Rattle.upon_machine_spec.proofs.Walks.{either}
 use Rattle.upon_machine_spec.proofs.NamesOfExpressions.{of_expression, of_emission, none, this_name, joined, with_last, after_none, g, nothing_passes}
 use Rattle.upon_machine_spec.proofs.NamesOfTree.{listed}
@@ -174,5 +174,5 @@ module _ (via : List ℕ) where
     else_passes at no_else = none
     else_passes at (otherwise body) = statements_pass (at + 1) body
 
-  pub tree_passes_index : (tree : Statements) → Lists (plain_includes (program_of tree)) via ↔ StatementsPass an_index via tree
+  pub tree_passes_index : (tree : Statements) → IsListed (plain_includes (program_of tree)) via ↔ StatementsPass an_index via tree
   tree_passes_index tree = let w = statements_pass 0 tree in let same = listed plain_include via (program_of tree) in (λ e. w.0 (sym same ∙ e), λ h. same ∙ w.1 h)

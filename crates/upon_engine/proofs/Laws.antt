@@ -15,21 +15,21 @@ use Rattle.upon_meaning_spec.proofs.NotTooDeep.{is_not_too_deep}
 use Rattle.upon_meaning_spec.proofs.NumberedDepth.{numbered_over_table}
 use Rattle.upon_meaning_spec.proofs.UnaskedMeaning.{values_stay}
 use Rattle.upon_woven_spec.proofs.PiecesOf.{within_woven}
-use Rattle.upon_engine.specs.Base.{Base, on_root, no_value}
+use Rattle.upon_engine.specs.Base.{ContextBase, on_root, no_value}
 use Rattle.upon_engine.specs.Calls.{Call, outcome, at_depth, answered_by, on_base}
 use Rattle.upon_engine.specs.KeepsLaws.{DepthsAgree, NumbersSuffice, IncludesAlone, NamesSuffice, TemplatesSuffice, SourceStays, IsWoven, KeepsLaws}
 
 module _ {V T : Type 0} (c : Call V T) where
   -- the laws that speak of each base
-  goes_on : (base : Base) (a b : ℕ) → a ≤ b → GoesOn (outcome (on_base base (at_depth a c))) (outcome (on_base base (at_depth b c)))
+  goes_on : (base : ContextBase) (a b : ℕ) → a ≤ b → GoesOn (outcome (on_base base (at_depth a c))) (outcome (on_base base (at_depth b c)))
   goes_on (on_root root) a b le = greater_depth c.rendering a b c.template c.name root c.from le
   goes_on (no_value f) a b le = record { same = λ _. refl; begins = λ is. absurd (is_not_too_deep (fails f) tt is) }
 
-  never_too_deep : (base : Base) (table : Table) (number : List ℕ → ℕ) (k : ℕ) → IsNumbered table number c.template.tree k → k < c.rendering.limit → (outcome (on_base base (answered_by (from_table table) c))).end ≢ too_deep
+  never_too_deep : (base : ContextBase) (table : Table) (number : List ℕ → ℕ) (k : ℕ) → IsNumbered table number c.template.tree k → k < c.rendering.limit → (outcome (on_base base (answered_by (from_table table) c))).end ≢ too_deep
   never_too_deep (on_root root) table number k numbered below = numbered_over_table c.rendering.calls table c.rendering.limit number k c.template c.name root c.from numbered below
   never_too_deep (no_value f) table number k numbered below = is_not_too_deep (fails f) tt
 
-  same_reached : (base : Base) (these those : Table) → AgreeOn (Reaches these c.template.tree) these those → outcome (on_base base (answered_by (from_table these) c)) ≡ outcome (on_base base (answered_by (from_table those) c))
+  same_reached : (base : ContextBase) (these those : Table) → AgreeOn (Reaches these c.template.tree) these those → outcome (on_base base (answered_by (from_table these) c)) ≡ outcome (on_base base (answered_by (from_table those) c))
   same_reached (on_root root) these those agree = templates_reached c.rendering.calls c.template c.name c.rendering.limit these those root c.from agree
   same_reached (no_value f) these those agree = refl
 
@@ -62,7 +62,7 @@ module _ {V T : Type 0} (c : Call V T) where
       ap (λ base. (outcome (on_base base c)).next.values) is ∙
       values_stay c.rendering.calls c.rendering.resolve (includes_left c.rendering.limit) c.template c.name v c.from
 
-  woven_over : (base : Base) → IsWoven (on_base base c)
+  woven_over : (base : ContextBase) → IsWoven (on_base base c)
   woven_over (on_root root) = within_woven c.rendering.calls c.rendering.resolve c.template (includes_left c.rendering.limit) c.name root c.from
   woven_over (no_value f) = record { joins = refl; parts = tt }
 

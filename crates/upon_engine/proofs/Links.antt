@@ -5,7 +5,7 @@ use Rattle.upon_types.specs.Tree.{Statement, raw, inline_expr, include, if_else,
 use Rattle.upon_meaning_spec.specs.Engine.{Table, Template}
 use Rattle.upon_meaning_spec.specs.Includes.{StatementIncludes, Includes, ElseIncludes, ReachesBy, Reaches}
 use Rattle.upon_meaning_spec.specs.Needs.{Start, a_name, StatementsBegin, StatementPasses, StatementsPass, ElsePasses, NeedsBy, Needs, NeedsName}
-use Rattle.upon_machine_spec.specs.ProgramNames.{Lists}
+use Rattle.upon_machine_spec.specs.ProgramNames.{IsListed}
 use Rattle.upon_engine.specs.EngineNeeds.{start_of, link, LinkedBy, Linked, HeldBegins, OneBegins, Searched, Marked}
 use Rattle.upon_engine.specs.declared.needs.Links.{Links}
 use Rattle.upon_engine.specs.declared.needs.Links.TheVariants.{All, Passing, Free}
@@ -45,7 +45,7 @@ module _ (table : Table) (by : Links) where
 
   module _ (tree : Statements) (old new : List ℕ → Bool) (names : List (List ℕ)) (waited waits : List ℕ → Type 0) (m : Marked table old new names waited waits) where
     -- the links of the tree itself
-    pub search_begins : ((name : List ℕ) → old name ≡ false) → ((name : List ℕ) → waited name → ⊥) → ((name : List ℕ) → Lists names name ↔ link by tree name) → Searched table by tree new waits
+    pub search_begins : ((name : List ℕ) → old name ≡ false) → ((name : List ℕ) → waited name → ⊥) → ((name : List ℕ) → IsListed names name ↔ link by tree name) → Searched table by tree new waits
     search_begins nothing nobody ends = record {
       sound = λ name e. ([], (ends name).0 (listed name (either_true (old name) (list_any (bytes_eq name) names) (sym (m.seen name) ∙ e))));
       known = λ name w. known name (m.only name w);
@@ -53,7 +53,7 @@ module _ (table : Table) (by : Links) where
       first = λ next l. m.seen next ∙ second_true (old next) (list_any (bytes_eq next) names) ((ends next).1 l);
     }
       where
-        listed : (name : List ℕ) → (old name ≡ true) ⊎ (list_any (bytes_eq name) names ≡ true) → Lists names name
+        listed : (name : List ℕ) → (old name ≡ true) ⊎ (list_any (bytes_eq name) names ≡ true) → IsListed names name
         listed name (inl e) = never (old name) (nothing name) e
         listed name (inr e) = e
 
@@ -66,7 +66,7 @@ module _ (table : Table) (by : Links) where
         waiting name (inr w) = w
 
     -- the links of a template that waited
-    module _ (before : List ℕ → Type 0) (s : Searched table by tree old before) (one : List ℕ) (t : Template) (it_waits : before one) (is : table one ≡ Some t) (others : (name : List ℕ) → before name → waited name ⊎ (name ≡ one)) (same : (name : List ℕ) → waited name → before name) (ends : (name : List ℕ) → Lists names name ↔ link by t.tree name) where
+    module _ (before : List ℕ → Type 0) (s : Searched table by tree old before) (one : List ℕ) (t : Template) (it_waits : before one) (is : table one ≡ Some t) (others : (name : List ℕ) → before name → waited name ⊎ (name ≡ one)) (same : (name : List ℕ) → waited name → before name) (ends : (name : List ℕ) → IsListed names name ↔ link by t.tree name) where
       grown : (name : List ℕ) → old name ≡ true → new name ≡ true
       grown name e = m.seen name ∙ first_true (old name) (list_any (bytes_eq name) names) e
 

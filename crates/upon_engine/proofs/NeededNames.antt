@@ -8,7 +8,7 @@ use Rattle.upon_machine_spec.specs.Instr.{Instr, jump, with_start, with_end, loo
 use Rattle.upon_machine_spec.specs.ProgramNames.{block_begins, loop_binds, count_after, unbound, path_name, is_this}
 use Rattle.upon_instructions.specs.Program.{instr_of, program_view}
 use Rattle.upon_instructions.specs.declared.types.program.Instr.{Instr as CodeInstr}
-use Rattle.upon_engine.specs.Names.{texts, has}
+use Rattle.upon_engine.specs.Names.{texts, has_name}
 
 -- an instruction at which no path begins so is passed
 past : (name : List ℕ) (at count : ℕ) (i : Instr) (is : List Instr) → (count ≡ 0 → is_this name (path_name i) ≡ false) → list_any (λ i. is_this name (path_name i)) (unbound name at count (i ∷ is)) ≡ list_any (λ i. is_this name (path_name i)) (unbound name (at + 1) (count_after name at i count) is)
@@ -49,10 +49,10 @@ weaker false b c h e = h e
 
 -- a set has the names of a list that are so
 abbrev pub Chosen : (List ℕ → Type 0) → BTreeSet (Bor (List ℕ)) → List (Bor (List ℕ)) → Type 0
-Chosen P chosen names = (name : List ℕ) → (has chosen name ≡ true) ↔ ((list_any (bytes_eq name) (texts names) ≡ true) × P name)
+Chosen P chosen names = (name : List ℕ) → (has_name chosen name ≡ true) ↔ ((list_any (bytes_eq name) (texts names) ≡ true) × P name)
 
 module _ (P : List ℕ → Type 0) where
-  pub chosen_none : (names : BTreeSet (Bor (List ℕ))) → ((name : List ℕ) → has names name ≡ false) → Chosen P names []
+  pub chosen_none : (names : BTreeSet (Bor (List ℕ))) → ((name : List ℕ) → has_name names name ≡ false) → Chosen P names []
   chosen_none names empty name = (λ e. let never : false ≡ true = sym (empty name) ∙ e in absurd (cc), λ h. let never : false ≡ true = h.0 in absurd (cc))
 
   last_listed : (names : List (Bor (List ℕ))) (one : Bor (List ℕ)) (name : List ℕ) → list_any (bytes_eq name) (texts (names ++ one ∷ [])) ≡ (list_any (bytes_eq name) (texts names) || bytes_eq name one.now)
@@ -84,35 +84,35 @@ module _ (P : List ℕ → Type 0) where
     same_text name e = sym ((bytes_eq-Decides name one.now).0 e)
 
     -- one that is so, and is put in
-    pub chosen_yes : ((name : List ℕ) → has new name ≡ (has old name || bytes_eq name one.now)) → P one.now → Chosen P new (names ++ one ∷ [])
+    pub chosen_yes : ((name : List ℕ) → has_name new name ≡ (has_name old name || bytes_eq name one.now)) → P one.now → Chosen P new (names ++ one ∷ [])
     chosen_yes puts so name = (
-      λ e. from (split name (has old name) (bytes_eq name one.now) (sym (puts name) ∙ e)),
+      λ e. from (split name (has_name old name) (bytes_eq name one.now) (sym (puts name) ∙ e)),
       λ k. puts name ∙ to (split name (list_any (bytes_eq name) (texts names)) (bytes_eq name one.now) (sym (last_listed names one name) ∙ k.0)) k.1,
     )
       where
-        from : (has old name ≡ true) ⊎ (bytes_eq name one.now ≡ true) → (list_any (bytes_eq name) (texts (names ++ one ∷ [])) ≡ true) × P name
+        from : (has_name old name ≡ true) ⊎ (bytes_eq name one.now ≡ true) → (list_any (bytes_eq name) (texts (names ++ one ∷ [])) ≡ true) × P name
         from (inl e) = let k = (h name).0 e in (last_listed names one name ∙ join_left (list_any (bytes_eq name) (texts names)) (bytes_eq name one.now) k.0, k.1)
         from (inr e) = (last_listed names one name ∙ join_right (list_any (bytes_eq name) (texts names)) (bytes_eq name one.now) e, subst P (same_text name e) so)
 
-        to : (list_any (bytes_eq name) (texts names) ≡ true) ⊎ (bytes_eq name one.now ≡ true) → P name → (has old name || bytes_eq name one.now) ≡ true
-        to (inl e) p = join_left (has old name) (bytes_eq name one.now) ((h name).1 (e, p))
-        to (inr e) p = join_right (has old name) (bytes_eq name one.now) e
+        to : (list_any (bytes_eq name) (texts names) ≡ true) ⊎ (bytes_eq name one.now ≡ true) → P name → (has_name old name || bytes_eq name one.now) ≡ true
+        to (inl e) p = join_left (has_name old name) (bytes_eq name one.now) ((h name).1 (e, p))
+        to (inr e) p = join_right (has_name old name) (bytes_eq name one.now) e
 
     -- one that is not so
-    pub chosen_no : ((name : List ℕ) → has new name ≡ has old name) → (P one.now → ⊥) → Chosen P new (names ++ one ∷ [])
+    pub chosen_no : ((name : List ℕ) → has_name new name ≡ has_name old name) → (P one.now → ⊥) → Chosen P new (names ++ one ∷ [])
     chosen_no stays not_so name = (
       λ e. let k = (h name).0 (sym (stays name) ∙ e) in (last_listed names one name ∙ join_left (list_any (bytes_eq name) (texts names)) (bytes_eq name one.now) k.0, k.1),
       λ k. stays name ∙ to (split name (list_any (bytes_eq name) (texts names)) (bytes_eq name one.now) (sym (last_listed names one name) ∙ k.0)) k.1,
     )
       where
-        to : (list_any (bytes_eq name) (texts names) ≡ true) ⊎ (bytes_eq name one.now ≡ true) → P name → has old name ≡ true
+        to : (list_any (bytes_eq name) (texts names) ≡ true) ⊎ (bytes_eq name one.now ≡ true) → P name → has_name old name ≡ true
         to (inl e) p = (h name).1 (e, p)
         to (inr e) p = absurd (not_so (subst P (sym (same_text name e)) p))
 
     -- one that is put in where it is so
-    pub chosen_step : (so : Bool) → ((so ≡ true) ↔ P one.now) → ((name : List ℕ) → has new name ≡ (has old name || (so && bytes_eq name one.now))) → Chosen P new (names ++ one ∷ [])
+    pub chosen_step : (so : Bool) → ((so ≡ true) ↔ P one.now) → ((name : List ℕ) → has_name new name ≡ (has_name old name || (so && bytes_eq name one.now))) → Chosen P new (names ++ one ∷ [])
     chosen_step true is puts = chosen_yes puts (is.0 refl)
-    chosen_step false is puts = chosen_no (λ name. puts name ∙ with_false (has old name)) (λ p. let never : false ≡ true = is.1 p in absurd (cc))
+    chosen_step false is puts = chosen_no (λ name. puts name ∙ with_false (has_name old name)) (λ p. let never : false ≡ true = is.1 p in absurd (cc))
       where
         with_false : (x : Bool) → (x || false) ≡ x
         with_false true = refl

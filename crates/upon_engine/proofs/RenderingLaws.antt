@@ -20,14 +20,14 @@ use Rattle.upon_meaning_spec.specs.Alone.{fault_of_end}
 use Rattle.upon_meaning_spec.specs.Engine.{Table}
 use Rattle.upon_meaning_spec.specs.Outcome.{good, Outcome}
 use Rattle.upon_engine.specs.Answers.{AnswersText}
-use Rattle.upon_engine.specs.RenderingLaws.{AnswersFor, IsPlain, IsText, SendsFor}
+use Rattle.upon_engine.specs.RenderingLaws.{AnswersFor, IsPlainText, IsTextOrMemory, SendsFor}
 use Rattle.upon_engine.specs.Texts.{Texts, texts_of}
 use Rattle.upon_engine.specs.Theorem.{IsTable, meaning}
 use Rattle.upon_engine.specs.declared.engine.Engine.{Engine as Held}
 use Rattle.upon_engine.proofs.Tables.{is_table, table_held}
 
 -- what is answered for a meaning that ends well
-good_answer : {Q : Type 0} (limit : ℕ) (o : Outcome Q) (s : List ℕ) → o.end ≡ good → o.text ≡ s → (result : Result (String Global) Error) → AnswersText limit o result → IsText s result
+good_answer : {Q : Type 0} (limit : ℕ) (o : Outcome Q) (s : List ℕ) → o.end ≡ good → o.text ≡ s → (result : Result (String Global) Error) → AnswersText limit o result → IsTextOrMemory s result
 good_answer limit o s ends is (Ok t) said = said.1 ∙ is
 good_answer limit o s ends is (Err e) (inr out) = out
 good_answer limit o s ends is (Err e) (inl fault) =
@@ -44,7 +44,7 @@ module _ (e : Texts) (table : Table) (is : IsTable e.texts table) (name : Option
       let whole : length s - 0 ≡ length s = omega arith in
       append-nil (take (length s - 0) s) ∙ ap (λ n. take n s) whole ∙ take-length s
 
-  plain : (s : List ℕ) (result : Result (String Global) Error) → IsPlain e.syntax s → AnswersFor e name s v result → IsText s result
+  plain : (s : List ℕ) (result : Result (String Global) Error) → IsPlainText e.syntax s → AnswersFor e name s v result → IsTextOrMemory s result
   plain [] result bare said =
       good_answer e.depth (meaning e table name [] no_statements v) [] refl refl result (said no_statements (empty_text e.syntax) table is)
   plain (c ∷ cs) result bare said =
@@ -71,7 +71,7 @@ decided (Some xs) (Some ys) text not_not =
 
 module _ {X Y : Type 0} {P : X → Type 0} {Q : Y → Type 0} (formats : DynBox X Global P → Formatter) (answers : DynBox Y Global Q → Function) (e : Held X Y P Q) where
   pub plain_of : (name : Option (List ℕ)) (s : List ℕ) (v : Val) (result : Result (String Global) Error)
-      → IsPlain (texts_of formats answers e).syntax s → AnswersFor (texts_of formats answers e) name s v result → IsText s result
+      → IsPlainText (texts_of formats answers e).syntax s → AnswersFor (texts_of formats answers e) name s v result → IsTextOrMemory s result
   plain_of name s v result =
       plain (texts_of formats answers e) (table_held (get_by_text e.templates)) (is_table (get_by_text e.templates)) name v s result
 

@@ -12,7 +12,7 @@ use Rattle.std.specs.List.Sorted.{IsStrictlySortedBy}
 use Rattle.std.proofs.lemmas.List.Folds.{Any-from_list_any, list_any-from_Any}
 use Rattle.std.proofs.lemmas.Map.Text.{is_eq-slice_cmp}
 use Rattle.std.proofs.lemmas.Slice.Eq.{bytes_eq-Decides}
-use Rattle.upon_engine.specs.Names.{texts, has, Rise}
+use Rattle.upon_engine.specs.Names.{texts, has_name, Rise}
 
 before_all : (k : Bor (List ℕ)) (ks : List (Bor (List ℕ))) → AllByRecursion (λ l. slice_cmp nat_cmp k.now l.now ≡ Less) ks
     → AllByRecursion (λ l. slice_cmp nat_cmp k.now l ≡ Less) (texts ks)
@@ -26,7 +26,7 @@ keys_rise [] sorted = tt
 keys_rise (k ∷ ks) sorted = (before_all k ks sorted.0, keys_rise ks sorted.1)
 
 -- a set has the names of its keys
-pub has_listed : (ks : List (Bor (List ℕ))) (name : List ℕ) → has (record { keys = ks }) name ≡ list_any (bytes_eq name) (texts ks)
+pub has_listed : (ks : List (Bor (List ℕ))) (name : List ℕ) → has_name (record { keys = ks }) name ≡ list_any (bytes_eq name) (texts ks)
 has_listed [] name = refl
 has_listed (k ∷ ks) name = λ i. is_eq-slice_cmp name k.now i || has_listed ks name i
 
@@ -55,10 +55,10 @@ either_of false y z e = second y (sym e)
     second false is = sym is
 
 -- a set with one name more
-pub puts_one : (old new : BTreeSet (Bor (List ℕ))) (one : Bor (List ℕ)) → Updates (λ x y. slice_cmp nat_cmp x.now y.now) old new one true → (name : List ℕ) → has new name ≡ (has old name || bytes_eq name one.now)
+pub puts_one : (old new : BTreeSet (Bor (List ℕ))) (one : Bor (List ℕ)) → Updates (λ x y. slice_cmp nat_cmp x.now y.now) old new one true → (name : List ℕ) → has_name new name ≡ (has_name old name || bytes_eq name one.now)
 puts_one old new one h name =
     h.0 (record { ref_ptr = (0, 0); now = name })
-    ∙ either_of _ (has old name) (bytes_eq name one.now) (is_eq-slice_cmp one.now name ∙ same_test (bytes_eq one.now name) (bytes_eq name one.now) (λ e. (bytes_eq-Decides name one.now).1 (sym ((bytes_eq-Decides one.now name).0 e))) (λ e. (bytes_eq-Decides one.now name).1 (sym ((bytes_eq-Decides name one.now).0 e))))
+    ∙ either_of _ (has_name old name) (bytes_eq name one.now) (is_eq-slice_cmp one.now name ∙ same_test (bytes_eq one.now name) (bytes_eq name one.now) (λ e. (bytes_eq-Decides name one.now).1 (sym ((bytes_eq-Decides one.now name).0 e))) (λ e. (bytes_eq-Decides one.now name).1 (sym ((bytes_eq-Decides name one.now).0 e))))
 
 or_assoc : (x y z : Bool) → ((x || y) || z) ≡ (x || (y || z))
 or_assoc true y z = refl
@@ -66,17 +66,17 @@ or_assoc false y z = refl
 
 -- one name more is put in, and is no longer among those that are left
 pub insert_step : (old new : BTreeSet (Bor (List ℕ))) (one : Bor (List ℕ)) (left all : List (Bor (List ℕ))) (name : List ℕ) (whole : Bool) → Updates (λ x y. slice_cmp nat_cmp x.now y.now) old new one true → all ≡ one ∷ left
-    → (has old name || list_any (bytes_eq name) (texts all)) ≡ whole → (has new name || list_any (bytes_eq name) (texts left)) ≡ whole
+    → (has_name old name || list_any (bytes_eq name) (texts all)) ≡ whole → (has_name new name || list_any (bytes_eq name) (texts left)) ≡ whole
 insert_step old new one left all name whole puts is h =
     ap (λ x. x || list_any (bytes_eq name) (texts left)) (puts_one old new one puts name)
-    ∙ or_assoc (has old name) (bytes_eq name one.now) (list_any (bytes_eq name) (texts left))
-    ∙ ap (λ xs. has old name || list_any (bytes_eq name) (texts xs)) (sym is) ∙ h
+    ∙ or_assoc (has_name old name) (bytes_eq name one.now) (list_any (bytes_eq name) (texts left))
+    ∙ ap (λ xs. has_name old name || list_any (bytes_eq name) (texts xs)) (sym is) ∙ h
 
 -- a set into which the names of a program's includes were put has those of the tree
 pub has_includes : (old set : BTreeSet (Bor (List ℕ))) (tree : Statements) (names : List (List ℕ)) → old.keys ≡ [] → names ≡ includes (program_of tree)
-    → ((name : List ℕ) → has set name ≡ (has old name || list_any (bytes_eq name) names)) → (name : List ℕ) → (has set name ≡ true) ↔ Includes name tree
+    → ((name : List ℕ) → has_name set name ≡ (has_name old name || list_any (bytes_eq name) names)) → (name : List ℕ) → (has_name set name ≡ true) ↔ Includes name tree
 has_includes old set tree names empty same puts name =
-    let all : has set name ≡ list_any (bytes_eq name) (includes (program_of tree)) =
-    puts name ∙ (λ i. has (record { keys = empty i }) name || list_any (bytes_eq name) (same i)) in
+    let all : has_name set name ≡ list_any (bytes_eq name) (includes (program_of tree)) =
+    puts name ∙ (λ i. has_name (record { keys = empty i }) name || list_any (bytes_eq name) (same i)) in
     let law = tree_includes name tree in
     (λ e. law.0 (sym all ∙ e), λ h. all ∙ law.1 h)

@@ -19,15 +19,15 @@ use Rattle.upon_meaning_spec.specs.Alone.{alone}
 use Rattle.upon_meaning_spec.specs.Engine.{Table, Template}
 use Rattle.upon_meaning_spec.specs.Outcome.{states}
 use Rattle.std.proofs.KnownBytes.{Appends-nil}
-use Rattle.upon_fmt.specs.Given.{Part}
-use Rattle.upon_vm.specs.Reports.{IsAnyIo, Writes}
+use Rattle.upon_fmt.specs.Given.{ReceivesPart}
+use Rattle.upon_vm.specs.Reports.{IsAnyIo, WritesReported}
 use Rattle.upon_syntax.specs.TagReading.{IsSyntaxError}
 use Rattle.upon_compiled_spec.proofs.CompiledTree.{only, had_tree}
 use Rattle.upon_engine.specs.Answers.{AnswersText}
 use Rattle.upon_engine.specs.Engine.{engine_templates}
 use Rattle.upon_engine.specs.Template.{template_of, template_source, template_syntax, template_tree}
-use Rattle.upon_engine.specs.Texts.{Stored, stored, texts_of}
-use Rattle.upon_engine.specs.Theorem.{IsTemplateOf, IsTable, rendering, meaning, Answers, Sends}
+use Rattle.upon_engine.specs.Texts.{Stored, stored_template, texts_of}
+use Rattle.upon_engine.specs.Theorem.{IsTemplateOf, IsTable, rendering, meaning, AnswersTree, Sends}
 use Rattle.upon_engine.specs.declared.engine.Engine.{Engine as Held}
 use Rattle.upon_engine.specs.declared.template.Template.{Template as HeldTemplate}
 
@@ -38,7 +38,7 @@ made source tree = record { source = source; tree = tree }
 only_held : (h : HeldTemplate) (tree : Statements) → HasTree (template_syntax h) (template_source h) tree → tree ≡ template_tree h
 only_held h tree has = only (template_syntax h) (template_source h) h.instrs.items h.is_compiled tree has
 
-pub held_one : (o : Option HeldTemplate) (t : Option Template) → IsTemplateOf (option_map stored o) t → t ≡ option_map template_of o
+pub held_one : (o : Option HeldTemplate) (t : Option Template) → IsTemplateOf (option_map stored_template o) t → t ≡ option_map template_of o
 held_one None None is = refl
 held_one None (Some t) is = absurd is
 held_one (Some h) None is = absurd is
@@ -46,30 +46,30 @@ held_one (Some h) (Some t) is =
     let same : t.tree ≡ template_tree h = ∥∥₁_elim is.1 (Statements-one_path t.tree (template_tree h)) (only_held h t.tree) in
     ap (λ s. Some (made s t.tree)) is.0 ∙ ap (λ tree. Some (made (template_source h) tree)) same
 
-pub held_is : (o : Option HeldTemplate) → IsTemplateOf (option_map stored o) (option_map template_of o)
+pub held_is : (o : Option HeldTemplate) → IsTemplateOf (option_map stored_template o) (option_map template_of o)
 held_is None = tt
 held_is (Some h) = (refl, had_tree (template_syntax h) (template_source h) h.instrs.items h.is_compiled)
 
 -- a text that is held has the tree of its template
-pub tree_held : (o : Option HeldTemplate) (s : Stored) → option_map stored o ≡ Some s → (tree : Statements) × ∥ HasTree s.syntax s.text tree ∥₁
+pub tree_held : (o : Option HeldTemplate) (s : Stored) → option_map stored_template o ≡ Some s → (tree : Statements) × ∥ HasTree s.syntax s.text tree ∥₁
 tree_held None s is = absurd cc
 tree_held (Some h) s is =
-    let same : stored h ≡ s = cc in
+    let same : stored_template h ≡ s = cc in
     subst (λ z. (tree : Statements) × ∥ HasTree z.syntax z.text tree ∥₁) same (template_tree h, had_tree (template_syntax h) (template_source h) h.instrs.items h.is_compiled)
 
 -- the template of a name, by a tree that its text is known to have
 pub template_held : (o : Option HeldTemplate) (s : Stored) (tree : Statements)
-    → option_map stored o ≡ Some s → ∥ HasTree s.syntax s.text tree ∥₁ → option_map template_of o ≡ Some (made s.text tree)
+    → option_map stored_template o ≡ Some s → ∥ HasTree s.syntax s.text tree ∥₁ → option_map template_of o ≡ Some (made s.text tree)
 template_held None s tree is has = absurd cc
 template_held (Some h) s tree is has =
-    let same : stored h ≡ s = cc in
+    let same : stored_template h ≡ s = cc in
     let F : Stored → Type 0 = λ s. ∥ HasTree s.syntax s.text tree ∥₁ → Some (template_of h) ≡ Some (made s.text tree) in
     let only : ∥ HasTree (template_syntax h) (template_source h) tree ∥₁ → tree ≡ template_tree h = λ k. ∥∥₁_elim k (Statements-one_path tree (template_tree h)) (only_held h tree) in
     subst F same (λ k. ap (λ t. Some (made (template_source h) t)) (sym (only k))) has
 
 -- the same, where a template is known to be there
 pub held_named : (o : Option HeldTemplate) (r : Template) (s : Stored) (tree : Statements)
-    → option_map template_of o ≡ Some r → option_map stored o ≡ Some s → ∥ HasTree s.syntax s.text tree ∥₁ → r ≡ made s.text tree
+    → option_map template_of o ≡ Some r → option_map stored_template o ≡ Some s → ∥ HasTree s.syntax s.text tree ∥₁ → r ≡ made s.text tree
 held_named o r s tree here is has =
     let both : Some r ≡ Some (made s.text tree) = sym here ∙ template_held o s tree is has in
     cc
@@ -78,14 +78,14 @@ module _ (held : List ℕ → Option HeldTemplate) where
   abbrev pub table_held : Table
   table_held name = option_map template_of (held name)
 
-  pub only_table : (table : Table) → IsTable (λ name. option_map stored (held name)) table → table ≡ table_held
+  pub only_table : (table : Table) → IsTable (λ name. option_map stored_template (held name)) table → table ≡ table_held
   only_table table is = fun_ext (λ name. held_one (held name) (table name) (is name))
 
-  pub is_table : IsTable (λ name. option_map stored (held name)) table_held
+  pub is_table : IsTable (λ name. option_map stored_template (held name)) table_held
   is_table name = held_is (held name)
 
-  pub table_of : (table : Table) × IsTable (λ name. option_map stored (held name)) table
-      × ((other : Table) → IsTable (λ name. option_map stored (held name)) other → other ≡ table)
+  pub table_of : (table : Table) × IsTable (λ name. option_map stored_template (held name)) table
+      × ((other : Table) → IsTable (λ name. option_map stored_template (held name)) other → other ≡ table)
   table_of = (table_held, is_table, only_table)
 
 -- a fault of compiling a text that has a tree is that memory is out
@@ -96,7 +96,7 @@ no_memory delimiters s e tree (inl out) none has = out
 no_memory delimiters s e tree (inr first) none has = absurd (none (ap (λ f. f.kind) first.3) tree has)
 
 -- nothing of a text is a beginning of it
-pub nothing_yet : (old : Option (List ℕ)) (text : List ℕ) → Part old old text
+pub nothing_yet : (old : Option (List ℕ)) (text : List ℕ) → ReceivesPart old old text
 nothing_yet old text = ([], text, refl, Appends-nil old)
 
 -- the error that `?` hands on is the result's
@@ -108,7 +108,7 @@ module _ {X Y : Type 0} {P : X → Type 0} {Q : Y → Type 0} (formats : DynBox 
   pub answers_by : (name : Option (List ℕ)) (t : Template) (source : List ℕ) (tree : Statements) (v : Val) (result : Result (String Global) Error)
       → t ≡ made source tree
       → AnswersText e.depth (alone (rendering (texts_of formats answers e) (engine_templates e)) t name (context v) (states tt tt)) result
-      → Answers (texts_of formats answers e) name source tree v result
+      → AnswersTree (texts_of formats answers e) name source tree v result
   answers_by name t source tree v result is said table it =
       subst (λ z. AnswersText e.depth (meaning (texts_of formats answers e) z name source tree v) result) (sym (only_table (get_by_text e.templates) table it))
       (subst (λ z. AnswersText e.depth (alone (rendering (texts_of formats answers e) (engine_templates e)) z name (context v) (states tt tt)) result) is said)
@@ -116,8 +116,8 @@ module _ {X Y : Type 0} {P : X → Type 0} {Q : Y → Type 0} (formats : DynBox 
   -- the same of what a writer receives
   pub sends_by : (name : Option (List ℕ)) (t : Template) (source : List ℕ) (tree : Statements) (v : Val) (result : Result (Unit {0}) Error) (old new : Option (List ℕ))
       → t ≡ made source tree
-      → Writes e.depth IsAnyIo result old new (alone (rendering (texts_of formats answers e) (engine_templates e)) t name (context v) (states tt tt))
+      → WritesReported e.depth IsAnyIo result old new (alone (rendering (texts_of formats answers e) (engine_templates e)) t name (context v) (states tt tt))
       → Sends (texts_of formats answers e) name source tree v result old new
   sends_by name t source tree v result old new is said table it =
-      subst (λ z. Writes e.depth IsAnyIo result old new (meaning (texts_of formats answers e) z name source tree v)) (sym (only_table (get_by_text e.templates) table it))
-      (subst (λ z. Writes e.depth IsAnyIo result old new (alone (rendering (texts_of formats answers e) (engine_templates e)) z name (context v) (states tt tt))) is said)
+      subst (λ z. WritesReported e.depth IsAnyIo result old new (meaning (texts_of formats answers e) z name source tree v)) (sym (only_table (get_by_text e.templates) table it))
+      (subst (λ z. WritesReported e.depth IsAnyIo result old new (alone (rendering (texts_of formats answers e) (engine_templates e)) z name (context v) (states tt tt))) is said)

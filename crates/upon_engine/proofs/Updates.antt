@@ -14,7 +14,7 @@ use Rattle.upon_language_spec.specs.Search.{DelimiterText}
 use Rattle.upon_lexer.specs.Searcher.{searcher_delimiters}
 use Rattle.upon_engine.specs.Callables.{callable_of}
 use Rattle.upon_engine.specs.Changes.{empty_engine, unless_refused, with_syntax}
-use Rattle.upon_engine.specs.Texts.{Stored, Texts, stored, texts_of}
+use Rattle.upon_engine.specs.Texts.{Stored, Texts, stored_template, texts_of}
 use Rattle.upon_engine.specs.declared.engine.Callable.{Callable as Boxes}
 use Rattle.upon_engine.specs.declared.engine.Engine.{Engine as Held}
 use Rattle.upon_engine.specs.declared.template.Template.{Template as HeldTemplate}
@@ -61,7 +61,7 @@ module _ {X Y : Type 0} {P : X → Type 0} {Q : Y → Type 0} (formats : DynBox 
   pub holds_nothing : IsEmpty e.templates → IsEmpty e.callables → e.default_formatter ≡ None → e.depth ≡ 64 → searcher_delimiters e.searcher ≡ default_delimiters
       → texts_of formats answers e ≡ empty_engine
   holds_nothing templates callables formatter depth syntax = λ i. record {
-    texts = shows_entries stored (templates i);
+    texts = shows_entries stored_template (templates i);
     callables = shows_entries (callable_of formats answers) (callables i);
     default_formatter = option_map formats (formatter i);
     depth = depth i;
@@ -70,14 +70,14 @@ module _ {X Y : Type 0} {P : X → Type 0} {Q : Y → Type 0} (formats : DynBox 
 
   -- after a write to the templates, and after one that was refused
   pub templates_after : (m : BTreeMap (String Global) HeldTemplate) (bs name : List ℕ) (w : Option HeldTemplate) (s : Option Stored)
-      → bs ≡ name → UpdatesBy string_cmp (λ k. slice_cmp nat_cmp bs (string_bytes k)) e.templates m w → option_map stored w ≡ s
+      → bs ≡ name → UpdatesBy string_cmp (λ k. slice_cmp nat_cmp bs (string_bytes k)) e.templates m w → option_map stored_template w ≡ s
       → texts_of formats answers (record e { templates = m }) ≡ record (texts_of formats answers e) { texts = update bytes_eq (texts_of formats answers e).texts name s }
   templates_after m bs name w s same updates is =
       ap (λ texts. record (texts_of formats answers e) { texts = texts })
-      (shown stored bs name e.templates m w same updates ∙ ap (update bytes_eq (texts_of formats answers e).texts name) is)
+      (shown stored_template bs name e.templates m w same updates ∙ ap (update bytes_eq (texts_of formats answers e).texts name) is)
 
   pub templates_kept : (m : BTreeMap (String Global) HeldTemplate) → IsUnchanged e.templates m → texts_of formats answers (record e { templates = m }) ≡ texts_of formats answers e
-  templates_kept m same = ap (λ entries. record (texts_of formats answers e) { texts = shows_entries stored entries }) same
+  templates_kept m same = ap (λ entries. record (texts_of formats answers e) { texts = shows_entries stored_template entries }) same
 
   -- the same of the callables
   pub callables_after : (m : BTreeMap (String Global) (Boxes X Y P Q)) (bs name : List ℕ) (w : Option (Boxes X Y P Q))

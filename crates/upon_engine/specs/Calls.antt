@@ -4,7 +4,7 @@ use Rattle.upon_types.specs.Answers.{Callable, Formatter}
 use Rattle.upon_render.specs.Source.{Source}
 use Rattle.upon_meaning_spec.specs.Engine.{Template, Resolver, Rendering}
 use Rattle.upon_meaning_spec.specs.Outcome.{Outcome, States, states}
-use Rattle.upon_engine.specs.Base.{Base, outcome_over}
+use Rattle.upon_engine.specs.Base.{ContextBase, outcome_over}
 use Rattle.upon_engine.specs.Template.{template_of}
 use Rattle.upon_engine.specs.declared.renderer.Renderer.{Renderer}
 
@@ -13,7 +13,7 @@ pub record Call (V T : Type 0) : Type 0 where
   pub rendering : Rendering V T
   pub template : Template
   pub name : Option (List ℕ)
-  pub base : Base
+  pub base : ContextBase
   pub from : States V T
 
 -- what the template means by itself
@@ -25,7 +25,7 @@ abbrev pub at_depth : {V T : Type 0} → ℕ → Call V T → Call V T
 at_depth limit c = record c { rendering = record c.rendering { limit = limit } }
 
 -- over another base
-abbrev pub on_base : {V T : Type 0} → Base → Call V T → Call V T
+abbrev pub on_base : {V T : Type 0} → ContextBase → Call V T → Call V T
 on_base base c = record c { base = base }
 
 -- with another source of templates
@@ -37,8 +37,8 @@ abbrev pub engine_in : {E V T : Type 0} → Renderer E V T → E
 engine_in r = r.engine
 
 -- what it is rendered on
-abbrev pub values_in : {E V T : Type 0} → Renderer E V T → V
-values_in r = r.values
+abbrev pub renderer_values : {E V T : Type 0} → Renderer E V T → V
+renderer_values r = r.values
 
 -- where templates come from
 abbrev pub templates_in : {E V T : Type 0} → Renderer E V T → T
@@ -58,7 +58,7 @@ limit_in r = r.limit
 
 -- what a renderer denotes, by the ghost members of what it holds
 abbrev pub call_of : {E V T P Q : Type 0} → (E → List ℕ → Option Callable) → (E → Formatter) → (V → Source P)
-    → (V → Base)
+    → (V → ContextBase)
     → (V → P) → (T → Resolver Q) → (T → Q) → Renderer E V T → Call P Q
 call_of callables default_formatter asks base values_state resolve template_state r = record {
   rendering = record {

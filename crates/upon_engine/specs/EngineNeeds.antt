@@ -7,7 +7,7 @@ use Rattle.upon_meaning_spec.specs.Engine.{Table, Template}
 use Rattle.upon_meaning_spec.specs.Includes.{Includes}
 use Rattle.upon_meaning_spec.specs.Needs.{Start, a_name, an_index, StatementsBegin, StatementsPass}
 use Rattle.upon_machine_spec.specs.Code.{program_of}
-use Rattle.upon_machine_spec.specs.ProgramNames.{Lists}
+use Rattle.upon_machine_spec.specs.ProgramNames.{IsListed}
 use Rattle.upon_engine.specs.Names.{texts}
 use Rattle.upon_engine.specs.OpenBlocks.{free_includes}
 use Rattle.upon_engine.specs.Template.{template_of}
@@ -47,7 +47,7 @@ start_of Index = an_index
 abbrev pub link : Links → Statements → List ℕ → Type 0
 link All tree name = Includes name tree
 link (Passing start) tree name = StatementsPass (start_of start) name tree
-link Free tree name = Lists (free_includes (program_of tree)) name
+link Free tree name = IsListed (free_includes (program_of tree)) name
 
 -- the tree has a link to the first of the names, which the table holds; its tree has one to the next, and so on to the
 -- last, and to this name

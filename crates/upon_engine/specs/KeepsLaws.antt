@@ -17,7 +17,7 @@ use Rattle.upon_meaning_spec.specs.Outcome.{States, too_deep}
 use Rattle.upon_woven_spec.specs.Parts.{WovenOf}
 use Rattle.upon_engine.specs.Base.{on_root}
 use Rattle.upon_engine.specs.Calls.{Call, outcome, at_depth, on_base, answered_by}
-use Rattle.upon_engine.specs.Pieces.{pieces}
+use Rattle.upon_engine.specs.Pieces.{pieces_of_call}
 
 -- a greater depth changes nothing but where includes were too deep
 abbrev pub DepthsAgree : {V T : Type 0} → Call V T → Type 0
@@ -62,7 +62,7 @@ SourceStays c = (v : Val) → c.base ≡ on_root (context v) → (outcome c).nex
 -- the text, up to its end, is the call's pieces joined, in their order: each is a raw part of the template or of one
 -- that it reaches, or what the default formatter, or one that they name, wrote for a value
 abbrev pub IsWoven : {V T : Type 0} → Call V T → Type 0
-IsWoven c = WovenOf c.rendering.calls c.rendering.resolve c.template (pieces c) (outcome c).text
+IsWoven c = WovenOf c.rendering.calls c.rendering.resolve c.template (pieces_of_call c) (outcome c).text
 
 -- all of these
 pub record KeepsLaws {V T : Type 0} (c : Call V T) : Type 0 where

@@ -11,8 +11,8 @@ abbrev pub texts : List (Bor (List ℕ)) → List (List ℕ)
 texts names = map (λ name. name.now) names
 
 -- whether a set has a name
-abbrev pub has : BTreeSet (Bor (List ℕ)) → List ℕ → Bool
-has names name = contains_by (λ k. slice_cmp nat_cmp name k.now) names
+abbrev pub has_name : BTreeSet (Bor (List ℕ)) → List ℕ → Bool
+has_name names name = contains_by (λ k. slice_cmp nat_cmp name k.now) names
 
 -- each name's bytes are before those of the next
 abbrev pub Rise : List (List ℕ) → Type 0

@@ -13,16 +13,16 @@ opens (loop_start names span) = true
 opens i = false
 
 -- the instruction, which has this number, ends a block; a jump back ends a loop
-abbrev pub closes : ℕ → Instr → Bool
-closes at with_end = true
-closes at (jump to) = leb to at
-closes at i = false
+abbrev pub is_block_end : ℕ → Instr → Bool
+is_block_end at with_end = true
+is_block_end at (jump to) = leb to at
+is_block_end at i = false
 
 -- the instruction begins a block that binds the name
-abbrev pub binds : List ℕ → Instr → Bool
-binds name (with_start word) = bytes_eq word.text name
-binds name (loop_start names span) = loop_binds name names
-binds name i = false
+abbrev pub binds_name : List ℕ → Instr → Bool
+binds_name name (with_start word) = bytes_eq word.text name
+binds_name name (loop_start names span) = loop_binds name names
+binds_name name i = false
 
 -- the instructions that began the open blocks, the outermost first
 abbrev pub blocks : List (Bor CodeInstr) → List Instr
@@ -32,7 +32,7 @@ blocks opened = map (λ block. instr_of block.now) opened
 -- counted around them
 abbrev pub open_count : List ℕ → ℕ → List Instr → ℕ
 open_count name n [] = n
-open_count name n (block ∷ inner) = open_count name (block_begins (binds name block) n) inner
+open_count name n (block ∷ inner) = open_count name (block_begins (binds_name name block) n) inner
 
 -- how many blocks are open after an instruction, which has this number
 abbrev pub depth_after : ℕ → Instr → ℕ → ℕ
@@ -43,11 +43,11 @@ depth_after at (jump to) n = if leb to at then n - 1 else n
 depth_after at i n = n
 
 -- the instructions, the first of which has this number, outside of each block; so many are open at first
-abbrev pub outside : ℕ → ℕ → List Instr → List Instr
-outside at n [] = []
-outside at zero (i ∷ is) = i ∷ outside (at + 1) (depth_after at i zero) is
-outside at (suc n) (i ∷ is) = outside (at + 1) (depth_after at i (suc n)) is
+abbrev pub outside_blocks : ℕ → ℕ → List Instr → List Instr
+outside_blocks at n [] = []
+outside_blocks at zero (i ∷ is) = i ∷ outside_blocks (at + 1) (depth_after at i zero) is
+outside_blocks at (suc n) (i ∷ is) = outside_blocks (at + 1) (depth_after at i (suc n)) is
 
 -- the templates that are included without a value, outside of each block
 abbrev pub free_includes : List Instr → List (List ℕ)
-free_includes code = filter_map plain_include (outside 0 0 code)
+free_includes code = filter_map plain_include (outside_blocks 0 0 code)

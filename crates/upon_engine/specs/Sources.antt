@@ -1,7 +1,7 @@
 -- What the sources of a rendering hold.
 use Rattle.upon_types.specs.Val.{Val}
 use Rattle.upon_types.specs.View.{view}
-use Rattle.upon_engine.specs.Base.{Base, base_of}
+use Rattle.upon_engine.specs.Base.{ContextBase, base_of}
 use Rattle.upon_engine.specs.declared.engine.Engine.{Engine as Held}
 use Rattle.upon_engine.specs.declared.sources.EngineTemplates.{EngineTemplates}
 use Rattle.upon_engine.specs.declared.values.Context.{Context}
@@ -22,5 +22,5 @@ abbrev pub source_in : {S : Type 0} → SourceValues S → S
 source_in v = v.source
 
 -- what a rendering is over, whose context was made of what serde writes
-abbrev pub base_in : SerdeContext → Base
+abbrev pub base_in : SerdeContext → ContextBase
 base_in c = base_of c.value

@@ -27,14 +27,14 @@ pub record Texts : Type 0 where
   pub syntax : List DelimiterText
 
 -- what a template was made of
-abbrev pub stored : HeldTemplate → Stored
-stored t = record { text = cow_str_bytes t.source; syntax = syntax_delimiters t.syntax }
+abbrev pub stored_template : HeldTemplate → Stored
+stored_template t = record { text = cow_str_bytes t.source; syntax = syntax_delimiters t.syntax }
 
 -- what an engine holds, by what its boxes denote
 abbrev pub texts_of : {X Y : Type 0} {P : X → Type 0} {Q : Y → Type 0} → (DynBox X Global P → Formatter)
     → (DynBox Y Global Q → Function) → Held X Y P Q → Texts
 texts_of formats answers e = record {
-  texts = λ name. option_map stored (get_by_text e.templates name);
+  texts = λ name. option_map stored_template (get_by_text e.templates name);
   callables = λ name. option_map (callable_of formats answers) (get_by_text e.callables name);
   default_formatter = option_map formats e.default_formatter;
   depth = e.depth;

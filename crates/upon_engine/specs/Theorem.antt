@@ -5,12 +5,12 @@ use Rattle.upon_types.specs.Tree.{Statements}
 use Rattle.upon_types.specs.Val.{Val}
 use Rattle.upon_types.specs.declared.error.Error.{Error}
 use Rattle.upon_language_spec.specs.Grammar.{HasTree}
-use Rattle.upon_render.specs.Asked.{never}
+use Rattle.upon_render.specs.Asked.{refuses_all}
 use Rattle.upon_render.specs.Environment.{context}
 use Rattle.upon_meaning_spec.specs.Alone.{alone}
 use Rattle.upon_meaning_spec.specs.Engine.{Engine, Table, Template, Rendering, rendering_of}
 use Rattle.upon_meaning_spec.specs.Outcome.{Outcome, States, states}
-use Rattle.upon_vm.specs.Reports.{IsAnyIo, Writes}
+use Rattle.upon_vm.specs.Reports.{IsAnyIo, WritesReported}
 use Rattle.upon_engine.specs.Answers.{AnswersText}
 use Rattle.upon_engine.specs.Texts.{Stored, Texts}
 
@@ -36,7 +36,7 @@ engine_meant e table = record {
 
 -- a rendering on a value, with the engine's callables and depth, and the templates of a table for includes
 abbrev pub rendering : Texts → Table → Rendering (Unit {0}) (Unit {0})
-rendering e table = rendering_of (engine_meant e table) never None
+rendering e table = rendering_of (engine_meant e table) refuses_all None
 
 -- what a tree of a text means on a value, under a name or none
 abbrev pub meaning : Texts → Table → Option (List ℕ) → List ℕ → Statements → Val
@@ -45,12 +45,13 @@ meaning e table name source tree v =
     alone (rendering e table) (record { source = source; tree = tree }) name (context v) (states tt tt)
 
 -- a rendering of the tree of a text answers what the tree means, whatever the table of the texts that are held
-abbrev pub Answers : Texts → Option (List ℕ) → List ℕ → Statements → Val → Result (String Global) Error → Type 0
-Answers e name source tree v result =
+abbrev pub AnswersTree : Texts → Option (List ℕ) → List ℕ → Statements → Val → Result (String Global) Error → Type 0
+AnswersTree e name source tree v result =
     (table : Table) → IsTable e.texts table → AnswersText e.depth (meaning e table name source tree v) result
 
 -- a writer that may fail receives what the tree of a text means, or a beginning of it, by what it has and had
 abbrev pub Sends : Texts → Option (List ℕ) → List ℕ → Statements → Val → Result (Unit {0}) Error
     → Option (List ℕ) → Option (List ℕ) → Type 0
 Sends e name source tree v result old new =
-    (table : Table) → IsTable e.texts table → Writes e.depth IsAnyIo result old new (meaning e table name source tree v)
+    (table : Table) → IsTable e.texts table → WritesReported e.depth IsAnyIo result old new
+    (meaning e table name source tree v)

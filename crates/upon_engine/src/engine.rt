@@ -9,7 +9,7 @@ ghost use Rattle.upon_types.specs.Tree.{Statements};
 ghost use Rattle.upon_language_spec.specs.Grammar.{HasTree};
 ghost use Rattle.upon_lexer.specs.Syntax.{syntax_delimiters};
 ghost use Rattle.upon_syntax.specs.TagReading.{IsSyntaxError};
-ghost use Rattle.upon_vm_calls.specs.Calls.{sort_of};
+ghost use Rattle.upon_vm_calls.specs.Calls.{callable_sort};
 ghost use Rattle.upon_engine.specs.Before.{KeepsOldTree, HadNoTree};
 ghost use Rattle.upon_engine.specs.Callables.{callable_of};
 ghost use Rattle.upon_engine.specs.Faults.{IsSyntaxErrorOf};
@@ -196,7 +196,7 @@ impl<'e> Engine<'e> {
 impl Callable {
     /// Returns whether it is a formatter or a function.
     pub(crate) fn kind(&self) -> EngineCallable
-        ensures { result ≡ sort_of (callable_of formats answers self.now) }
+        ensures { result ≡ callable_sort (callable_of formats answers self.now) }
     {
         match self {
             Callable::Formatter(_) => EngineCallable::Formatter,
@@ -217,7 +217,7 @@ impl<'e> Engine<'e> {
             ≡ unless_refused result (with_callable (cow_str_bytes name.entry) (formatter (formats added)))
             (texts_of formats answers self.old) }
         ensures replaced { IfOk result (λ was. was
-            ≡ option_map sort_of ((texts_of formats answers self.old).callables (cow_str_bytes name.entry))) }
+            ≡ option_map callable_sort ((texts_of formats answers self.old).callables (cow_str_bytes name.entry))) }
     {
         self.put(name, Callable::Formatter(added))
     }
@@ -233,7 +233,7 @@ impl<'e> Engine<'e> {
             ≡ unless_refused result (with_callable (cow_str_bytes name.entry) (function (answers added)))
             (texts_of formats answers self.old) }
         ensures replaced { IfOk result (λ was. was
-            ≡ option_map sort_of ((texts_of formats answers self.old).callables (cow_str_bytes name.entry))) }
+            ≡ option_map callable_sort ((texts_of formats answers self.old).callables (cow_str_bytes name.entry))) }
     {
         self.put(name, Callable::Function(added))
     }
@@ -243,7 +243,7 @@ impl<'e> Engine<'e> {
         ensures engine { texts_of formats answers self.new
             ≡ without_callable name.now (texts_of formats answers self.old) }
         ensures was_there { result
-            ≡ option_map sort_of ((texts_of formats answers self.old).callables name.now) }
+            ≡ option_map callable_sort ((texts_of formats answers self.old).callables name.now) }
     {
         let old = self.callables.remove(name);
         kind_of_old(old)
@@ -259,7 +259,7 @@ impl<'e> Engine<'e> {
             ≡ unless_refused result (with_callable (cow_str_bytes name.entry) (callable_of formats answers callable))
             (texts_of formats answers self.old) }
         ensures replaced { IfOk result (λ was. was
-            ≡ option_map sort_of ((texts_of formats answers self.old).callables (cow_str_bytes name.entry))) }
+            ≡ option_map callable_sort ((texts_of formats answers self.old).callables (cow_str_bytes name.entry))) }
     {
         let name = name.into_owned(self.alloc)?;
         match self.callables.insert(name, callable) {
@@ -285,7 +285,7 @@ impl<'e> Engine<'e> {
 
 // What a callable was that another one replaced.
 fn kind_of_old(old: Option<Callable>) -> Option<EngineCallable>
-    ensures { result ≡ option_map (λ c. sort_of (callable_of formats answers c)) old }
+    ensures { result ≡ option_map (λ c. callable_sort (callable_of formats answers c)) old }
 {
     match old {
         Some(callable) => Some(callable.kind()),

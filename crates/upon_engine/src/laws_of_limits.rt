@@ -7,7 +7,7 @@ ghost use Rattle.upon_types.specs.declared.error.Error.{Error};
 ghost use Rattle.upon_meaning_spec.specs.Engine.{Table};
 ghost use Rattle.upon_vm.specs.declared.limits.Limits.{Limits};
 ghost use Rattle.upon_engine.specs.Texts.{texts_of};
-ghost use Rattle.upon_engine.specs.Theorem.{Answers, meaning};
+ghost use Rattle.upon_engine.specs.Theorem.{AnswersTree, meaning};
 ghost use Rattle.upon_engine.specs.Within.{AnswersWithin, AreNoLess, EndsWithin, NamesALimit, runs};
 
 use crate::engine::Engine;
@@ -44,5 +44,5 @@ pub fn greater_limits(engine: &Engine<'_>)
         (limits : Limits) (name : Option (List ℕ)) (source : List ℕ) (tree : Statements) (v : Val)
         (result : Result (String Global) Error)
         → AnswersWithin engine limits name source tree v result
-        → NamesALimit result ⊎ Answers engine name source tree v result }
+        → NamesALimit result ⊎ AnswersTree engine name source tree v result }
 {}

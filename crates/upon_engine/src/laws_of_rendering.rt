@@ -6,7 +6,7 @@ ghost use Rattle.upon_types.specs.Val.{Val};
 ghost use Rattle.upon_types.specs.Tree.{Statements};
 ghost use Rattle.upon_types.specs.declared.error.Error.{Error};
 ghost use Rattle.upon_language_spec.specs.Grammar.{HasTree};
-ghost use Rattle.upon_engine.specs.RenderingLaws.{AnswersFor, IsPlain, IsText, SendsFor};
+ghost use Rattle.upon_engine.specs.RenderingLaws.{AnswersFor, IsPlainText, IsTextOrMemory, SendsFor};
 ghost use Rattle.upon_engine.specs.Texts.{texts_of};
 
 use crate::engine::Engine;
@@ -16,7 +16,7 @@ pub fn plain_text(engine: &Engine<'_>)
     // What a rendering of such a text answers is the text, or that memory is out.
     ensures { let engine = texts_of formats answers engine.now in
         (name : Option (List ℕ)) (source : List ℕ) (v : Val) (result : Result (String Global) Error)
-        → IsPlain engine.syntax source → AnswersFor engine name source v result → IsText source result }
+        → IsPlainText engine.syntax source → AnswersFor engine name source v result → IsTextOrMemory source result }
 {}
 
 /// States that what rendering a text answers is what a writer receives that takes all.

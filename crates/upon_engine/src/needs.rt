@@ -6,10 +6,10 @@ ghost use Rattle.upon_meaning_spec.specs.Engine.{Template as TemplateMeant};
 ghost use Rattle.upon_meaning_spec.specs.Includes.{Reaches};
 ghost use Rattle.upon_meaning_spec.specs.Missing.{Missing};
 ghost use Rattle.upon_meaning_spec.specs.Needs.{a_name, Needs as NeedsStart, NeedsAll, NeedsName, StatementsBegin};
-ghost use Rattle.upon_machine_spec.specs.ProgramNames.{Lists};
+ghost use Rattle.upon_machine_spec.specs.ProgramNames.{IsListed};
 ghost use Rattle.upon_engine.specs.Engine.{engine_templates};
 ghost use Rattle.upon_engine.specs.EngineNeeds.{needed_names, reached_templates, missing_names, needs_whole, table_in, start_of, link, Linked, HeldBegins, OneBegins, Searched, Marked};
-ghost use Rattle.upon_engine.specs.Names.{texts, has, Rise};
+ghost use Rattle.upon_engine.specs.Names.{texts, has_name, Rise};
 ghost use Rattle.upon_engine.specs.Template.{template_of, template_tree};
 ghost use Rattle.upon_engine.specs.Unseen.{unseen};
 
@@ -76,7 +76,7 @@ impl<'s> Template<'s> {
     /// Returns the names to which links lead.
     fn linked<'t>(&'t self, by: Links<'_>) -> Result<Vec<&'t str>, AllocError>
         ensures { IfOk result (λ v. (name : List ℕ)
-            → Lists (texts v.items) name ↔ link by.entry (template_tree self.now) name) }
+            → IsListed (texts v.items) name ↔ link by.entry (template_tree self.now) name) }
     {
         match by {
             Links::All => self.each_include(),
@@ -124,8 +124,8 @@ fn mark<'t>(
     waiting: &mut Vec<&'t str>,
 ) -> Result<(), AllocError>
     ensures marked { OnOk result
-        (Marked (table_in templates.now) (has seen.old) (has seen.new) (texts names.now)
-        (Lists (texts waiting.old.items)) (Lists (texts waiting.new.items))) }
+        (Marked (table_in templates.now) (has_name seen.old) (has_name seen.new) (texts names.now)
+        (IsListed (texts waiting.old.items)) (IsListed (texts waiting.new.items))) }
     // What waits is no longer unseen.
     ensures less { OnOk result (unseen templates.now seen.new + length waiting.new.items
         ≤ unseen templates.now seen.old + length waiting.old.items) }
@@ -149,8 +149,8 @@ fn follow<'t, 'e>(
     ensures searched { OnOk result ((tree : Statements) (before : List ℕ → Bool)
         → ((other : List ℕ) → before other
         ≡ (list_any (bytes_eq other) (texts waiting.old.items) || bytes_eq other name.now))
-        → Searched (table_in templates.now) by.entry tree (has seen.old) (λ other. before other ≡ true)
-        → Searched (table_in templates.now) by.entry tree (has seen.new) (Lists (texts waiting.new.items))) }
+        → Searched (table_in templates.now) by.entry tree (has_name seen.old) (λ other. before other ≡ true)
+        → Searched (table_in templates.now) by.entry tree (has_name seen.new) (IsListed (texts waiting.new.items))) }
     ensures less { OnOk result (unseen templates.now seen.new + length waiting.new.items
         ≤ unseen templates.now seen.old + length waiting.old.items) }
 {
@@ -169,7 +169,7 @@ fn search<'t, 'e>(
     by: Links<'_>,
 ) -> Result<BTreeSet<&'t str>, AllocError>
     ensures { IfOk result (λ seen. (name : List ℕ)
-        → (has seen name ≡ true) ↔ Linked (table_in templates.now) by.entry (template_tree from.now) name) }
+        → (has_name seen name ≡ true) ↔ Linked (table_in templates.now) by.entry (template_tree from.now) name) }
 {
     let alloc = from.alloc();
     let mut seen = BTreeSet::new(alloc);
@@ -199,7 +199,7 @@ fn one_begins(
     start: PathStart<'_>,
 ) -> bool
     ensures { (result ≡ true)
-        ↔ OneBegins (table_in templates.now) (λ name. has names.entry name ≡ true) (start_of start.entry) }
+        ↔ OneBegins (table_in templates.now) (λ name. has_name names.entry name ≡ true) (start_of start.entry) }
 {
     for name in names {
         if begins_in(templates, name, start) {
@@ -230,7 +230,7 @@ fn insert_begun<'t, 'e>(
     begun: &mut BTreeSet<&'t str>,
     template: Option<&'t Template<'e>>,
 ) -> Result<(), AllocError>
-    ensures { OnOk result ((name : List ℕ) → (has begun.new name ≡ true) ↔ ((has begun.old name ≡ true)
+    ensures { OnOk result ((name : List ℕ) → (has_name begun.new name ≡ true) ↔ ((has_name begun.old name ≡ true)
         ⊎ HeldBegins (option_map (λ t. template_of t.now) template.entry) (a_name name))) }
 {
     let Some(template) = template else {
@@ -246,9 +246,9 @@ fn begun<'t, 'e>(
     from: &'t Template<'e>,
     names: &[&str],
 ) -> Result<BTreeSet<&'t str>, AllocError>
-    ensures { IfOk result (λ begun. (name : List ℕ) → (has begun name ≡ true)
+    ensures { IfOk result (λ begun. (name : List ℕ) → (has_name begun name ≡ true)
         ↔ (StatementsBegin (a_name name) (template_tree from.now)
-        ⊎ OneBegins (table_in templates.now) (Lists (texts names.now)) (a_name name))) }
+        ⊎ OneBegins (table_in templates.now) (IsListed (texts names.now)) (a_name name))) }
 {
     let mut begun = BTreeSet::new(from.alloc());
     insert_begun(&mut begun, Some(from))?;
@@ -264,7 +264,7 @@ fn surely_needed<'t, 'e>(
     templates: &'t BTreeMap<String, Template<'e>>,
     from: &'t Template<'e>,
 ) -> Result<BTreeSet<&'t str>, AllocError>
-    ensures { IfOk result (λ sure. (name : List ℕ) → has sure name ≡ true
+    ensures { IfOk result (λ sure. (name : List ℕ) → has_name sure name ≡ true
         → NeedsName (table_in templates.now) (template_tree from.now) name) }
 {
     let seen = search(templates, from, Links::Free)?;
@@ -296,7 +296,7 @@ fn needed<'t, 'e>(
     names: BTreeSet<&'t str>,
 ) -> Result<Vec<&'t str>, AllocError>
     ensures same { IfOk result (λ v. (name : List ℕ) → Contains (texts v.items) name
-        ↔ ((has names.entry name ≡ true) × NeedsName (table_in templates.now) (template_tree from.now) name)) }
+        ↔ ((has_name names.entry name ≡ true) × NeedsName (table_in templates.now) (template_tree from.now) name)) }
     ensures rise { IfOk result (λ v. Rise (texts v.items)) }
 {
     let alloc = from.alloc();
@@ -327,7 +327,7 @@ fn with_template<'t>(
     have: bool,
 ) -> Result<Vec<&'t str>, AllocError>
     ensures same { IfOk result (λ v. (name : List ℕ) → Contains (texts v.items) name
-        ↔ (Lists (texts names.now) name × (is_some (table_in templates.now name) ≡ have))) }
+        ↔ (IsListed (texts names.now) name × (is_some (table_in templates.now name) ≡ have))) }
     ensures rise { IfOk result (λ v. Rise (texts v.items)) }
 {
     let alloc = from.alloc();

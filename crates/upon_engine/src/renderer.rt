@@ -1,14 +1,14 @@
 // The renderer: a rendering before it is made.
 ghost use Rattle.std.specs.Prelude.{◌≡◌, None, true};
 ghost use Rattle.upon_types.specs.View.{view};
-ghost use Rattle.upon_vm.specs.Reports.{IsAnyIo, IsTaken, WriteMarks, Writes, WritesAndLeaves};
+ghost use Rattle.upon_vm.specs.Reports.{IsAnyIo, IsTakenError, WriteMarks, WritesAndLeaves, WritesReported};
 ghost use Rattle.upon_vm.specs.Runs.{Ran, RunMarks};
 ghost use Rattle.upon_meaning_spec.specs.Outcome.{states};
 ghost use Rattle.upon_engine.specs.Template.{template_of};
 ghost use Rattle.upon_engine.specs.Answers.{AnswersText};
 ghost use Rattle.upon_render.specs.Environment.{Root};
 ghost use Rattle.upon_engine.specs.Base.{IsContextOf, on_root};
-ghost use Rattle.upon_engine.specs.Calls.{call_of, outcome, engine_in, values_in, templates_in, template_in, name_in, limit_in};
+ghost use Rattle.upon_engine.specs.Calls.{call_of, outcome, engine_in, renderer_values, templates_in, template_in, name_in, limit_in};
 ghost use Rattle.upon_engine.specs.Engine.{engine_depth};
 ghost use Rattle.upon_engine.specs.KeepsLaws.{KeepsLaws};
 ghost use Rattle.upon_engine.specs.Sources.{base_in, engine_of_templates, source_in, value_in};
@@ -56,7 +56,7 @@ impl<'s> Template<'s> {
         ensures name { name_in result ≡ None }
         ensures engine { (engine_in result).now ≡ engine.now }
         ensures templates { engine_of_templates (templates_in result) ≡ engine.now }
-        ensures context { IsContextOf (λ old new. S.writes context old new) (base_in (values_in result)) }
+        ensures context { IsContextOf (λ old new. S.writes context old new) (base_in (renderer_values result)) }
         ensures limit { limit_in result ≡ engine_depth engine.now }
     {
         let value = to_value(engine.alloc(), context);
@@ -73,7 +73,7 @@ impl<'s> Template<'s> {
         ensures name { name_in result ≡ None }
         ensures engine { (engine_in result).now ≡ engine.now }
         ensures templates { engine_of_templates (templates_in result) ≡ engine.now }
-        ensures value { value_in (values_in result) ≡ view value.now }
+        ensures value { value_in (renderer_values result) ≡ view value.now }
         ensures limit { limit_in result ≡ engine_depth engine.now }
     {
         self.rendering(engine, Context { value })
@@ -89,7 +89,7 @@ impl<'s> Template<'s> {
         ensures name { name_in result ≡ None }
         ensures engine { (engine_in result).now ≡ engine.now }
         ensures templates { engine_of_templates (templates_in result) ≡ engine.now }
-        ensures source { source_in (values_in result) ≡ source }
+        ensures source { source_in (renderer_values result) ≡ source }
         ensures limit { limit_in result ≡ engine_depth engine.now }
     {
         self.rendering(engine, SourceValues { source })
@@ -105,7 +105,7 @@ impl<'s> Template<'s> {
         ensures name { name_in result ≡ None }
         ensures engine { (engine_in result).now ≡ engine.now }
         ensures templates { engine_of_templates (templates_in result) ≡ engine.now }
-        ensures values { values_in result ≡ values }
+        ensures values { renderer_values result ≡ values }
         ensures limit { limit_in result ≡ engine_depth engine.now }
     {
         Renderer {
@@ -127,7 +127,7 @@ impl<'r, E: Drop, V: Drop, T: Drop> Renderer<'r, E, V, T> {
         ensures name { name_in result ≡ name_in self.entry }
         ensures engine { engine_in result ≡ engine_in self.entry }
         ensures templates { templates_in result ≡ source }
-        ensures values { values_in result ≡ values_in self.entry }
+        ensures values { renderer_values result ≡ renderer_values self.entry }
         ensures limit { limit_in result ≡ limit_in self.entry }
     {
         let Renderer {
@@ -156,7 +156,7 @@ impl<'r, E: Drop, V: Drop, T: Drop> Renderer<'r, E, V, T> {
         ensures name { name_in result ≡ name_in self.entry }
         ensures engine { engine_in result ≡ callables }
         ensures templates { templates_in result ≡ templates_in self.entry }
-        ensures values { values_in result ≡ values_in self.entry }
+        ensures values { renderer_values result ≡ renderer_values self.entry }
         ensures limit { limit_in result ≡ limit_in self.entry }
     {
         let Renderer {
@@ -186,7 +186,7 @@ impl<'r, E: Drop, V: Drop, T: Drop> Renderer<'r, E, V, T> {
         ensures name { name_in result ≡ name_in self.entry }
         ensures engine { engine_in result ≡ engine_in self.entry }
         ensures templates { templates_in result ≡ templates_in self.entry }
-        ensures values { values_in result ≡ values_in self.entry }
+        ensures values { renderer_values result ≡ renderer_values self.entry }
         ensures limit { limit_in result ≡ depth }
     {
         Renderer {
@@ -222,9 +222,9 @@ impl<'r, E: Callables + Drop, V: Values<'r, T>, T: TemplateSource<'r>> Renderer<
     /// is its error, of the kind `Io`, or says that memory is out. If the kind is `Io`, the fault holds the error that
     /// the output's last failed write answered; if it is not, no write failed.
     pub fn to_output<O: Output>(self, out: &mut O) -> error::Result<()>
-        ensures means { Writes
+        ensures means { WritesReported
             (limit_in self.entry)
-            (IsTaken (O.mark out.new))
+            (IsTakenError (O.mark out.new))
             result
             (O.given out.old)
             (O.given out.new)
@@ -242,7 +242,7 @@ impl<'r, E: Callables + Drop, V: Values<'r, T>, T: TemplateSource<'r>> Renderer<
     /// Writes the same to a writer, by a [`LentWriter`]. If a write fails or takes nothing, the fault is of the kind
     /// `Io`.
     pub fn to_writer<W: io::Write>(self, writer: &mut W) -> error::Result<()>
-        ensures means { Writes
+        ensures means { WritesReported
             (limit_in self.entry)
             IsAnyIo
             result
@@ -263,7 +263,7 @@ impl<'r, E: Callables + Drop, V: Values<'r, T>, T: TemplateSource<'r>> Renderer<
     pub fn to_output_and_sources<O: Output>(self, out: &mut O) -> (error::Result<()>, V, T)
         ensures means { WritesAndLeaves
             (limit_in self.entry)
-            (IsTaken (O.mark out.new))
+            (IsTakenError (O.mark out.new))
             result.0
             (O.given out.old)
             (O.given out.new)
@@ -272,10 +272,10 @@ impl<'r, E: Callables + Drop, V: Values<'r, T>, T: TemplateSource<'r>> Renderer<
             (states (V.values_state result.1) (T.template_state result.2)) }
         ensures same { O.holds out.new ≡ O.holds out.old }
         ensures mark { WriteMarks result.0 (O.mark out.old) (O.mark out.new) }
-        ensures asks { V.asks result.1 ≡ V.asks (values_in self.entry) }
-        ensures root { (r : Root) → V.root (values_in self.entry) ≡ on_root r
-            → V.root result.1 ≡ V.root (values_in self.entry) }
-        ensures held { V.holds result.1 ≡ V.holds (values_in self.entry) }
+        ensures asks { V.asks result.1 ≡ V.asks (renderer_values self.entry) }
+        ensures root { (r : Root) → V.root (renderer_values self.entry) ≡ on_root r
+            → V.root result.1 ≡ V.root (renderer_values self.entry) }
+        ensures held { V.holds result.1 ≡ V.holds (renderer_values self.entry) }
         ensures resolve { T.resolve result.2 ≡ T.resolve (templates_in self.entry) }
         ensures templates_held { T.holds result.2 ≡ T.holds (templates_in self.entry) }
         ensures laws { KeepsLaws (call_of E.callables E.default_formatter V.asks V.root V.values_state
@@ -298,10 +298,10 @@ impl<'r, E: Callables + Drop, V: Values<'r, T>, T: TemplateSource<'r>> Renderer<
             (outcome (call_of E.callables E.default_formatter V.asks V.root V.values_state
             T.resolve T.template_state self.entry))
             (states (V.values_state result.1) (T.template_state result.2)) }
-        ensures asks { V.asks result.1 ≡ V.asks (values_in self.entry) }
-        ensures root { (r : Root) → V.root (values_in self.entry) ≡ on_root r
-            → V.root result.1 ≡ V.root (values_in self.entry) }
-        ensures held { V.holds result.1 ≡ V.holds (values_in self.entry) }
+        ensures asks { V.asks result.1 ≡ V.asks (renderer_values self.entry) }
+        ensures root { (r : Root) → V.root (renderer_values self.entry) ≡ on_root r
+            → V.root result.1 ≡ V.root (renderer_values self.entry) }
+        ensures held { V.holds result.1 ≡ V.holds (renderer_values self.entry) }
         ensures resolve { T.resolve result.2 ≡ T.resolve (templates_in self.entry) }
         ensures templates_held { T.holds result.2 ≡ T.holds (templates_in self.entry) }
     {

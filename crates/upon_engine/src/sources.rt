@@ -1,6 +1,6 @@
 // Where the templates of includes come from.
 ghost use Rattle.std.specs.Prelude.{◌≡◌, ℕ, List};
-ghost use Rattle.upon_render.specs.Asked.{Asked};
+ghost use Rattle.upon_render.specs.Asked.{HasReply};
 ghost use Rattle.upon_meaning_spec.specs.Engine.{Resolver};
 ghost use Rattle.upon_meaning_spec.specs.RenderFaults.{TemplatesLie};
 ghost use Rattle.upon_vm.specs.Program.{IsProgramOf};
@@ -34,7 +34,7 @@ pub trait TemplateSource<'r>: Drop {
     fn template(&mut self, name: &str) -> Result<&'r Template<'r>, SourceError>
         ensures same { holds self.new ≡ holds self.old }
         ensures stays { resolve self.new ≡ resolve self.old }
-        ensures resolved { Asked (λ t. template_of t.now) result (template_state self.new)
+        ensures resolved { HasReply (λ t. template_of t.now) result (template_state self.new)
             (resolve self.old (template_state self.old) name.now) };
 }
 

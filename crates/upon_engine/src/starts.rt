@@ -2,7 +2,7 @@
 ghost use Rattle.std.specs.Prelude.{◌≡◌, ◌↔◌, ◌<◌, ◌^◌, ◌-◌, ℕ, List, IfOk, true, option_map};
 ghost use Rattle.upon_meaning_spec.specs.Needs.{StatementsBegin, StatementsPass};
 ghost use Rattle.upon_machine_spec.specs.Code.{program_of};
-ghost use Rattle.upon_machine_spec.specs.ProgramNames.{Lists, passes, plain_include};
+ghost use Rattle.upon_machine_spec.specs.ProgramNames.{IsListed, passes_on, plain_include};
 ghost use Rattle.upon_instructions.specs.Program.{instr_of};
 ghost use Rattle.upon_engine.specs.EngineNeeds.{start_of};
 ghost use Rattle.upon_engine.specs.IndexStarts.{begins_by_index, has_index, plain_includes};
@@ -96,7 +96,7 @@ impl<'s> Template<'s> {
 
     /// Returns the names of the templates that are included without a value outside of what binds the name, in order.
     fn passes<'t>(&'t self, name: &str) -> Result<Vec<&'t str>, AllocError>
-        ensures { IfOk result (λ v. texts v.items ≡ passes name.now (program_of (template_tree self.now))) }
+        ensures { IfOk result (λ v. texts v.items ≡ passes_on name.now (program_of (template_tree self.now))) }
     {
         let instrs = self.instrs();
         let mut names = Vec::new(self.alloc());
@@ -143,7 +143,8 @@ impl<'s> Template<'s> {
     /// Returns the names of the templates that are included without a value outside of what binds such a path.
     pub(crate) fn passes_by<'t>(&'t self, start: PathStart<'_>) -> Result<Vec<&'t str>, AllocError>
         ensures { IfOk result (λ v. (name : List ℕ)
-            → Lists (texts v.items) name ↔ StatementsPass (start_of start.entry) name (template_tree self.now)) }
+            → IsListed (texts v.items) name ↔ StatementsPass (start_of start.entry) name
+            (template_tree self.now)) }
     {
         match start {
             PathStart::Name(name) => self.passes(name),

@@ -8,8 +8,8 @@ ghost use Rattle.upon_machine_spec.specs.Code.{program_of};
 ghost use Rattle.upon_machine_spec.specs.ProgramNames.{loop_binds, count_after, path_name, is_this, any_include, begins, includes};
 ghost use Rattle.upon_machine_spec.specs.ProgramNames.{block_begins as count_at_begin};
 ghost use Rattle.upon_instructions.specs.Program.{instr_of};
-ghost use Rattle.upon_engine.specs.Names.{texts, has, Rise};
-ghost use Rattle.upon_engine.specs.OpenBlocks.{binds, blocks, closes, open_count, opens};
+ghost use Rattle.upon_engine.specs.Names.{texts, has_name, Rise};
+ghost use Rattle.upon_engine.specs.OpenBlocks.{binds_name, blocks, is_block_end, open_count, opens};
 ghost use Rattle.upon_engine.specs.Template.{template_tree};
 
 use crate::template::Template;
@@ -112,7 +112,7 @@ fn opens(instr: &Instr) -> bool
 
 /// Returns whether an instruction at an offset ends a block.
 fn closes(at: usize, instr: &Instr) -> bool
-    ensures { result ≡ closes at (instr_of instr.now) }
+    ensures { result ≡ is_block_end at (instr_of instr.now) }
 {
     match instr {
         Instr::WithEnd => true,
@@ -123,7 +123,7 @@ fn closes(at: usize, instr: &Instr) -> bool
 
 /// Returns whether an instruction begins a block that binds the name.
 fn binds(name: &str, block: &Instr) -> bool
-    ensures { result ≡ binds name.now (instr_of block.now) }
+    ensures { result ≡ binds_name name.now (instr_of block.now) }
 {
     match block {
         Instr::WithStart(word) => word.name.as_str() == name,
@@ -134,7 +134,7 @@ fn binds(name: &str, block: &Instr) -> bool
 
 /// Returns whether one of the open blocks binds the name.
 fn is_bound(name: &str, opened: &[&Instr]) -> bool
-    ensures { result ≡ list_any (binds name.now) (blocks opened.now) }
+    ensures { result ≡ list_any (binds_name name.now) (blocks opened.now) }
 {
     for block in opened {
         if binds(name, block) {
@@ -168,8 +168,8 @@ fn insert_free<'i>(
     opened: &[&Instr],
 ) -> Result<(), AllocError>
     ensures { OnOk result ((name : List ℕ)
-        → has names.new name ≡ (has names.old name
-        || (not (list_any (binds name) (blocks opened.now)) && is_this name (path_name (instr_of instr.now))))) }
+        → has_name names.new name ≡ (has_name names.old name
+        || (not (list_any (binds_name name) (blocks opened.now)) && is_this name (path_name (instr_of instr.now))))) }
 {
     let Some(name) = path_name(instr) else {
         return Ok(());
@@ -183,7 +183,8 @@ pub(crate) fn insert_all<'n>(
     more: Vec<&'n str>,
 ) -> Result<(), AllocError>
     ensures { OnOk result ((name : List ℕ)
-        → has names.new name ≡ (has names.old name || list_any (bytes_eq name) (texts more.entry.items))) }
+        → has_name names.new name ≡ (has_name names.old name
+        || list_any (bytes_eq name) (texts more.entry.items))) }
 {
     for name in more {
         names.insert(name)?;
@@ -198,7 +199,7 @@ pub(crate) fn insert_if<'n>(
     so: bool,
 ) -> Result<(), AllocError>
     ensures { OnOk result ((other : List ℕ)
-        → has names.new other ≡ (has names.old other || (so && bytes_eq other name.now))) }
+        → has_name names.new other ≡ (has_name names.old other || (so && bytes_eq other name.now))) }
 {
     if !so {
         return Ok(());
@@ -213,7 +214,7 @@ pub(crate) fn ascending<'n>(
     names: BTreeSet<&'n str>,
 ) -> Result<Vec<&'n str>, AllocError>
     ensures same { IfOk result (λ v. (name : List ℕ)
-        → Contains (texts v.items) name ↔ (has names.entry name ≡ true)) }
+        → Contains (texts v.items) name ↔ (has_name names.entry name ≡ true)) }
     ensures rise { IfOk result (λ v. Rise (texts v.items)) }
 {
     let mut sorted = Vec::new(alloc);
@@ -257,7 +258,7 @@ impl<'s> Template<'s> {
     /// Returns the names that begin paths outside of what binds them.
     fn free_names(&self) -> Result<BTreeSet<&str>, AllocError>
         ensures { IfOk result (λ names. (name : List ℕ)
-            → has names name ≡ begins name (program_of (template_tree self.now))) }
+            → has_name names name ≡ begins name (program_of (template_tree self.now))) }
     {
         let instrs = self.instrs();
         let mut names = BTreeSet::new(self.alloc());

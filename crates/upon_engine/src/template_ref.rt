@@ -4,7 +4,7 @@ ghost use Rattle.upon_types.specs.View.{view};
 ghost use Rattle.upon_machine_spec.specs.Code.{program_of};
 ghost use Rattle.upon_instructions.specs.Program.{program_view};
 ghost use Rattle.upon_engine.specs.Base.{IsContextOf};
-ghost use Rattle.upon_engine.specs.Calls.{engine_in, values_in, templates_in, template_in, name_in, limit_in};
+ghost use Rattle.upon_engine.specs.Calls.{engine_in, renderer_values, templates_in, template_in, name_in, limit_in};
 ghost use Rattle.upon_engine.specs.Engine.{engine_depth, engine_templates};
 ghost use Rattle.upon_engine.specs.Sources.{base_in, engine_of_templates, source_in, value_in};
 ghost use Rattle.upon_engine.specs.Template.{template_of};
@@ -89,7 +89,7 @@ impl<'r, 'e> TemplateRef<'r, 'e> {
         ensures name { name_in result ≡ Some (ref_name self.entry) }
         ensures engine { (engine_in result).now ≡ ref_engine self.entry }
         ensures templates { engine_of_templates (templates_in result) ≡ ref_engine self.entry }
-        ensures context { IsContextOf (λ old new. S.writes context old new) (base_in (values_in result)) }
+        ensures context { IsContextOf (λ old new. S.writes context old new) (base_in (renderer_values result)) }
         ensures limit { limit_in result ≡ engine_depth (ref_engine self.entry) }
     {
         Renderer {
@@ -107,7 +107,7 @@ impl<'r, 'e> TemplateRef<'r, 'e> {
         ensures name { name_in result ≡ Some (ref_name self.entry) }
         ensures engine { (engine_in result).now ≡ ref_engine self.entry }
         ensures templates { engine_of_templates (templates_in result) ≡ ref_engine self.entry }
-        ensures value { value_in (values_in result) ≡ view value.now }
+        ensures value { value_in (renderer_values result) ≡ view value.now }
         ensures limit { limit_in result ≡ engine_depth (ref_engine self.entry) }
     {
         Renderer {
@@ -125,7 +125,7 @@ impl<'r, 'e> TemplateRef<'r, 'e> {
         ensures name { name_in result ≡ Some (ref_name self.entry) }
         ensures engine { (engine_in result).now ≡ ref_engine self.entry }
         ensures templates { engine_of_templates (templates_in result) ≡ ref_engine self.entry }
-        ensures source { source_in (values_in result) ≡ source }
+        ensures source { source_in (renderer_values result) ≡ source }
         ensures limit { limit_in result ≡ engine_depth (ref_engine self.entry) }
     {
         Renderer {

@@ -6,7 +6,7 @@ ghost use Rattle.upon_language_spec.specs.Grammar.{HasTree};
 ghost use Rattle.upon_meaning_spec.specs.Engine.{Table};
 ghost use Rattle.upon_syntax.specs.TagReading.{IsSyntaxError};
 ghost use Rattle.upon_engine.specs.Texts.{Stored, texts_of};
-ghost use Rattle.upon_engine.specs.Theorem.{Answers, IsTable, Sends};
+ghost use Rattle.upon_engine.specs.Theorem.{AnswersTree, IsTable, Sends};
 
 use crate::engine::Engine;
 use std::borrow::CowStr;
@@ -19,7 +19,7 @@ impl<'e> Engine<'e> {
     pub fn render_text(&self, source: &str, value: &Value) -> Result<String>
         // If the source has a tree, the answer is what that tree means on the value.
         ensures means { let engine = texts_of formats answers self.now in (tree : Statements)
-            → HasTree engine.syntax source.now tree → Answers engine None source.now tree (view value.now) result }
+            → HasTree engine.syntax source.now tree → AnswersTree engine None source.now tree (view value.now) result }
         // If it has none, the answer is its first fault, or that memory is out.
         ensures refused { let engine = texts_of formats answers self.now in
             ((tree : Statements) → HasTree engine.syntax source.now tree → ⊥)
@@ -35,7 +35,7 @@ impl<'e> Engine<'e> {
         ensures means { let engine = texts_of formats answers self.now in
             (held : Stored) (tree : Statements) → engine.texts name.now ≡ Some held
             → ∥ HasTree held.syntax held.text tree ∥₁
-            → IsSomeAnd result (Answers engine (Some name.now) held.text tree (view value.now)) }
+            → IsSomeAnd result (AnswersTree engine (Some name.now) held.text tree (view value.now)) }
         // If none is, and only then, there is no answer.
         ensures absent { IsNone result ↔ ((texts_of formats answers self.now).texts name.now ≡ None) }
     {

@@ -4,11 +4,11 @@ ghost use Rattle.upon_types.specs.TreeSpans.{TreeLiesIn};
 ghost use Rattle.upon_render.specs.Source.{Source};
 ghost use Rattle.upon_meaning_spec.specs.Engine.{Template};
 ghost use Rattle.upon_meaning_spec.specs.Outcome.{states};
-ghost use Rattle.upon_vm.specs.Acts.{calls_of};
+ghost use Rattle.upon_vm.specs.Acts.{calls_on};
 ghost use Rattle.upon_vm.specs.Program.{IsProgramOf};
 ghost use Rattle.upon_vm.specs.Runs.{Ran, RunMarks};
 ghost use Rattle.upon_render.specs.Environment.{Root};
-ghost use Rattle.upon_engine.specs.Base.{Base, on_root, outcome_within};
+ghost use Rattle.upon_engine.specs.Base.{ContextBase, on_root, outcome_within};
 
 use crate::sources::{Programs, ShorterLoans, TemplateSource};
 use std::alloc::Global;
@@ -34,7 +34,7 @@ pub trait Values<'r, T: TemplateSource<'r>>: Drop {
     ghost asks: { Self → Source State };
 
     // What lies under the bindings, or why it is no value.
-    ghost root: { Self → Base };
+    ghost root: { Self → ContextBase };
 
     // The references that its source holds.
     ghost holds: { Self → List ℕ };
@@ -56,7 +56,7 @@ pub trait Values<'r, T: TemplateSource<'r>>: Drop {
             result.0
             (W.given out.old)
             (W.given out.new)
-            (outcome_within (calls_of (C.callables callables.now) (C.default_formatter callables.now) (asks self))
+            (outcome_within (calls_on (C.callables callables.now) (C.default_formatter callables.now) (asks self))
             (T.resolve templates) running.entry.left t (option_map (λ name. name.now) running.entry.name) (root self)
             (states (values_state self) (T.template_state templates)))
             (states (values_state result.1) (T.template_state result.2)) }
@@ -76,7 +76,7 @@ pub struct Context<'r> {
 impl<'r, T: TemplateSource<'r>> Values<'r, T> for Context<'r> {
     ghost use Rattle.std.specs.Prelude.{[]};
     ghost use Rattle.upon_types.specs.View.{view};
-    ghost use Rattle.upon_render.specs.Asked.{never};
+    ghost use Rattle.upon_render.specs.Asked.{refuses_all};
     ghost use Rattle.upon_render.specs.Environment.{context};
     ghost use Rattle.upon_engine.specs.Base.{on_root};
 
@@ -84,7 +84,7 @@ impl<'r, T: TemplateSource<'r>> Values<'r, T> for Context<'r> {
 
     ghost values_state = { λ _. tt };
 
-    ghost asks = { λ _. never };
+    ghost asks = { λ _. refuses_all };
 
     ghost root = { λ c. on_root (context (view c.value.now)) };
 
@@ -113,14 +113,14 @@ pub struct SerdeContext {
 
 impl<'r, T: TemplateSource<'r>> Values<'r, T> for SerdeContext {
     ghost use Rattle.std.specs.Prelude.{[]};
-    ghost use Rattle.upon_render.specs.Asked.{never};
+    ghost use Rattle.upon_render.specs.Asked.{refuses_all};
     ghost use Rattle.upon_engine.specs.Sources.{base_in};
 
     ghost State = { Unit {0} };
 
     ghost values_state = { λ _. tt };
 
-    ghost asks = { λ _. never };
+    ghost asks = { λ _. refuses_all };
 
     ghost root = { λ c. base_in c };
 

@@ -5,7 +5,7 @@ ghost use Rattle.upon_types.specs.View.{view};
 ghost use Rattle.upon_language_spec.specs.Grammar.{HasTree};
 ghost use Rattle.upon_syntax.specs.TagReading.{IsSyntaxError};
 ghost use Rattle.upon_vm.specs.Limits.{GrowsWithin};
-ghost use Rattle.upon_vm.specs.Reports.{IsAnyIo, IsTaken};
+ghost use Rattle.upon_vm.specs.Reports.{IsAnyIo, IsTakenError};
 ghost use Rattle.upon_vm.specs.Within.{TextWithin, WritesWithin};
 ghost use Rattle.upon_engine.specs.Engine.{engine_templates};
 ghost use Rattle.upon_engine.specs.Template.{template_of};
@@ -188,7 +188,7 @@ impl<'e> Engine<'e> {
             let named = option_map (λ n. n.now) name.entry in
             WritesWithin
             engine.depth
-            (IsTaken (O.mark out.new))
+            (IsTakenError (O.mark out.new))
             limits.now
             (runs engine (engine_templates self.now) named t.source t.tree (view value.now))
             result

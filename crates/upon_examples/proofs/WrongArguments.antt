@@ -4,12 +4,12 @@ use Rattle.std.proofs.Common.{◌≡◌, ℕ, pos, List, [], ◌∷◌, refl, co
 use Rattle.upon_function_adapters.specs.Adapters.{adapter_answer}
 use Rattle.upon_types.specs.Misfits.{Test, integer_misfit}
 use Rattle.upon_functions.specs.Integers.{i64_range, u8_range}
-use Rattle.upon_functions.specs.Outcome.{Outcome}
+use Rattle.upon_functions.specs.Outcome.{Returned}
 use Rattle.upon_meaning_spec.proofs.Computing.{computing}
 use Rattle.upon_meaning_spec.specs.Evaluation.{Operand, answer_value, operand, values_of}
 use Rattle.upon_render.specs.Finding.{Finding, at_fault, found}
 use Rattle.upon_render.specs.LookupFaults.{wrong}
-use Rattle.upon_examples.specs.Functions.{doubled, added, echoed}
+use Rattle.upon_examples.specs.Callables.{doubled, added, echoed}
 use Rattle.upon_types.specs.Val.{Val, int_val, text_val}
 use Rattle.upon_types.specs.declared.types.Span.{Span}
 
@@ -20,7 +20,7 @@ abbrev whole : Span
 whole = at 3 14
 
 -- what the function of this name answers
-abbrev calls : List ℕ → List Test → (List Val → Outcome) → List Operand → Finding Val
+abbrev calls : List ℕ → List Test → (List Val → Returned) → List Operand → Finding Val
 calls name tests meaning given = answer_value (record { text = name; span = at 8 14 }) whole given (adapter_answer tests meaning (values_of given))
 
 abbrev i64 : Test

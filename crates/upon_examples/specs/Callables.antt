@@ -1,36 +1,36 @@
 -- What the callables of the tests answer.
 use Rattle.std.specs.Prelude.{ℤ, List, [], ◌∷◌, None, Some, codes}
 use Rattle.std.specs.Int.{w64, int_wrapping_add}
-use Rattle.upon_functions.specs.Outcome.{Outcome, value, refusal}
+use Rattle.upon_functions.specs.Outcome.{Returned, value, refusal}
 use Rattle.upon_types.specs.Answers.{Formatted, refused, well}
 use Rattle.upon_types.specs.Val.{Val, int_val, list_val, no_vals, none_val}
 use Rattle.upon_meaning_spec.specs.DefaultFormat.{default_format}
 
 -- the sum of two integers of 64 bits, which wraps
-abbrev pub wrapped : ℤ → ℤ → Outcome
+abbrev pub wrapped : ℤ → ℤ → Returned
 wrapped y z = value (int_val (int_wrapping_add w64 y z))
 
 -- twice an integer
-abbrev pub doubled : List Val → Outcome
+abbrev pub doubled : List Val → Returned
 doubled ((int_val z) ∷ vs) = wrapped z z
 doubled vs = refusal []
 
 -- the sum of two
-abbrev pub added : List Val → Outcome
+abbrev pub added : List Val → Returned
 added ((int_val y) ∷ (int_val z) ∷ vs) = wrapped y z
 added vs = refusal []
 
 -- the first argument
-abbrev pub echoed : List Val → Outcome
+abbrev pub echoed : List Val → Returned
 echoed [] = refusal []
 echoed (v ∷ vs) = value v
 
 -- the empty list
-abbrev pub listed : List Val → Outcome
-listed vs = value (list_val no_vals)
+abbrev pub listed_nothing : List Val → Returned
+listed_nothing vs = value (list_val no_vals)
 
 -- a refusal
-abbrev pub declined : List Val → Outcome
+abbrev pub declined : List Val → Returned
 declined vs = refusal (codes "no")
 
 -- two letters, and then a refusal

@@ -2,7 +2,7 @@
 ghost use Rattle.std.specs.Prelude.{◌≡◌, Some, false};
 ghost use Rattle.upon_fmt.specs.Error.{message_of};
 ghost use Rattle.upon_fmt.specs.Formatter.{is_marked, text_of};
-ghost use Rattle.upon_examples.specs.Callables.{added, declined, doubled, echoed, listed};
+ghost use Rattle.upon_examples.specs.Callables.{added, declined, doubled, echoed, listed_nothing};
 
 use std::alloc::{AllocError, Global};
 use upon::Value;
@@ -62,7 +62,7 @@ impl Call1S<Result<Result<bool, String>, AllocError>> for No {
 pub struct Pair;
 
 impl Call1V<Vec<Value>> for Pair {
-    ghost meaning = { λ _. listed };
+    ghost meaning = { λ _. listed_nothing };
 
     fn call(&self, alloc: Global, _first: &Value) -> Vec<Value> {
         Vec::new(alloc)

@@ -1,6 +1,6 @@
 // The examples of docs/EXAMPLES.md, as they are there.
 ghost use Rattle.std.specs.Prelude.{string_bytes};
-ghost use Rattle.upon_examples.specs.Functions.{prefixed};
+ghost use Rattle.upon_examples.specs.Functions.{after_text};
 
 use std::alloc::{AllocError, Global};
 use std::borrow::CowStr;
@@ -40,7 +40,7 @@ struct Prefix {
 }
 
 impl Call1S<std::result::Result<String, AllocError>> for Prefix {
-    ghost meaning = { λ prefix. prefixed (string_bytes prefix.text) };
+    ghost meaning = { λ prefix. after_text (string_bytes prefix.text) };
 
     fn call(&self, alloc: Global, first: &str) -> std::result::Result<String, AllocError> {
         let mut whole = String::from_str(alloc, &self.text)?;

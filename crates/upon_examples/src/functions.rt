@@ -3,7 +3,8 @@ ghost use Rattle.std.specs.Prelude.{◌∷◌, [], string_bytes};
 ghost use Rattle.upon_function_adapters.specs.Adapters.{adapter_answer};
 ghost use Rattle.upon_types.specs.Misfits.{integer_misfit};
 ghost use Rattle.upon_functions.specs.Integers.{i64_range};
-ghost use Rattle.upon_examples.specs.Functions.{added, doubled, echoed, is_longer, positive, prefixed};
+ghost use Rattle.upon_examples.specs.Callables.{added, doubled, echoed};
+ghost use Rattle.upon_examples.specs.Functions.{after_text, is_longer, positive};
 
 use std::alloc::{AllocError, Global};
 use upon::functions::{
@@ -81,7 +82,7 @@ pub struct Prefix {
 }
 
 impl Call1S<Result<String, AllocError>> for Prefix {
-    ghost meaning = { λ prefix. prefixed (string_bytes prefix.text) };
+    ghost meaning = { λ prefix. after_text (string_bytes prefix.text) };
 
     fn call(&self, alloc: Global, first: &str) -> Result<String, AllocError> {
         let mut whole = String::from_str(alloc, &self.text)?;

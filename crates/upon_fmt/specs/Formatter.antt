@@ -21,12 +21,12 @@ Writes old new (Err e) text =
     (message_of e ≡ None) × (is_marked new ≡ true) × (text_of new ≡ text_of old)
 
 -- the result is this end
-abbrev pub Ends : Result (Unit {0}) Error → FormatEnd → Type 0
-Ends (Ok u) end = end ≡ well
-Ends (Err e) end = end ≡ refused (message_of e)
+abbrev pub HasEnd : Result (Unit {0}) Error → FormatEnd → Type 0
+HasEnd (Ok u) end = end ≡ well
+HasEnd (Err e) end = end ≡ refused (message_of e)
 
 -- if no mark is set afterwards: none was set before, this text is appended, and the result is this end
 abbrev pub Formats : Formatter → Formatter → Result (Unit {0}) Error → Formatted → Type 0
 Formats old new result o =
     is_marked new ≡ false
-    → (is_marked old ≡ false) × (text_of new ≡ text_of old ++ o.text) × Ends result o.end
+    → (is_marked old ≡ false) × (text_of new ≡ text_of old ++ o.text) × HasEnd result o.end

@@ -5,8 +5,8 @@ use Rattle.upon_fmt.specs.Mark.{LeftOut}
 use Rattle.upon_fmt.specs.declared.output.Mark.{Mark}
 
 -- a beginning of the text was received: nothing of it, a part, or all
-abbrev pub Part : Option (List ℕ) → Option (List ℕ) → List ℕ → Type 0
-Part old new text = (received rest : List ℕ) × (text ≡ received ++ rest) × Appends old new received
+abbrev pub ReceivesPart : Option (List ℕ) → Option (List ℕ) → List ℕ → Type 0
+ReceivesPart old new text = (received rest : List ℕ) × (text ≡ received ++ rest) × Appends old new received
 
 -- a beginning of the text was received, and not all of it
 abbrev pub Short : Option (List ℕ) → Option (List ℕ) → List ℕ → Type 0

@@ -8,7 +8,7 @@ use Rattle.upon_types.specs.declared.value.Value.{Value}
 use Rattle.upon_types.specs.declared.value.cow.ValueCow.{ValueCow}
 use Rattle.upon_functions.specs.declared.function.CallError.{CallError}
 use Rattle.upon_functions.specs.Blames.{BlamesGiven}
-use Rattle.upon_functions.specs.Outcome.{Outcome, value, refusal, answer_of, Gives}
+use Rattle.upon_functions.specs.Outcome.{Returned, value, refusal, answer_of, Gives}
 use Rattle.upon_functions.specs.Says.{Says, Returns}
 use Rattle.upon_function_adapters.specs.Adapters.{adapter_answer, after_tests, unless_misfit}
 
@@ -16,11 +16,11 @@ passed : (ta tb : Test) (va vb : Val) (answer : Answer) → ta va ≡ None → t
 passed ta tb va vb answer p q =
     ap (λ m. unless_misfit m 0 (unless_misfit (tb vb) 1 answer)) p ∙ ap (λ m. unless_misfit m 1 answer) q
 
-blames : (vs : List Val) (o : Outcome) → BlamesGiven vs (answer_of o)
+blames : (vs : List Val) (o : Returned) → BlamesGiven vs (answer_of o)
 blames vs (value v) = tt
 blames vs (refusal text) = tt
 
-says : (copy : Bool) (r : Result Value CallError) (o : Option Outcome) (meant : Outcome) → Returns copy r o → Gives o meant → Says r (answer_of meant)
+says : (copy : Bool) (r : Result Value CallError) (o : Option Returned) (meant : Returned) → Returns copy r o → Gives o meant → Says r (answer_of meant)
 says copy r (Some o) meant h e = subst (λ it. Says r (answer_of it)) e h.0
 says copy r None meant h e = subst (λ it. Says it (answer_of meant)) (sym h) tt
 
@@ -28,7 +28,7 @@ says copy r None meant h e = subst (λ it. Says it (answer_of meant)) (sym h) tt
 abbrev pub Answered : List Val → Result Value CallError → Answer → Type 0
 Answered vs r answer = Says r answer × BlamesGiven vs answer
 
-pub of_two : (ta tb : Test) (meaning : List Val → Outcome) (vs : List Val) (va vb sa sb : Val) (copy : Bool) (r : Result Value CallError) (o : Option Outcome)
+pub of_two : (ta tb : Test) (meaning : List Val → Returned) (vs : List Val) (va vb sa sb : Val) (copy : Bool) (r : Result Value CallError) (o : Option Returned)
     → vs ≡ va ∷ vb ∷ [] → (ta va ≡ None) × (sa ≡ va) → (tb vb ≡ None) × (sb ≡ vb)
     → Gives o (meaning (sa ∷ sb ∷ [])) → Returns copy r o → Answered vs r (adapter_answer (ta ∷ tb ∷ []) meaning vs)
 of_two ta tb meaning vs va vb sa sb copy r o given a b gives returns =

@@ -1,7 +1,7 @@
 -- What an adapter answers: it tests the number of arguments, then each from the left, then its callable answers.
 use Rattle.std.specs.Prelude.{ℕ, ◌+◌, ◌==◌, List, ◌∷◌, Option, Some, None, length, if◌then◌else◌}
 use Rattle.upon_types.specs.Misfits.{Test}
-use Rattle.upon_functions.specs.Outcome.{Outcome, answer_of}
+use Rattle.upon_functions.specs.Outcome.{Returned, answer_of}
 use Rattle.upon_types.specs.Answers.{Answer, Misfit, wrong_number, wrong_argument}
 use Rattle.upon_types.specs.Val.{Val}
 
@@ -16,6 +16,6 @@ after_tests (test ∷ tests) i (v ∷ vs) answer = unless_misfit (test v) i (aft
 after_tests tests i vs answer = answer
 
 -- what an adapter with these tests answers, of a callable with this meaning
-abbrev pub adapter_answer : List Test → (List Val → Outcome) → List Val → Answer
+abbrev pub adapter_answer : List Test → (List Val → Returned) → List Val → Answer
 adapter_answer tests meaning vs =
     if length vs == length tests then after_tests tests 0 vs (answer_of (meaning vs)) else wrong_number (length tests)

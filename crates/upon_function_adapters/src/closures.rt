@@ -2,7 +2,7 @@
 ghost use Rattle.std.specs.Prelude.{◌∷◌, [], List};
 ghost use Rattle.upon_function_adapters.specs.Adapters.{adapter_answer};
 ghost use Rattle.upon_functions.specs.Blames.{BlamesGiven};
-ghost use Rattle.upon_functions.specs.Outcome.{Outcome, Gives};
+ghost use Rattle.upon_functions.specs.Outcome.{Returned, Gives};
 ghost use Rattle.upon_functions.specs.Says.{Says, arguments_view};
 ghost use Rattle.upon_types.specs.Val.{Val};
 
@@ -15,7 +15,7 @@ use upon_types::value::{Value, ValueCow};
 /// Names what a closure answers.
 pub trait Meaning {
     // Its outcome, by what its arguments denote.
-    ghost means: { List Val → Outcome };
+    ghost means: { List Val → Returned };
 }
 
 /// Calls a closure of one owned argument with the arguments of a call, as `Fn1` calls its callable. The errors are

@@ -1,7 +1,7 @@
 // Functions of callables that own their arguments, up to two.
 ghost use Rattle.std.specs.Prelude.{◌≡◌, ◌∷◌, [], List};
 ghost use Rattle.upon_function_adapters.specs.Adapters.{adapter_answer};
-ghost use Rattle.upon_functions.specs.Outcome.{Outcome, Gives};
+ghost use Rattle.upon_functions.specs.Outcome.{Returned, Gives};
 ghost use Rattle.upon_types.specs.Val.{Val};
 
 use std::alloc::Global;
@@ -14,7 +14,7 @@ use upon_types::value::{Value, ValueCow};
 /// A callable without arguments.
 pub trait Call0<R: FunctionReturn>: Drop {
     // Its outcome, by what its arguments denote.
-    ghost meaning: { Self → List Val → Outcome };
+    ghost meaning: { Self → List Val → Returned };
 
     /// Calls it.
     fn call(&self, alloc: Global) -> R
@@ -55,7 +55,7 @@ impl<C: Call0<R>, R: FunctionReturn + Drop> Function for Fn0<C, R> {
 /// A callable of one owned argument.
 pub trait Call1<A: OwnedArgument, R: FunctionReturn>: Drop {
     // Its outcome, by what its arguments denote.
-    ghost meaning: { Self → List Val → Outcome };
+    ghost meaning: { Self → List Val → Returned };
 
     /// Calls it.
     fn call(&self, alloc: Global, first: A) -> R
@@ -97,7 +97,7 @@ impl<C: Call1<A, R>, A: OwnedArgument + Drop, R: FunctionReturn + Drop> Function
 /// A callable of two owned arguments.
 pub trait Call2<A: OwnedArgument, B: OwnedArgument, R: FunctionReturn>: Drop {
     // Its outcome, by what its arguments denote.
-    ghost meaning: { Self → List Val → Outcome };
+    ghost meaning: { Self → List Val → Returned };
 
     /// Calls it.
     fn call(&self, alloc: Global, first: A, second: B) -> R

@@ -2,7 +2,7 @@
 ghost use Rattle.std.specs.Prelude.{◌≡◌, ◌∷◌, [], List};
 ghost use Rattle.upon_function_adapters.specs.Adapters.{adapter_answer};
 ghost use Rattle.upon_types.specs.Misfits.{str_misfit, list_misfit, map_misfit, any_misfit};
-ghost use Rattle.upon_functions.specs.Outcome.{Outcome, Gives};
+ghost use Rattle.upon_functions.specs.Outcome.{Returned, Gives};
 ghost use Rattle.upon_types.specs.Val.{Val, text_val, list_val, map_val};
 ghost use Rattle.upon_types.specs.View.{view, vals_view, entries_view};
 
@@ -17,7 +17,7 @@ use upon_types::value::{Value, ValueCow};
 /// A callable of a lent text.
 pub trait Call1S<R: FunctionReturn>: Drop {
     // Its outcome, by what its arguments denote.
-    ghost meaning: { Self → List Val → Outcome };
+    ghost meaning: { Self → List Val → Returned };
 
     /// Calls it.
     fn call(&self, alloc: Global, first: &str) -> R
@@ -59,7 +59,7 @@ impl<C: Call1S<R>, R: FunctionReturn + Drop> Function for Fn1S<C, R> {
 /// A callable of a lent list.
 pub trait Call1L<R: FunctionReturn>: Drop {
     // Its outcome, by what its arguments denote.
-    ghost meaning: { Self → List Val → Outcome };
+    ghost meaning: { Self → List Val → Returned };
 
     /// Calls it.
     fn call(&self, alloc: Global, first: &[Value]) -> R
@@ -101,7 +101,7 @@ impl<C: Call1L<R>, R: FunctionReturn + Drop> Function for Fn1L<C, R> {
 /// A callable of a lent map.
 pub trait Call1M<R: FunctionReturn>: Drop {
     // Its outcome, by what its arguments denote.
-    ghost meaning: { Self → List Val → Outcome };
+    ghost meaning: { Self → List Val → Returned };
 
     /// Calls it.
     fn call(&self, alloc: Global, first: &BTreeMap<String, Value>) -> R
@@ -143,7 +143,7 @@ impl<C: Call1M<R>, R: FunctionReturn + Drop> Function for Fn1M<C, R> {
 /// A callable of a lent value.
 pub trait Call1V<R: FunctionReturn>: Drop {
     // Its outcome, by what its arguments denote.
-    ghost meaning: { Self → List Val → Outcome };
+    ghost meaning: { Self → List Val → Returned };
 
     /// Calls it.
     fn call(&self, alloc: Global, first: &Value) -> R

@@ -1,7 +1,7 @@
 // Functions of callables that own their arguments, from three to five.
 ghost use Rattle.std.specs.Prelude.{◌≡◌, ◌∷◌, [], List};
 ghost use Rattle.upon_function_adapters.specs.Adapters.{adapter_answer};
-ghost use Rattle.upon_functions.specs.Outcome.{Outcome, Gives};
+ghost use Rattle.upon_functions.specs.Outcome.{Returned, Gives};
 ghost use Rattle.upon_types.specs.Val.{Val};
 
 use std::alloc::Global;
@@ -14,7 +14,7 @@ use upon_types::value::{Value, ValueCow};
 /// A callable of three owned arguments.
 pub trait Call3<A: OwnedArgument, B: OwnedArgument, C: OwnedArgument, R: FunctionReturn>: Drop {
     // Its outcome, by what its arguments denote.
-    ghost meaning: { Self → List Val → Outcome };
+    ghost meaning: { Self → List Val → Returned };
 
     /// Calls it.
     fn call(&self, alloc: Global, first: A, second: B, third: C) -> R
@@ -73,7 +73,7 @@ pub trait Call4<
     R: FunctionReturn,
 >: Drop {
     // Its outcome, by what its arguments denote.
-    ghost meaning: { Self → List Val → Outcome };
+    ghost meaning: { Self → List Val → Returned };
 
     /// Calls it.
     fn call(&self, alloc: Global, first: A, second: B, third: C, fourth: D) -> R
@@ -136,7 +136,7 @@ pub trait Call5<
     R: FunctionReturn,
 >: Drop {
     // Its outcome, by what its arguments denote.
-    ghost meaning: { Self → List Val → Outcome };
+    ghost meaning: { Self → List Val → Returned };
 
     /// Calls it.
     fn call(&self, alloc: Global, first: A, second: B, third: C, fourth: D, fifth: E) -> R

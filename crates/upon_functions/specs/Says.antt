@@ -1,7 +1,7 @@
 -- How the results of calls say the pure answers. That memory is out says nothing of them.
 use Rattle.std.specs.Prelude.{◌≡◌, ℕ, Bool, true, false, List, Option, Some, None, Result, Ok, Err, map}
 use Rattle.std.specs.Prelude.{string_bytes}
-use Rattle.upon_functions.specs.Outcome.{Outcome, answer_of}
+use Rattle.upon_functions.specs.Outcome.{Returned, answer_of}
 use Rattle.upon_functions.specs.declared.function.ArgError.{ArgError}
 use Rattle.upon_functions.specs.declared.function.ArgError.TheVariants.{WrongType, OutOfRange}
 use Rattle.upon_functions.specs.declared.function.CallError.{CallError}
@@ -32,14 +32,14 @@ Says (Err Memory) answer = Unit {0}
 
 -- what a callable returned becomes its outcome, and memory is out only when that is a copy; when memory was refused
 -- already, that is answered
-abbrev pub Returns : Bool → Result Value CallError → Option Outcome → Type 0
+abbrev pub Returns : Bool → Result Value CallError → Option Returned → Type 0
 Returns is_copy result (Some o) = Says result (answer_of o) × (result ≡ Err Memory → is_copy ≡ true)
 Returns is_copy result None = result ≡ Err Memory
 
 -- an error becomes a refusal with its text, and memory is out only when that is a copy
-abbrev pub Refuses : Bool → CallError → Option (List ℕ) → Type 0
-Refuses is_copy e (Some text) = Says (Err e) (declines text) × (e ≡ Memory → is_copy ≡ true)
-Refuses is_copy e None = e ≡ Memory
+abbrev pub DeclinesCall : Bool → CallError → Option (List ℕ) → Type 0
+DeclinesCall is_copy e (Some text) = Says (Err e) (declines text) × (e ≡ Memory → is_copy ≡ true)
+DeclinesCall is_copy e None = e ≡ Memory
 
 -- an argument that fits is taken as what it denotes, else its misfit is answered, at its index; memory is out only for
 -- a copy
@@ -51,8 +51,8 @@ Takes is_copy stands_for misfit i v (Err (Arity n)) = ⊥
 Takes is_copy stands_for misfit i v (Err (Fault text)) = ⊥
 
 -- the same of an argument that is borrowed, for which no memory is taken
-abbrev pub Lends : {A : Type 0} → (A → Val) → Option Misfit → ℕ → Val → Result A CallError → Type 0
-Lends = Takes false
+abbrev pub TakesLent : {A : Type 0} → (A → Val) → Option Misfit → ℕ → Val → Result A CallError → Type 0
+TakesLent = Takes false
 
 -- of an option: whether what is returned is a copy
 abbrev pub option_is_copy : {T : Type 0} → (T → Bool) → Option T → Bool

@@ -1,7 +1,7 @@
 // What a callable may return, and what becomes of it.
 ghost use Rattle.std.specs.Prelude.{Bool, List, ℕ, Option};
-ghost use Rattle.upon_functions.specs.Outcome.{Outcome};
-ghost use Rattle.upon_functions.specs.Says.{Returns, Refuses};
+ghost use Rattle.upon_functions.specs.Outcome.{Returned};
+ghost use Rattle.upon_functions.specs.Says.{Returns, DeclinesCall};
 
 use crate::function::CallError;
 use std::alloc::Global;
@@ -14,7 +14,7 @@ mod scalars;
 /// What a callable may return.
 pub trait FunctionReturn {
     // The outcome that it is; none where memory was refused.
-    ghost outcome: { Self → Option Outcome };
+    ghost outcome: { Self → Option Returned };
 
     // Whether its value or its message is a copy, for which alone memory is wanted.
     ghost is_copy: { Self → Bool };
@@ -36,7 +36,7 @@ pub trait FunctionError {
     /// Returns the refusal as a `Fault`, or `Memory` when there is no memory for a copy of the message or when that is
     /// the error.
     fn to_error(self, alloc: Global) -> CallError
-        ensures { Refuses is_copy result (message self) };
+        ensures { DeclinesCall is_copy result (message self) };
 }
 
 impl<T: FunctionReturn> FunctionReturn for Option<T> {

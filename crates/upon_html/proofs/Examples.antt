@@ -13,7 +13,7 @@ use Rattle.upon_meaning_spec.proofs.Computing.{computing}
 use Rattle.upon_meaning_spec.proofs.Examples.ShortContexts.{at, word, quoted, name, statements, shows, text, map_of, list_of, template, held}
 use Rattle.upon_woven_spec.specs.Marks.{only, raw_text, FromRawParts}
 use Rattle.upon_woven_spec.specs.Parts.{WovenOf}
-use Rattle.upon_woven_spec.specs.Pieces.{Piece, raw_part, written, joined}
+use Rattle.upon_woven_spec.specs.Pieces.{TextPiece, raw_part, written, joined}
 use Rattle.upon_engine.specs.Texts.{Texts}
 use Rattle.upon_engine.specs.Theorem.{rendering}
 use Rattle.upon_html.specs.Escape.{is_markup}
@@ -33,10 +33,10 @@ module _ (syntax : List DelimiterText) where
   plain = record { texts = λ name. None; callables = λ name. None; default_formatter = None; depth = 64; syntax = syntax }
 
   -- the pieces of a page, and of the same text without escaping, with these templates for its includes
-  abbrev page_on : List (List ℕ × Template) → Template → Val → List Piece
+  abbrev page_on : List (List ℕ × Template) → Template → Val → List TextPiece
   page_on templates t v = page_pieces (escaping_all plain) (held templates) None t.source t.tree v
 
-  abbrev unescaped_on : List (List ℕ × Template) → Template → Val → List Piece
+  abbrev unescaped_on : List (List ℕ × Template) → Template → Val → List TextPiece
   unescaped_on templates t v = page_pieces plain (held templates) None t.source t.tree v
 
   -- ---- `<b>{{ x }}</b>` on {x: "<b>"}: a raw part, what the formatter wrote for the value, a raw part

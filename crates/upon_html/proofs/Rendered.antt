@@ -8,7 +8,7 @@ use Rattle.upon_types.specs.Answers.{Formatter, Function}
 use Rattle.upon_types.specs.Tree.{Statements}
 use Rattle.upon_types.specs.Val.{Val}
 use Rattle.upon_types.specs.declared.error.Error.{Error}
-use Rattle.upon_render.specs.Asked.{never}
+use Rattle.upon_render.specs.Asked.{refuses_all}
 use Rattle.upon_render.specs.Environment.{context}
 use Rattle.upon_meaning_spec.specs.Alone.{alone}
 use Rattle.upon_meaning_spec.specs.DefaultFormat.{formatter_or_default}
@@ -19,10 +19,10 @@ use Rattle.upon_woven_spec.specs.Parts.{by_default, by_name, WritesOnly}
 use Rattle.upon_woven_spec.proofs.RawMarks.{raw_marks}
 use Rattle.upon_engine.specs.Answers.{AnswersText}
 use Rattle.upon_engine.specs.Base.{on_root, outcome_over}
-use Rattle.upon_engine.specs.Calls.{engine_in, values_in, templates_in, template_in, name_in, limit_in}
+use Rattle.upon_engine.specs.Calls.{engine_in, renderer_values, templates_in, template_in, name_in, limit_in}
 use Rattle.upon_engine.specs.Sources.{engine_of_templates, value_in}
 use Rattle.upon_engine.specs.Texts.{Texts, texts_of}
-use Rattle.upon_engine.specs.Theorem.{IsTable, rendering, meaning, Answers}
+use Rattle.upon_engine.specs.Theorem.{IsTable, rendering, meaning, AnswersTree}
 use Rattle.upon_engine.specs.declared.engine.Engine.{Engine as Held}
 use Rattle.upon_engine.specs.declared.renderer.Renderer.{Renderer}
 use Rattle.upon_engine.specs.declared.sources.EngineTemplates.{EngineTemplates}
@@ -72,31 +72,31 @@ module _ {X Y : Type 0} {P : X → Type 0} {Q : Y → Type 0} (formats : DynBox 
           calls = record {
             callables = λ n. option_map escaping_callable ((engine_of formats answers e).callables n);
             default_formatter = escaping (formatter_or_default (engine_of formats answers e).default_formatter);
-            ask = never;
+            ask = refuses_all;
           };
           resolve = from_table (engine_of formats answers behind).templates;
           limit = limit;
         }) t name (on_root (context v)) (states (tt {0}) (tt {0}))) result
 
     pub gives : (r : Renderer (Escaping (Bor (Held X Y P Q))) Context (EngineTemplates X Y P Q)) (e : Held X Y P Q) (t : Template) (name : Option (List ℕ)) (limit : ℕ) (v : Val)
-        → (callables_in (engine_in r)).now ≡ e → engine_of_templates (templates_in r) ≡ e → template_in r ≡ t → name_in r ≡ name → limit_in r ≡ limit → value_in (values_in r) ≡ v
-        → Gives (callables_in (engine_in r)).now (engine_of_templates (templates_in r)) (template_in r) (name_in r) (limit_in r) (value_in (values_in r)) → Gives e e t name limit v
+        → (callables_in (engine_in r)).now ≡ e → engine_of_templates (templates_in r) ≡ e → template_in r ≡ t → name_in r ≡ name → limit_in r ≡ limit → value_in (renderer_values r) ≡ v
+        → Gives (callables_in (engine_in r)).now (engine_of_templates (templates_in r)) (template_in r) (name_in r) (limit_in r) (value_in (renderer_values r)) → Gives e e t name limit v
     gives r e t name limit v ee ff tt' nn ll vv h =
         subst (λ z. Gives e e t name limit z) vv
-        (subst (λ z. Gives e e t name z (value_in (values_in r))) ll
-        (subst (λ z. Gives e e t z (limit_in r) (value_in (values_in r))) nn
-        (subst (λ z. Gives e e z (name_in r) (limit_in r) (value_in (values_in r))) tt'
-        (subst (λ z. Gives e z (template_in r) (name_in r) (limit_in r) (value_in (values_in r))) ff
-        (subst (λ z. Gives z (engine_of_templates (templates_in r)) (template_in r) (name_in r) (limit_in r) (value_in (values_in r))) ee h)))))
+        (subst (λ z. Gives e e t name z (value_in (renderer_values r))) ll
+        (subst (λ z. Gives e e t z (limit_in r) (value_in (renderer_values r))) nn
+        (subst (λ z. Gives e e z (name_in r) (limit_in r) (value_in (renderer_values r))) tt'
+        (subst (λ z. Gives e z (template_in r) (name_in r) (limit_in r) (value_in (renderer_values r))) ff
+        (subst (λ z. Gives z (engine_of_templates (templates_in r)) (template_in r) (name_in r) (limit_in r) (value_in (renderer_values r))) ee h)))))
 
   -- an answer by the engine's own templates is one by each table of its texts
   module _ (e : Held X Y P Q) where
     pub answers_all : (name : Option (List ℕ)) (t : Template) (source : List ℕ) (tree : Statements) (v : Val) (result : Result (String Global) Error)
-        → t ≡ made source tree → Gives result e e t name e.depth v → Answers (escaping_all (texts_of formats answers e)) name source tree v result
+        → t ≡ made source tree → Gives result e e t name e.depth v → AnswersTree (escaping_all (texts_of formats answers e)) name source tree v result
     answers_all name t source tree v result is said table it =
         subst (λ z. AnswersText e.depth (meaning (escaping_all (texts_of formats answers e)) z name source tree v) result) (sym (only_table (get_by_text e.templates) table it))
         (subst (λ z. AnswersText e.depth (alone (rendering (escaping_all (texts_of formats answers e)) (engine_of formats answers e).templates) z name (context v) (states tt tt)) result) is said)
 
     pub markup_of : (name : Option (List ℕ)) (source : List ℕ) (tree : Statements) (v : Val) (result : Result (String Global) Error)
-        → Answers (escaping_all (texts_of formats answers e)) name source tree v result → (table : Table) → IsTable (texts_of formats answers e).texts table → MarkupIsRaw (escaping_all (texts_of formats answers e)) table name source tree v result
+        → AnswersTree (escaping_all (texts_of formats answers e)) name source tree v result → (table : Table) → IsTable (texts_of formats answers e).texts table → MarkupIsRaw (escaping_all (texts_of formats answers e)) table name source tree v result
     markup_of name source tree v result said table it = raw_answer (texts_of formats answers e) table name source tree v result (said table it)

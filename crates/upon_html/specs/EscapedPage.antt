@@ -9,7 +9,7 @@ use Rattle.upon_meaning_spec.specs.DefaultFormat.{formatter_or_default}
 use Rattle.upon_meaning_spec.specs.Engine.{Template, Table}
 use Rattle.upon_meaning_spec.specs.Outcome.{states}
 use Rattle.upon_woven_spec.specs.Marks.{FromRawParts}
-use Rattle.upon_woven_spec.specs.Pieces.{Piece, pieces_of}
+use Rattle.upon_woven_spec.specs.Pieces.{TextPiece, pieces_of}
 use Rattle.upon_engine.specs.Texts.{Texts}
 use Rattle.upon_engine.specs.Theorem.{rendering}
 use Rattle.upon_html.specs.Escape.{is_markup}
@@ -27,7 +27,7 @@ abbrev pub page : List ℕ → Statements → Template
 page source tree = record { source = source; tree = tree }
 
 -- of which pieces the text of a page on a value is made, under a name or none
-abbrev pub page_pieces : Texts → Table → Option (List ℕ) → List ℕ → Statements → Val → List Piece
+abbrev pub page_pieces : Texts → Table → Option (List ℕ) → List ℕ → Statements → Val → List TextPiece
 page_pieces e table name source tree v =
     pieces_of (rendering e table) (page source tree) name (context v) (states tt tt)
 

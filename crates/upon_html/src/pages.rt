@@ -6,7 +6,7 @@ ghost use Rattle.upon_language_spec.specs.Grammar.{HasTree};
 ghost use Rattle.upon_meaning_spec.specs.Engine.{Table};
 ghost use Rattle.upon_syntax.specs.TagReading.{IsSyntaxError};
 ghost use Rattle.upon_engine.specs.Texts.{Stored};
-ghost use Rattle.upon_engine.specs.Theorem.{Answers, IsTable};
+ghost use Rattle.upon_engine.specs.Theorem.{AnswersTree, IsTable};
 ghost use Rattle.upon_html.specs.EscapedPage.{MarkupIsRaw, escaping_all};
 
 use crate::callables::Escaping;
@@ -26,7 +26,7 @@ pub fn render_text(engine: &Engine<'_>, source: &str, value: &Value) -> Result<S
     // If the source has a tree, the answer is what that tree means on the value, where each formatter escapes.
     ensures means { let texts = ⟦<AnyEngine as EngineTexts>⟧.texts engine.now in
         (tree : Statements) → HasTree texts.syntax source.now tree
-        → Answers (escaping_all texts) None source.now tree (view value.now) result }
+        → AnswersTree (escaping_all texts) None source.now tree (view value.now) result }
     // If it has none, the answer is its first fault, or that memory is out.
     ensures refused { let texts = ⟦<AnyEngine as EngineTexts>⟧.texts engine.now in
         ((tree : Statements) → HasTree texts.syntax source.now tree → ⊥)
@@ -49,7 +49,7 @@ pub fn render_template(engine: &Engine<'_>, name: &str, value: &Value) -> Option
     // If a text is held under the name, the answer is what its tree means on the value, where each formatter escapes.
     ensures means { let texts = ⟦<AnyEngine as EngineTexts>⟧.texts engine.now in
         (held : Stored) (tree : Statements) → texts.texts name.now ≡ Some held → ∥ HasTree held.syntax held.text tree ∥₁
-        → IsSomeAnd result (Answers (escaping_all texts) (Some name.now) held.text tree (view value.now)) }
+        → IsSomeAnd result (AnswersTree (escaping_all texts) (Some name.now) held.text tree (view value.now)) }
     // If none is, there is no answer.
     ensures absent { (⟦<AnyEngine as EngineTexts>⟧.texts engine.now).texts name.now ≡ None
         → IsNone result }

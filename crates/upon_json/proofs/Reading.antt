@@ -7,23 +7,23 @@ use Rattle.upon_types.specs.Val.{Val, none_val, bool_val, text_val, list_val, ma
 use Rattle.upon_types.specs.View.{view, vals_view}
 use Rattle.upon_types.specs.declared.value.Value.{Value}
 use Rattle.upon_json.specs.Reads.{reads, reads_items, reads_members}
-use Rattle.upon_json.specs.Value.{number_val, value_of, values_of, entries_over, put}
+use Rattle.upon_json.specs.Value.{number_val, value_of_json, items_values, members_over, put}
 
 -- ---- a value of one token
 pub reads-null : (depth : ℕ) (ts : List Token) → reads depth (Token.null ∷ ts) ≡ Some (none_val, ts)
-reads-null depth ts = ap (parse_map value_of) (value_is depth (Token.null ∷ ts))
+reads-null depth ts = ap (parse_map value_of_json) (value_is depth (Token.null ∷ ts))
 
 pub reads-boolean : (depth : ℕ) (b : Bool) (ts : List Token) → reads depth (Token.boolean b ∷ ts) ≡ Some (bool_val b, ts)
-reads-boolean depth b ts = ap (parse_map value_of) (value_is depth (Token.boolean b ∷ ts))
+reads-boolean depth b ts = ap (parse_map value_of_json) (value_is depth (Token.boolean b ∷ ts))
 
 pub reads-number : (depth : ℕ) (text : List ℕ) (ts : List Token) → reads depth (Token.number text ∷ ts) ≡ Some (number_val text, ts)
-reads-number depth text ts = ap (parse_map value_of) (value_is depth (Token.number text ∷ ts))
+reads-number depth text ts = ap (parse_map value_of_json) (value_is depth (Token.number text ∷ ts))
 
 pub reads-string : (depth : ℕ) (text : List ℕ) (ts : List Token) → reads depth (Token.string text ∷ ts) ≡ Some (text_val text, ts)
-reads-string depth text ts = ap (parse_map value_of) (value_is depth (Token.string text ∷ ts))
+reads-string depth text ts = ap (parse_map value_of_json) (value_is depth (Token.string text ∷ ts))
 
 pub reads-nothing : (depth : ℕ) → reads depth [] ≡ None
-reads-nothing depth = ap (parse_map value_of) (value_is depth [])
+reads-nothing depth = ap (parse_map value_of_json) (value_is depth [])
 
 -- ---- a list and an object
 abbrev in_list : Option (Vals × List Token) → Option (Val × List Token)
@@ -40,21 +40,21 @@ pub reads-begin_array : (depth inner : ℕ) (ts : List Token) → depth ≡ inne
 reads-begin_array depth inner ts deeper =
     let some : 0 < depth = omega arith in
     let less : depth - 1 ≡ inner = omega arith in
-    ap (parse_map value_of) (value-begin_array depth ts some ∙ ap (λ d. parse_map array (items (value d) (length ts) ts)) less)
-    ∙ turned array value_of values_of list_val (items (value inner) (length ts) ts) (λ js. refl)
+    ap (parse_map value_of_json) (value-begin_array depth ts some ∙ ap (λ d. parse_map array (items (value d) (length ts) ts)) less)
+    ∙ turned array value_of_json items_values list_val (items (value inner) (length ts) ts) (λ js. refl)
 
 pub reads-begin_object : (depth inner : ℕ) (ts : List Token) → depth ≡ inner + 1 → reads depth (Token.begin_object ∷ ts) ≡ in_map (reads_members inner ts)
 reads-begin_object depth inner ts deeper =
     let some : 0 < depth = omega arith in
     let less : depth - 1 ≡ inner = omega arith in
-    ap (parse_map value_of) (value-begin_object depth ts some ∙ ap (λ d. parse_map object (members (value d) (length ts) ts)) less)
-    ∙ turned object value_of (λ ms. entries_over ms no_entries) map_val (members (value inner) (length ts) ts) (λ ms. refl)
+    ap (parse_map value_of_json) (value-begin_object depth ts some ∙ ap (λ d. parse_map object (members (value d) (length ts) ts)) less)
+    ∙ turned object value_of_json (λ ms. members_over ms no_entries) map_val (members (value inner) (length ts) ts) (λ ms. refl)
 
 pub reads-array-too_deep : (depth : ℕ) (ts : List Token) → depth ≡ 0 → reads depth (Token.begin_array ∷ ts) ≡ None
-reads-array-too_deep depth ts none = ap (λ d. reads d (Token.begin_array ∷ ts)) none ∙ ap (parse_map value_of) (value_is zero (Token.begin_array ∷ ts))
+reads-array-too_deep depth ts none = ap (λ d. reads d (Token.begin_array ∷ ts)) none ∙ ap (parse_map value_of_json) (value_is zero (Token.begin_array ∷ ts))
 
 pub reads-object-too_deep : (depth : ℕ) (ts : List Token) → depth ≡ 0 → reads depth (Token.begin_object ∷ ts) ≡ None
-reads-object-too_deep depth ts none = ap (λ d. reads d (Token.begin_object ∷ ts)) none ∙ ap (parse_map value_of) (value_is zero (Token.begin_object ∷ ts))
+reads-object-too_deep depth ts none = ap (λ d. reads d (Token.begin_object ∷ ts)) none ∙ ap (parse_map value_of_json) (value_is zero (Token.begin_object ∷ ts))
 
 -- ---- the JSON behind what was read
 abbrev IsNone : {A : Type 0} → Option A → Type 0
@@ -90,50 +90,50 @@ vals_joined-next (w ∷ vs) v ws = ap (val_then (view w)) (vals_joined-next vs v
 
 -- what the tokens hold of a list of which these values were read, in as many turns at most
 abbrev pub list_from : List Value → ℕ → ℕ → List Token → Option (Vals × List Token)
-list_from vs depth turns ts = parse_map (λ js. vals_joined (vals_view vs) (values_of js)) (items (value depth) turns ts)
+list_from vs depth turns ts = parse_map (λ js. vals_joined (vals_view vs) (items_values js)) (items (value depth) turns ts)
 
-joined_next : (vs : List Value) (v : Value) (j : Json) (r : Option (Items × List Token)) → value_of j ≡ view v
-    → parse_map (λ js. vals_joined (vals_view vs) (values_of js)) (parse_map (item j) r) ≡ parse_map (λ js. vals_joined (vals_view (vs ++ v ∷ [])) (values_of js)) r
+joined_next : (vs : List Value) (v : Value) (j : Json) (r : Option (Items × List Token)) → value_of_json j ≡ view v
+    → parse_map (λ js. vals_joined (vals_view vs) (items_values js)) (parse_map (item j) r) ≡ parse_map (λ js. vals_joined (vals_view (vs ++ v ∷ [])) (items_values js)) r
 joined_next vs v j None is = refl
-joined_next vs v j (Some p) is = ap (λ ws. Some (ws, p.1)) (ap (λ w. vals_joined (vals_view vs) (val_then w (values_of p.0))) is ∙ vals_joined-next vs v (values_of p.0))
+joined_next vs v j (Some p) is = ap (λ ws. Some (ws, p.1)) (ap (λ w. vals_joined (vals_view vs) (val_then w (items_values p.0))) is ∙ vals_joined-next vs v (items_values p.0))
 
 pub list_next : (vs : List Value) (v : Value) (depth turns : ℕ) (ts rest : List Token) → 0 < turns → after_end_array ts ≡ None → reads depth ts ≡ Some (view v, rest)
     → list_from vs depth turns ts ≡ list_from (vs ++ v ∷ []) depth (turns - 1) rest
 list_next vs v depth turns ts rest some more is =
-    let json = mapped value_of (value depth ts) (view v) rest is in
-    ap (parse_map (λ js. vals_joined (vals_view vs) (values_of js))) (items_more (value depth) turns ts rest json.0 some more json.1)
+    let json = mapped value_of_json (value depth ts) (view v) rest is in
+    ap (parse_map (λ js. vals_joined (vals_view vs) (items_values js))) (items_more (value depth) turns ts rest json.0 some more json.1)
     ∙ joined_next vs v json.0 (items (value depth) (turns - 1) rest) json.2
 
 pub list_stops : (vs : List Value) (depth turns : ℕ) (ts : List Token) → after_end_array ts ≡ None → reads depth ts ≡ None → list_from vs depth turns ts ≡ None
 list_stops vs depth turns ts more none =
-    ap (parse_map (λ js. vals_joined (vals_view vs) (values_of js))) (items_fail (value depth) turns ts more (unmapped value_of (value depth ts) none))
+    ap (parse_map (λ js. vals_joined (vals_view vs) (items_values js))) (items_fail (value depth) turns ts more (unmapped value_of_json (value depth ts) none))
 
 pub list_ends : (vs : List Value) (depth turns : ℕ) (ts rest : List Token) → length ts ≤ turns → after_end_array ts ≡ Some rest → list_from vs depth turns ts ≡ Some (vals_view vs, rest)
 list_ends vs depth turns ts rest enough ends =
-    ap (parse_map (λ js. vals_joined (vals_view vs) (values_of js))) (items_end (value depth) turns ts rest enough ends) ∙ ap (λ ws. Some (ws, rest)) (vals_joined-none (vals_view vs))
+    ap (parse_map (λ js. vals_joined (vals_view vs) (items_values js))) (items_end (value depth) turns ts rest enough ends) ∙ ap (λ ws. Some (ws, rest)) (vals_joined-none (vals_view vs))
 
 -- ---- an object, as far as it was read
 abbrev pub map_from : Entries → ℕ → ℕ → List Token → Option (Entries × List Token)
-map_from es depth turns ts = parse_map (λ ms. entries_over ms es) (members (value depth) turns ts)
+map_from es depth turns ts = parse_map (λ ms. members_over ms es) (members (value depth) turns ts)
 
-put_next : (es : Entries) (k : List ℕ) (v : Val) (j : Json) (r : Option (Members × List Token)) → value_of j ≡ v
-    → parse_map (λ ms. entries_over ms es) (parse_map (member k j) r) ≡ parse_map (λ ms. entries_over ms (put k v es)) r
+put_next : (es : Entries) (k : List ℕ) (v : Val) (j : Json) (r : Option (Members × List Token)) → value_of_json j ≡ v
+    → parse_map (λ ms. members_over ms es) (parse_map (member k j) r) ≡ parse_map (λ ms. members_over ms (put k v es)) r
 put_next es k v j None is = refl
-put_next es k v j (Some p) is = ap (λ w. Some (entries_over p.0 (put k w es), p.1)) is
+put_next es k v j (Some p) is = ap (λ w. Some (members_over p.0 (put k w es), p.1)) is
 
 pub map_next : (es : Entries) (k : List ℕ) (v : Val) (depth turns : ℕ) (ts after rest : List Token) → 0 < turns → read_key ts ≡ Some (Some k, after) → reads depth after ≡ Some (v, rest)
     → map_from es depth turns ts ≡ map_from (put k v es) depth (turns - 1) rest
 map_next es k v depth turns ts after rest some key is =
-    let json = mapped value_of (value depth after) v rest is in
-    ap (parse_map (λ ms. entries_over ms es)) (members_more (value depth) turns k ts after rest json.0 some key json.1)
+    let json = mapped value_of_json (value depth after) v rest is in
+    ap (parse_map (λ ms. members_over ms es)) (members_more (value depth) turns k ts after rest json.0 some key json.1)
     ∙ put_next es k v json.0 (members (value depth) (turns - 1) rest) json.2
 
 pub map_stops : (es : Entries) (k : List ℕ) (depth turns : ℕ) (ts after : List Token) → read_key ts ≡ Some (Some k, after) → reads depth after ≡ None → map_from es depth turns ts ≡ None
 map_stops es k depth turns ts after key none =
-    ap (parse_map (λ ms. entries_over ms es)) (members_fail (value depth) turns k ts after key (unmapped value_of (value depth after) none))
+    ap (parse_map (λ ms. members_over ms es)) (members_fail (value depth) turns k ts after key (unmapped value_of_json (value depth after) none))
 
 pub map_lacks_key : (es : Entries) (depth turns : ℕ) (ts : List Token) → read_key ts ≡ None → map_from es depth turns ts ≡ None
-map_lacks_key es depth turns ts none = ap (parse_map (λ ms. entries_over ms es)) (members_no_key (value depth) turns ts none)
+map_lacks_key es depth turns ts none = ap (parse_map (λ ms. members_over ms es)) (members_no_key (value depth) turns ts none)
 
 pub map_ends : (es : Entries) (depth turns : ℕ) (ts rest : List Token) → length ts ≤ turns → read_key ts ≡ Some (None, rest) → map_from es depth turns ts ≡ Some (es, rest)
-map_ends es depth turns ts rest enough ends = ap (parse_map (λ ms. entries_over ms es)) (members_end (value depth) turns ts rest enough ends)
+map_ends es depth turns ts rest enough ends = ap (parse_map (λ ms. members_over ms es)) (members_end (value depth) turns ts rest enough ends)

@@ -13,7 +13,7 @@ use Rattle.upon_types.specs.Val.{Val, none_val, bool_val, int_val, text_val, lis
 use Rattle.upon_types.specs.View.{view, entries_view}
 use Rattle.upon_types.specs.declared.value.Value.{Value}
 use Rattle.upon_types.proofs.Views.{Entry}
-use Rattle.upon_json.specs.Value.{is_integer, put, value_of, entries_over}
+use Rattle.upon_json.specs.Value.{is_integer, put, value_of_json, members_over}
 
 -- ---- an insertion
 pub entries_view-insert : (es : List Entry) (k : String Global) (v : Value) → entries_view (insert_entry string_cmp es k v) ≡ put (string_bytes k) (view v) (entries_view es)
@@ -46,9 +46,9 @@ rises-put k v es rise =
     let R = slice_cmp nat_cmp in
     subst (λ list. T (is_sorted R list)) (sym (entry_list-put k v es)) (is_sorted-put R nat_list_cmp_total k v (entry_list es) rise)
 
-rises-over : (ms : Members) (es : Entries) → T (rises es) → T (rises (entries_over ms es))
+rises-over : (ms : Members) (es : Entries) → T (rises es) → T (rises (members_over ms es))
 rises-over no_members es rise = rise
-rises-over (member k j ms) es rise = rises-over ms (put k (value_of j) es) (rises-put k (value_of j) es rise)
+rises-over (member k j ms) es rise = rises-over ms (put k (value_of_json j) es) (rises-put k (value_of_json j) es rise)
 
 abbrev entries_or_none : Val → Entries
 entries_or_none none_val = no_entries
@@ -62,10 +62,10 @@ abbrev entries_of_some : Option Val → Entries
 entries_of_some None = no_entries
 entries_of_some (Some v) = entries_or_none v
 
-of_number : (text : List ℕ) → T (rises (entries_or_none (value_of (number text))))
+of_number : (text : List ℕ) → T (rises (entries_or_none (value_of_json (number text))))
 of_number text = elim (is_integer text) as (λ b. T (rises (entries_or_none (if b then int_val (signed_digits_value 10 text) else text_val text)))) [ true ↦ tt | false ↦ tt ]
 
-rises-value : (j : Json) → T (rises (entries_or_none (value_of j)))
+rises-value : (j : Json) → T (rises (entries_or_none (value_of_json j)))
 rises-value null = tt
 rises-value (boolean b) = tt
 rises-value (number text) = of_number text
@@ -73,10 +73,10 @@ rises-value (string text) = tt
 rises-value (array js) = tt
 rises-value (object ms) = rises-over ms no_entries tt
 
-rises-some : (o : Option Json) → T (rises (entries_of_some (option_map value_of o)))
+rises-some : (o : Option Json) → T (rises (entries_of_some (option_map value_of_json o)))
 rises-some None = tt
 rises-some (Some j) = rises-value j
 
 -- of the map that JSON is
-pub rises-map : (o : Option Json) (es : Entries) → option_map value_of o ≡ Some (map_val es) → rises es ≡ true
+pub rises-map : (o : Option Json) (es : Entries) → option_map value_of_json o ≡ Some (map_val es) → rises es ≡ true
 rises-map o es is = is_true _ (subst (λ v. T (rises (entries_of_some v))) is (rises-some o))

@@ -46,26 +46,26 @@ IsSetOver pairs es (map_val new) = IsTrue (rises new)
 IsSetOver pairs es v = ⊥
 
 -- the context: the entries of the text, with the texts set over them
-abbrev pub IsContext : Option (List ℕ) → List (List ℕ × Val) → Val → Type 0
-IsContext json pairs v = (es : Entries) × HasEntries json es × IsSetOver pairs es v
+abbrev pub IsJsonContext : Option (List ℕ) → List (List ℕ × Val) → Val → Type 0
+IsJsonContext json pairs v = (es : Entries) × HasEntries json es × IsSetOver pairs es v
 
 -- a text of JSON that is neither an object nor a list
 abbrev pub IsNoObject : List ℕ → Type 0
 IsNoObject text = (v : Val) × (text_value text ≡ Some v) × (entries_in v ≡ None)
 
 -- Memory is out, or the text has no entries: it is no JSON, or it is neither an object nor a list.
-abbrev pub IsRefusal : Option (List ℕ) → DataFault → Type 0
-IsRefusal json OutOfMemory = Unit {0}
-IsRefusal None (Refused refusal) = ⊥
-IsRefusal None NotObject = ⊥
-IsRefusal (Some text) (Refused refusal) = text_value text ≡ None
-IsRefusal (Some text) NotObject = IsNoObject text
+abbrev pub IsContextRefusal : Option (List ℕ) → DataFault → Type 0
+IsContextRefusal json OutOfMemory = Unit {0}
+IsContextRefusal None (Refused refusal) = ⊥
+IsContextRefusal None NotObject = ⊥
+IsContextRefusal (Some text) (Refused refusal) = text_value text ≡ None
+IsContextRefusal (Some text) NotObject = IsNoObject text
 
 -- memory is out
-abbrev pub is_memory : DataFault → Bool
-is_memory (Refused refusal) = false
-is_memory NotObject = false
-is_memory OutOfMemory = true
+abbrev pub is_context_memory : DataFault → Bool
+is_context_memory (Refused refusal) = false
+is_context_memory NotObject = false
+is_context_memory OutOfMemory = true
 
 -- a text is no JSON, or memory is out
 abbrev pub is_refused : DataFault → Bool

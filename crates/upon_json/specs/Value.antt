@@ -36,20 +36,20 @@ put key v (entry_then other w es) = match_ordering (slice_cmp nat_cmp key other)
 
 abbrev mutual
   -- the value
-  pub value_of : Json → Val
-  value_of null = none_val
-  value_of (boolean b) = bool_val b
-  value_of (number text) = number_val text
-  value_of (string text) = text_val text
-  value_of (array js) = list_val (values_of js)
-  value_of (object ms) = map_val (entries_over ms no_entries)
+  pub value_of_json : Json → Val
+  value_of_json null = none_val
+  value_of_json (boolean b) = bool_val b
+  value_of_json (number text) = number_val text
+  value_of_json (string text) = text_val text
+  value_of_json (array js) = list_val (items_values js)
+  value_of_json (object ms) = map_val (members_over ms no_entries)
 
   -- the values of items
-  pub values_of : Items → Vals
-  values_of no_items = no_vals
-  values_of (item j js) = val_then (value_of j) (values_of js)
+  pub items_values : Items → Vals
+  items_values no_items = no_vals
+  items_values (item j js) = val_then (value_of_json j) (items_values js)
 
   -- entries with the members' values put at their keys, one after the other
-  pub entries_over : Members → Entries → Entries
-  entries_over no_members es = es
-  entries_over (member key j ms) es = entries_over ms (put key (value_of j) es)
+  pub members_over : Members → Entries → Entries
+  members_over no_members es = es
+  members_over (member key j ms) es = members_over ms (put key (value_of_json j) es)

@@ -2,8 +2,8 @@
 ghost use Rattle.std.specs.Prelude.{◌≡◌, IfOk, IfErr, Some, true, option_map, codes};
 ghost use Rattle.upon_types.specs.Val.{entry_then, list_val, no_entries, rises};
 ghost use Rattle.upon_types.specs.View.{view, vals_view, entries_view};
-ghost use Rattle.upon_json.specs.Context.{HasEntries, IsContext, IsRefusal, is_memory, is_refused, set_pairs, text_value, without_mark};
-ghost use Rattle.upon_json.specs.Reads.{is_memory as is_memory_fault};
+ghost use Rattle.upon_json.specs.Context.{HasEntries, IsContextRefusal, IsJsonContext, is_context_memory, is_refused, set_pairs, text_value, without_mark};
+ghost use Rattle.upon_json.specs.Reads.{is_memory_fault};
 
 use crate::refusal::{Place, Refusal, said_of};
 use crate::value::{ReadFault, read_whole};
@@ -24,7 +24,7 @@ pub enum DataFault {
 }
 
 impl From<AllocError> for DataFault {
-    ghost from_gives = { λ _ fault. is_memory fault ≡ true };
+    ghost from_gives = { λ _ fault. is_context_memory fault ≡ true };
 
     fn from(_: AllocError) -> DataFault {
         DataFault::OutOfMemory
@@ -32,7 +32,7 @@ impl From<AllocError> for DataFault {
 }
 
 impl<T: Drop> From<AllocFailed<T>> for DataFault {
-    ghost from_gives = { λ _ fault. is_memory fault ≡ true };
+    ghost from_gives = { λ _ fault. is_context_memory fault ≡ true };
 
     fn from(_: AllocFailed<T>) -> DataFault {
         DataFault::OutOfMemory
@@ -50,8 +50,8 @@ impl<T: Drop> From<AllocFailed<T>> for DataFault {
 /// object nor a list, and `OutOfMemory`.
 pub fn context(alloc: Global, json: Option<&str>, set: &[(&str, &str)]) -> Result<Value, DataFault>
     ensures read { IfOk result
-        (λ v. IsContext (option_map (λ text. text.now) json.entry) (set_pairs set.now) (view v)) }
-    ensures refused { IfErr result (IsRefusal (option_map (λ text. text.now) json.entry)) }
+        (λ v. IsJsonContext (option_map (λ text. text.now) json.entry) (set_pairs set.now) (view v)) }
+    ensures refused { IfErr result (IsContextRefusal (option_map (λ text. text.now) json.entry)) }
 {
     let mut entries = match json {
         Some(text) => entries_of(alloc, text)?,
@@ -68,7 +68,7 @@ pub fn context(alloc: Global, json: Option<&str>, set: &[(&str, &str)]) -> Resul
 fn entries_of(alloc: Global, text: &str) -> Result<BTreeMap<String, Value>, DataFault>
     ensures read { IfOk result (λ m. HasEntries (Some text.now) (entries_view m.entries)) }
     ensures rise { IfOk result (λ m. rises (entries_view m.entries) ≡ true) }
-    ensures refused { IfErr result (IsRefusal (Some text.now)) }
+    ensures refused { IfErr result (IsContextRefusal (Some text.now)) }
 {
     match value_of(alloc, text)? {
         Value::Map(entries) => Ok(entries),
@@ -83,7 +83,7 @@ fn entries_of(alloc: Global, text: &str) -> Result<BTreeMap<String, Value>, Data
 fn of_list(alloc: Global, items: Vec<Value>) -> Result<BTreeMap<String, Value>, DataFault>
     ensures entries { IfOk result (λ m. entries_view m.entries
         ≡ entry_then (codes "items") (list_val (vals_view items.items)) no_entries) }
-    ensures memory { IfErr result (λ fault. is_memory fault ≡ true) }
+    ensures memory { IfErr result (λ fault. is_context_memory fault ≡ true) }
 {
     let key = String::from_str(alloc, "items")?;
     let mut entries = BTreeMap::new(alloc);
@@ -94,7 +94,7 @@ fn of_list(alloc: Global, items: Vec<Value>) -> Result<BTreeMap<String, Value>, 
 // The value that a text is.
 fn value_of(alloc: Global, text: &str) -> Result<Value, DataFault>
     ensures read { IfOk result (λ v. text_value text.now ≡ Some (view v)) }
-    ensures refused { IfErr result (IsRefusal (Some text.now)) }
+    ensures refused { IfErr result (IsContextRefusal (Some text.now)) }
 {
     let text = without_mark(text);
     let mut scratch = Scratch::new(alloc);
@@ -118,7 +118,7 @@ fn without_mark(text: &str) -> &str
 // Why a text is refused that reading stopped in, so many bytes into it.
 #[cold]
 fn refusal(alloc: Global, text: &str, fault: ReadFault, offset: usize) -> DataFault
-    ensures memory { is_memory_fault fault ≡ true → is_memory result ≡ true }
+    ensures memory { is_memory_fault fault ≡ true → is_context_memory result ≡ true }
     ensures refused { is_refused result ≡ true }
 {
     match fault {

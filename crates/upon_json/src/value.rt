@@ -1,7 +1,7 @@
 // The value of JSON, built as its text is read: no tree of JSON stands between.
 ghost use Rattle.std.specs.Prelude.{◌≡◌, ◌<◌, ◌+◌, length, Some, None, true, false, IfOk, IfErr, OnOk, MatchResult};
 ghost use Rattle.upon_types.specs.View.{view, vals_view, entries_view};
-ghost use Rattle.upon_json.specs.Reads.{is_memory, reads, reads_items, reads_members, reads_whole};
+ghost use Rattle.upon_json.specs.Reads.{is_memory_fault, reads, reads_items, reads_members, reads_whole};
 ghost use Rattle.upon_json.specs.Value.{number_val, put};
 
 use json::{Invalid, MAX_DEPTH, Reader, Token};
@@ -21,7 +21,7 @@ pub enum ReadFault {
 }
 
 impl From<Invalid> for ReadFault {
-    ghost from_gives = { λ _ fault. is_memory fault ≡ false };
+    ghost from_gives = { λ _ fault. is_memory_fault fault ≡ false };
 
     fn from(_: Invalid) -> ReadFault {
         ReadFault::NotJson
@@ -29,7 +29,7 @@ impl From<Invalid> for ReadFault {
 }
 
 impl From<AllocError> for ReadFault {
-    ghost from_gives = { λ _ fault. is_memory fault ≡ true };
+    ghost from_gives = { λ _ fault. is_memory_fault fault ≡ true };
 
     fn from(_: AllocError) -> ReadFault {
         ReadFault::OutOfMemory
@@ -37,7 +37,7 @@ impl From<AllocError> for ReadFault {
 }
 
 impl<T: Drop> From<AllocFailed<T>> for ReadFault {
-    ghost from_gives = { λ _ fault. is_memory fault ≡ true };
+    ghost from_gives = { λ _ fault. is_memory_fault fault ≡ true };
 
     fn from(_: AllocFailed<T>) -> ReadFault {
         ReadFault::OutOfMemory
@@ -49,7 +49,7 @@ impl<T: Drop> From<AllocFailed<T>> for ReadFault {
 /// The error is `NotJson` or `TooDeep` if they are no value, and `OutOfMemory`.
 pub fn read_whole(alloc: Global, reader: &mut Reader<'_>) -> Result<Value, ReadFault>
     ensures read { IfOk result (λ v. reads_whole reader.old ≡ Some (view v)) }
-    ensures refused { IfErr result (λ fault. is_memory fault ≡ false → reads_whole reader.old ≡ None) }
+    ensures refused { IfErr result (λ fault. is_memory_fault fault ≡ false → reads_whole reader.old ≡ None) }
 {
     let value = read(alloc, reader, MAX_DEPTH)?;
     match reader.next() {
@@ -65,7 +65,7 @@ pub fn read_whole(alloc: Global, reader: &mut Reader<'_>) -> Result<Value, ReadF
 pub fn read(alloc: Global, reader: &mut Reader<'_>, depth: usize) -> Result<Value, ReadFault>
     ensures read { IfOk result (λ v. reads depth reader.old ≡ Some (view v, reader.new)) }
     ensures shorter { OnOk result (length reader.new < length reader.old) }
-    ensures refused { IfErr result (λ fault. is_memory fault ≡ false → reads depth reader.old ≡ None) }
+    ensures refused { IfErr result (λ fault. is_memory_fault fault ≡ false → reads depth reader.old ≡ None) }
 {
     let offset = reader.offset();
     let Some(token) = reader.next() else {
@@ -84,7 +84,7 @@ pub fn read(alloc: Global, reader: &mut Reader<'_>, depth: usize) -> Result<Valu
 
 // How deep lists and objects may nest inside one that begins at this offset.
 fn inside(depth: usize, offset: usize) -> Result<usize, ReadFault>
-    ensures { MatchResult result (λ inner. depth ≡ inner + 1) (λ fault. (depth ≡ 0) × (is_memory fault ≡ false)) }
+    ensures { MatchResult result (λ inner. depth ≡ inner + 1) (λ fault. (depth ≡ 0) × (is_memory_fault fault ≡ false)) }
 {
     match depth.checked_sub(1) {
         Some(inner) => Ok(inner),
@@ -107,7 +107,7 @@ fn number(alloc: Global, text: &str) -> Result<Value, AllocError>
 fn list(alloc: Global, reader: &mut Reader<'_>, depth: usize) -> Result<Vec<Value>, ReadFault>
     ensures read { IfOk result (λ v. reads_items depth reader.old ≡ Some (vals_view v.items, reader.new)) }
     ensures shorter { OnOk result (length reader.new < length reader.old) }
-    ensures refused { IfErr result (λ fault. is_memory fault ≡ false → reads_items depth reader.old ≡ None) }
+    ensures refused { IfErr result (λ fault. is_memory_fault fault ≡ false → reads_items depth reader.old ≡ None) }
 {
     let mut values = Vec::new(alloc);
     while !reader.take_end_array() {
@@ -126,7 +126,7 @@ fn map(
 ) -> Result<BTreeMap<String, Value>, ReadFault>
     ensures read { IfOk result (λ m. reads_members depth reader.old ≡ Some (entries_view m.entries, reader.new)) }
     ensures shorter { OnOk result (length reader.new < length reader.old) }
-    ensures refused { IfErr result (λ fault. is_memory fault ≡ false → reads_members depth reader.old ≡ None) }
+    ensures refused { IfErr result (λ fault. is_memory_fault fault ≡ false → reads_members depth reader.old ≡ None) }
 {
     let mut entries = BTreeMap::new(alloc);
     while let Some(key) = reader.next_key()? {

@@ -43,5 +43,5 @@ AllTaken s stack [] = Unit {0}
 AllTaken s stack (l ∷ ls) = TokenTaken s stack l.token ls × AllTaken s (blocks_past s stack l.token l.span ls) ls
 
 -- the closing tags of what was read are taken
-abbrev pub Known : List ℕ → List Lexeme → Type 0
-Known s ls = AllTaken s [] (significant ls)
+abbrev pub ReadTagsTaken : List ℕ → List Lexeme → Type 0
+ReadTagsTaken s ls = AllTaken s [] (significant ls)

@@ -19,8 +19,8 @@ pub data Key : Type 0 where
   no_key : Key
 
 -- the keyword that these bytes spell
-abbrev pub key_of : List ℕ → Key
-key_of w =
+abbrev pub keyword_of : List ℕ → Key
+keyword_of w =
     if bytes_eq w (codes "if") then key_if else (
     if bytes_eq w (codes "not") then key_not else (
     if bytes_eq w (codes "else") then key_else else (

@@ -13,20 +13,20 @@ use Rattle.upon_language_spec.specs.CutFaults.{ends_cutting}
 use Rattle.upon_language_spec.specs.Lexing.{LexerState, HasRead}
 
 -- an end of a tag is where no bracket is open, and a closing bracket where the innermost is of its kind
-abbrev pub Fits : List Lexeme → Token → Type 0
-Fits brackets EndExpr = brackets ≡ []
-Fits brackets EndBlock = brackets ≡ []
-Fits brackets EndComment = brackets ≡ []
-Fits brackets CloseBracket = closes_first brackets CloseBracket ≡ true
-Fits brackets CloseBrace = closes_first brackets CloseBrace ≡ true
-Fits brackets CloseParen = closes_first brackets CloseParen ≡ true
-Fits brackets t = Unit {0}
+abbrev pub BracketsFit : List Lexeme → Token → Type 0
+BracketsFit brackets EndExpr = brackets ≡ []
+BracketsFit brackets EndBlock = brackets ≡ []
+BracketsFit brackets EndComment = brackets ≡ []
+BracketsFit brackets CloseBracket = closes_first brackets CloseBracket ≡ true
+BracketsFit brackets CloseBrace = closes_first brackets CloseBrace ≡ true
+BracketsFit brackets CloseParen = closes_first brackets CloseParen ≡ true
+BracketsFit brackets t = Unit {0}
 
 -- a token is where the lexer does
 pub record IsNext (delimiters : List DelimiterText) (s : List ℕ) (left : LexerState) (l : Lexeme) : Type 0 where
   pub from : l.span.m ≡ left.offset
   pub step : IsToken delimiters s left.mode l.token l.hyphen left.offset l.span.n
-  pub fits : Fits left.brackets l.token
+  pub fits : BracketsFit left.brackets l.token
 
 -- a fault that ends the cutting holds where the lexer is
 abbrev pub IsWrong : List DelimiterText → List ℕ → LexerState → Span → List ℕ → Type 0

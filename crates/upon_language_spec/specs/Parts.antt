@@ -4,7 +4,7 @@ use Rattle.upon_types.specs.declared.types.token.Token.{Token}
 use Rattle.upon_types.specs.declared.types.token.Token.TheVariants.{BeginExpr, EndExpr, BeginBlock, EndBlock, OpenBracket, CloseBracket, OpenBrace, CloseBrace, OpenParen, CloseParen, Dot, QuestionDot, Pipe, Comma, Colon, Plus, Minus, Keyword, Ident, Index, Number, String}
 use Rattle.upon_language_spec.specs.Tags.{Symbol}
 use Rattle.upon_language_spec.specs.Wanted.{Wanted, an_expression, a_string, a_name_or_index, an_end_expression, an_end_block, a_close_paren, a_close_bracket, a_close_brace, an_in, an_as, a_block_word, a_name, a_number, a_colon, rank}
-use Rattle.upon_language_spec.specs.Keys.{Key, key_if, key_not, key_else, key_endif, key_for, key_in, key_endfor, key_with, key_as, key_endwith, key_include, key_true, key_false, key_of}
+use Rattle.upon_language_spec.specs.Keys.{Key, key_if, key_not, key_else, key_endif, key_for, key_in, key_endfor, key_with, key_as, key_endwith, key_include, key_true, key_false, keyword_of}
 
 -- a part of a tag that is still to come
 pub data Part : Type 0 where
@@ -153,7 +153,7 @@ after (part ∷ parts) t k = left_of (goes part t k) (is_optional part) parts (a
 
 -- the same for a symbol
 abbrev pub after_symbol : List Part → Symbol → Option (List Part)
-after_symbol parts x = after parts x.token (key_of x.word)
+after_symbol parts x = after parts x.token (keyword_of x.word)
 
 -- the symbols lead from these parts to those: each may be where it does
 abbrev pub Path : List Part → List Symbol → List Part → Type 0

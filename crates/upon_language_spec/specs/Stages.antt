@@ -11,7 +11,7 @@ use Rattle.upon_language_spec.specs.OpenParts.{is_open, StandsAt}
 use Rattle.upon_language_spec.specs.Faults.{lexeme_at, tag_tokens}
 use Rattle.upon_language_spec.specs.FirstFault.{SyntaxFault, Holds}
 use Rattle.upon_language_spec.specs.Lexing.{brackets_in}
-use Rattle.upon_language_spec.specs.LexStep.{Fits as BracketsFit}
+use Rattle.upon_language_spec.specs.LexStep.{BracketsFit}
 use Rattle.upon_language_spec.specs.InTags.{EachStands}
 
 -- no fault of any kind holds at a point before this one

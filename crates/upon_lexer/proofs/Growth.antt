@@ -2,7 +2,7 @@
 use Rattle.std.proofs.Common.{◌≡◌, ℕ, ◌+◌, ◌<◌, ◌≢◌, ◌==◌, ◌⊎◌, inl, inr, List, [], ◌∷◌, ◌++◌, None, cond, length, arith, refl, sym, ◌∙◌, ap, subst, eq-eqb, ne_eqb}
 use Rattle.std.proofs.lemmas.List.{length-set, length_push, get_or-set_same, get_or-set_other, get_or_append_left, get_or_push}
 use Rattle.upon_lexer.specs.declared.types.syntax.trie.Node.{Node}
-use Rattle.upon_lexer.specs.Nodes.{IsLinked, blank, node_at, sibling_with, child_of, Leads}
+use Rattle.upon_lexer.specs.Nodes.{IsLinked, blank, node_at, sibling_with, child_of, LeadsTo}
 use Rattle.upon_lexer.specs.Grown.{grown}
 use Rattle.upon_lexer.proofs.Siblings.{SameLinks, unchanged, sibling_with-zero, sibling_with-step}
 use Rattle.upon_lexer.proofs.Leads.{child_inside, leads_on}
@@ -102,7 +102,7 @@ module _ (nodes : List Node) (n b : ℕ) (linked : IsLinked nodes) (inside : n <
       ap (λ (x : Node). sibling_with (grown nodes n b) x.child c) grown-made ∙ sibling_with-zero (grown nodes n b) c
 
   -- the new node leads nowhere
-  from_made : (t : List ℕ) (m : ℕ) → Leads (grown nodes n b) (length nodes) t m → (t ≡ []) × (length nodes ≡ m)
+  from_made : (t : List ℕ) (m : ℕ) → LeadsTo (grown nodes n b) (length nodes) t m → (t ≡ []) × (length nodes ≡ m)
   from_made [] m leads = (refl, leads)
   from_made (c ∷ t) m leads = absurd (omega (arith, leads.0, child-made c))
 
@@ -119,25 +119,25 @@ module _ (nodes : List Node) (n b : ℕ) (linked : IsLinked nodes) (inside : n <
       | inr other ↦ child-other x c below other
     ]
 
-    pub leads_still : (x : ℕ) (t : List ℕ) (m : ℕ) → x < length nodes → Leads nodes x t m → Leads (grown nodes n b) x t m
+    pub leads_still : (x : ℕ) (t : List ℕ) (m : ℕ) → x < length nodes → LeadsTo nodes x t m → LeadsTo (grown nodes n b) x t m
     leads_still = leads_on nodes (grown nodes n b) linked stays
 
     -- what a text leads to: as before, or to the new node, by its byte at the text's end
-    pub leads_new : (x : ℕ) (t : List ℕ) (m : ℕ) → x < length nodes → Leads (grown nodes n b) x t m
-        → (Leads nodes x t m) ⊎ ((m ≡ length nodes) × ((u : List ℕ) × (t ≡ u ++ b ∷ []) × Leads nodes x u n))
+    pub leads_new : (x : ℕ) (t : List ℕ) (m : ℕ) → x < length nodes → LeadsTo (grown nodes n b) x t m
+        → (LeadsTo nodes x t m) ⊎ ((m ≡ length nodes) × ((u : List ℕ) × (t ≡ u ++ b ∷ []) × LeadsTo nodes x u n))
     leads_new x [] m below leads = inl leads
     leads_new x (c ∷ t) m below leads =
         let new = grown nodes n b in
-        let Goal : Type 0 = (Leads nodes x (c ∷ t) m) ⊎ ((m ≡ length nodes) × ((u : List ℕ) × (c ∷ t ≡ u ++ b ∷ []) × Leads nodes x u n)) in
+        let Goal : Type 0 = (LeadsTo nodes x (c ∷ t) m) ⊎ ((m ≡ length nodes) × ((u : List ℕ) × (c ∷ t ≡ u ++ b ∷ []) × LeadsTo nodes x u n)) in
         let old_child : child_of new x c ≡ child_of nodes x c → Goal = λ same.
-        let From : ℕ → Type 0 = λ y. Leads new y t m in
+        let From : ℕ → Type 0 = λ y. LeadsTo new y t m in
         let some : 0 < child_of nodes x c = omega (arith, same, leads.0) in
         elim (leads_new (child_of nodes x c) t m (child_inside nodes linked x c below) (subst From same leads.1)) [
           | inl old ↦ inl (some, old)
           | inr w ↦ inr (w.0, (c ∷ w.1.0, ap (λ r. c ∷ r) w.1.1, (some, w.1.2)))
         ] in
         let new_child : x ≡ n → b ≡ c → child_of new x c ≡ length nodes → Goal = λ at byte same.
-        let From : ℕ → Type 0 = λ y. Leads new y t m in
+        let From : ℕ → Type 0 = λ y. LeadsTo new y t m in
         let ends = from_made t m (subst From same leads.1) in
         inr (sym ends.1, ([], ap (λ r. c ∷ r) ends.0 ∙ ap (λ y. y ∷ []) (sym byte), at)) in
         elim (same_or_not x n) [

@@ -5,7 +5,7 @@ use Rattle.std.proofs.lemmas.List.{get_or-set_same, get_or-set_other}
 use Rattle.std.proofs.lemmas.Nat.Bits.{bit_at_and, bit_at_or, bit_at-zero, bit_at-lt, bit_at_set_same}
 use Rattle.std.specs.Int.{bit_at}
 use Rattle.upon_language_spec.specs.Search.{DelimiterText, HasTexts, NoneAt, Occurs, text_at}
-use Rattle.upon_lexer.specs.Marks.{HasMark, MarksEach, MayFollow}
+use Rattle.upon_lexer.specs.Marks.{HasMark, MarksEach, MayBeSecond}
 use Rattle.upon_lexer.specs.declared.compile.marks.Marks.{Marks}
 use Rattle.upon_lexer.proofs.Ways.{occurs_reads}
 
@@ -61,6 +61,6 @@ module _ (marks : Marks) (ds : List DelimiterText) (s : List ℕ) (q : ℕ) (tex
       → not (nat_eq (bit_and (get_or marks.first (get_or s q 0) 0) (get_or marks.second next 0)) 0) ≡ false → NoneAt ds s q
   apart_none next is small apart i inside occurs =
       let d = text_at ds i in
-      let follows : MayFollow next d = λ two. occurs_reads s q d 1 occurs two ∙ sym is in
+      let follows : MayBeSecond next d = λ two. occurs_reads s q d 1 occurs two ∙ sym is in
       shares (get_or marks.first (get_or s q 0) 0) (get_or marks.second next 0) (i % 16) (first_marked i inside occurs)
       ((each.texts i inside).second next small follows) (is_zero _ apart)

@@ -12,7 +12,7 @@ use Rattle.upon_language_spec.specs.Reading.{brackets_after}
 use Rattle.upon_language_spec.specs.Shown.{is_end}
 use Rattle.upon_language_spec.specs.Tokens.{is_raw, is_space}
 use Rattle.upon_language_spec.specs.Lexing.{LexerState, HasRead, IsGiven, Lexes, EachIsSpace}
-use Rattle.upon_language_spec.specs.LexStep.{Fits, IsNext, begin_after, state_after}
+use Rattle.upon_language_spec.specs.LexStep.{BracketsFit, IsNext, begin_after, state_after}
 use Rattle.upon_language_spec.proofs.Offsets.Clear.{clear_behind}
 use Rattle.upon_language_spec.proofs.OneCut.Token.{step_ends}
 use Rattle.upon_lexer.specs.Plain.{is_frequent}
@@ -58,7 +58,7 @@ no_end_trims : (b h : Bool) → b ≡ false → (b && h) ≡ false
 no_end_trims true h e = absurd (cc)
 no_end_trims false h e = refl
 
-begin_is_quiet : (sort : Sort) (stack : List Lexeme) (l : Lexeme) → (brackets_after stack (begin_token sort) l ≡ stack) × (is_end (begin_token sort) ≡ false) × Fits stack (begin_token sort) × (is_raw (begin_token sort) ≡ false)
+begin_is_quiet : (sort : Sort) (stack : List Lexeme) (l : Lexeme) → (brackets_after stack (begin_token sort) l ≡ stack) × (is_end (begin_token sort) ≡ false) × BracketsFit stack (begin_token sort) × (is_raw (begin_token sort) ≡ false)
 begin_is_quiet expression stack l = (refl, refl, tt, refl)
 begin_is_quiet block stack l = (refl, refl, tt, refl)
 begin_is_quiet comment stack l = (refl, refl, tt, refl)
@@ -94,9 +94,9 @@ module _ (delimiters : List DelimiterText) (s : List ℕ) (left : LexerState) wh
     abbrev begin : Lexeme
     begin = record { token = t; hyphen = has_hyphen kind; span = span }
 
-    begin_quiet : (brackets_after left.brackets t begin ≡ left.brackets) × (is_end t ≡ false) × Fits left.brackets t × (is_raw t ≡ false)
+    begin_quiet : (brackets_after left.brackets t begin ≡ left.brackets) × (is_end t ≡ false) × BracketsFit left.brackets t × (is_raw t ≡ false)
     begin_quiet =
-        let Quiet : Token → Type 0 = λ u. (brackets_after left.brackets u begin ≡ left.brackets) × (is_end u ≡ false) × Fits left.brackets u × (is_raw u ≡ false) in
+        let Quiet : Token → Type 0 = λ u. (brackets_after left.brackets u begin ≡ left.brackets) × (is_end u ≡ false) × BracketsFit left.brackets u × (is_raw u ≡ false) in
         subst Quiet (sym is) (begin_is_quiet sort left.brackets begin)
 
     pub begin_next : left.mode ≡ outside → IsBestDelimiter delimiters s kind span.m span.n → span.m ≡ left.offset → begin_sort kind ≡ Some sort → IsNext delimiters s left begin
@@ -131,7 +131,7 @@ module _ (delimiters : List DelimiterText) (s : List ℕ) (left : LexerState) wh
         let same : comment ≡ sort = cc in
         inr (ap end_token (sym same), record { kind = kind; occurs = best; of_sort = of_sort ∙ ap Some (sym same); of_hyphen = refl })
 
-    fits : (sort : Sort) → Fits left.brackets (end_token sort)
+    fits : (sort : Sort) → BracketsFit left.brackets (end_token sort)
     fits expression = no_bracket
     fits block = no_bracket
     fits comment = no_bracket

@@ -11,7 +11,7 @@ use Rattle.upon_types.specs.declared.types.token.Token.{Token}
 use Rattle.upon_types.specs.declared.types.token.Token.TheVariants.{Dot, Pipe, Comma, Colon, Whitespace, Ident}
 use Rattle.upon_language_spec.specs.Cut.{Lexeme, Mode, IsToken}
 use Rattle.upon_language_spec.specs.Inside.{token_kind, start_kind, Extent}
-use Rattle.upon_language_spec.specs.LexStep.{Fits}
+use Rattle.upon_language_spec.specs.LexStep.{BracketsFit}
 use Rattle.upon_language_spec.specs.Search.{DelimiterText, Occurs, NoneAt}
 use Rattle.upon_language_spec.specs.Words.{IsRun, begins_name, is_tag_space}
 use Rattle.upon_language_spec.proofs.Computation.Tests.{same_number}
@@ -20,7 +20,7 @@ use Rattle.upon_language_spec.proofs.Offsets.Names.{begins_continues}
 use Rattle.upon_language_spec.proofs.Offsets.Runs.{some_run}
 use Rattle.upon_language_spec.proofs.SpansLieIn.Offsets.{Occurs-from_drop}
 use Rattle.upon_lexer.specs.OpenTags.{mode_in, mode_of}
-use Rattle.upon_lexer.specs.Plain.{IsLetter, IsPlain, mark_of}
+use Rattle.upon_lexer.specs.Plain.{IsLetter, IsPlain, byte_token}
 use Rattle.upon_lexer.specs.declared.compile.roles.Sort.{Sort}
 use Rattle.upon_lexer.specs.declared.compile.roles.Sort.TheVariants.{Expr, Block, Comment}
 use Rattle.upon_lexer.specs.declared.compile.tags.OpenTag.{OpenTag}
@@ -41,7 +41,7 @@ pub record IsMark (b : ℕ) (t : Token) : Type 0 where
   pub low : b < 128
   pub kind : (in_path : Bool) → token_kind in_path b ≡ Some (start_kind t)
   pub extent : (s : List ℕ) (m : ℕ) → Extent s t m (m + 1)
-  pub fits : (brackets : List Lexeme) → Fits brackets t
+  pub fits : (brackets : List Lexeme) → BracketsFit brackets t
 
 abbrev Marked : ℕ → Option Token → Type 0
 Marked b found = IfSome found (IsMark b)
@@ -49,7 +49,7 @@ Marked b found = IfSome found (IsMark b)
 as_mark : (b d : ℕ) (t : Token) → IsMark d t → (b == d) ≡ true → IsMark b t
 as_mark b d t h e = subst (λ x. IsMark x t) (sym (same_number b d e)) h
 
-marked : (b : ℕ) → Marked b (mark_of b)
+marked : (b : ℕ) → Marked b (byte_token b)
 marked b =
     by_case (Marked b) (b == 46) _ _ (λ e. as_mark b 46 Dot (record { low = lit< tt; kind = λ p. refl; extent = λ s m. refl; fits = λ brackets. tt }) e) (λ _.
     by_case (Marked b) (b == 124) _ _ (λ e. as_mark b 124 Pipe (record { low = lit< tt; kind = λ p. refl; extent = λ s m. refl; fits = λ brackets. tt }) e) (λ _.
@@ -129,7 +129,7 @@ module _ (s : List ℕ) (at b : ℕ) (inside : at < length s) (is : b ≡ get_or
   boundary_behind utf8 start = behind_byte s at b low utf8 start byte_there
 
 module _ (s : List ℕ) (at b : ℕ) (inside : at < length s) (is : b ≡ get_or s at 0) (utf8 : IsUtf8 s) (start : IsCharBoundary s at) where
-  pub mark_is_plain : (t : Token) → Some t ≡ mark_of b → IsPlain s t at (at + 1)
+  pub mark_is_plain : (t : Token) → Some t ≡ byte_token b → IsPlain s t at (at + 1)
   mark_is_plain t e =
       let mark : IsMark b t = subst (Marked b) (sym e) (marked b) in
       record {
@@ -154,7 +154,7 @@ module _ (s : List ℕ) (at b : ℕ) (inside : at < length s) (is : b ≡ get_or
   pub word_runs : (end : ℕ) → IsLetter b → (end ≡ at) ⊎ IsRun is_xid_continue s at end → ((c : ℕ) → Occurs s end (encode_utf8 c) → is_xid_continue c ≡ false) → IsRun is_xid_continue s at end
   word_runs end h run longest = some_run is_xid_continue s at end run longest b (char_there s at b inside is (low_letter b h)) (begins_continues b (letter_begins b h))
 
-  pub word_is_plain : (end : ℕ) (t : Token) → IsLetter b → start_kind t ≡ Ident → Extent s t at end → ((brackets : List Lexeme) → Fits brackets t)
+  pub word_is_plain : (end : ℕ) (t : Token) → IsLetter b → start_kind t ≡ Ident → Extent s t at end → ((brackets : List Lexeme) → BracketsFit brackets t)
       → LiesIn s (record { m = at; n = end }) → IsPlain s t at end
   word_is_plain end t h kind extent fits span = record {
     begins = λ in_path. record { first = b; occurs = char_there s at b inside is (low_letter b h); of_kind = letter_kind in_path b h ∙ ap Some (sym kind); extent = extent };

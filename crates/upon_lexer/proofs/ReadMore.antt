@@ -9,7 +9,7 @@ use Rattle.upon_language_spec.specs.Inside.{Extent, in_path_after}
 use Rattle.upon_language_spec.specs.Cut.{Lexeme, Mode, outside, in_tag, in_comment, IsToken, same_mode, mode_after}
 use Rattle.upon_language_spec.specs.Reading.{opens_tag, from_begin, open_tag, first_span, brackets_after, brackets_from, open_brackets, ReadsTo}
 use Rattle.upon_language_spec.specs.Lexing.{LexerState, HasRead, begin_in, brackets_in, is_trimming_end}
-use Rattle.upon_language_spec.specs.LexStep.{IsNext, Fits, begin_after, state_after}
+use Rattle.upon_language_spec.specs.LexStep.{IsNext, BracketsFit, begin_after, state_after}
 use Rattle.upon_language_spec.specs.CutFaults.{ClearTo}
 use Rattle.upon_language_spec.proofs.OneCut.Cut.{cut_more}
 use Rattle.upon_language_spec.proofs.Totality.InsideClear.{last_more}
@@ -95,7 +95,7 @@ module _ (delimiters : List DelimiterText) (s : List ℕ) (left : LexerState) (l
   behind_begin block e t = (ap first_span (opening BeginBlock t refl), begun_brackets BeginBlock t refl refl ∙ no_brackets e)
   behind_begin comment e t = (ap first_span (opening BeginComment t refl), no_brackets e)
 
-  behind_end : (sort : Sort) → Fits left.brackets (end_token sort) → Behind (end_token sort)
+  behind_end : (sort : Sort) → BracketsFit left.brackets (end_token sort) → Behind (end_token sort)
   behind_end expression fits = (refl, sym fits)
   behind_end block fits = (refl, sym fits)
   behind_end comment fits = (refl, sym fits)
@@ -117,13 +117,13 @@ module _ (delimiters : List DelimiterText) (s : List ℕ) (left : LexerState) (l
       )
 
   -- a token more
-  behind : (mode : Mode) → left.mode ≡ mode → IsToken delimiters s mode l.token l.hyphen left.offset l.span.n → Fits left.brackets l.token → Behind l.token
+  behind : (mode : Mode) → left.mode ≡ mode → IsToken delimiters s mode l.token l.hyphen left.offset l.span.n → BracketsFit left.brackets l.token → Behind l.token
   behind outside e (inl raw) fits = subst Behind (sym raw.0) (behind_raw outside e raw.0 tt)
   behind outside e (inr begin) fits = subst Behind (sym begin.1) (behind_begin begin.0 e begin.1)
-  behind (in_tag sort path) e (inl end) fits = subst Behind (sym end.0) (behind_end sort (subst (Fits left.brackets) end.0 fits))
+  behind (in_tag sort path) e (inl end) fits = subst Behind (sym end.0) (behind_end sort (subst (BracketsFit left.brackets) end.0 fits))
   behind (in_tag sort path) e (inr inner) fits = behind_inner sort path l.token e refl (plain_inside s l.token left.offset l.span.n inner.1.extent)
   behind in_comment e (inl raw) fits = subst Behind (sym raw.0) (behind_raw in_comment e raw.0 tt)
-  behind in_comment e (inr end) fits = subst Behind (sym end.0) (behind_end comment (subst (Fits left.brackets) end.0 fits))
+  behind in_comment e (inr end) fits = subst Behind (sym end.0) (behind_end comment (subst (BracketsFit left.brackets) end.0 fits))
 
   pub read_more : IsNext delimiters s left l → ClearTo delimiters s l.span.n → HasRead delimiters s (state_after left l) (ls ++ l ∷ [])
   read_more next clear =

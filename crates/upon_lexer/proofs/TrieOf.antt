@@ -3,8 +3,8 @@ use Rattle.std.proofs.Common.{◌≡◌, ℕ, zero, suc, ◌+◌, ◌<◌, ◌�
 use Rattle.std.proofs.lemmas.List.{append_assoc, append-nil, get_or-set_same, get_or-set_other, length-set, length_push}
 use Rattle.upon_language_spec.specs.Search.{DelimiterText, text_at}
 use Rattle.upon_lexer.specs.declared.types.syntax.trie.Node.{Node}
-use Rattle.upon_lexer.specs.Nodes.{IsLinked, blank, node_at, sibling_with, child_of, Leads}
-use Rattle.upon_lexer.specs.Grown.{grown, with_child, made_child, with_path, path_end, marked, with_text, with_texts, nodes_of}
+use Rattle.upon_lexer.specs.Nodes.{IsLinked, blank, node_at, sibling_with, child_of, LeadsTo}
+use Rattle.upon_lexer.specs.Grown.{grown, with_child, made_child, with_path, path_end, marked, with_trie_text, with_texts, nodes_of}
 use Rattle.upon_lexer.specs.Trie.{IsFirstWith, IsTrieOf}
 use Rattle.upon_lexer.proofs.Siblings.{unchanged, sibling_with-zero}
 use Rattle.upon_lexer.proofs.Leads.{leads_append, leads_split, leads_one, leads_inside, leads_on}
@@ -19,7 +19,7 @@ only_root (suc n) below = absurd (omega (arith, below))
 
 -- a node that a text leads on from
 module _ (k : ℕ) (ds : List DelimiterText) (nodes : List Node) (trie : IsTrieOf k ds nodes)
-    (n b : ℕ) (p : List ℕ) (at : Leads nodes 0 p n) (absent : child_of nodes n b ≡ 0) where
+    (n b : ℕ) (p : List ℕ) (at : LeadsTo nodes 0 p n) (absent : child_of nodes n b ≡ 0) where
   here : n < length nodes
   here = leads_inside nodes trie.linked 0 p n trie.linked.some at
 
@@ -27,7 +27,7 @@ module _ (k : ℕ) (ds : List DelimiterText) (nodes : List Node) (trie : IsTrieO
   no_text : (j : ℕ) → j < k → text_at ds j ≡ p ++ b ∷ [] → ⊥
   no_text j below same =
       let leads = trie.covers j below in
-      let To : List ℕ → Type 0 = λ t. Leads nodes 0 t leads.0 in
+      let To : List ℕ → Type 0 = λ t. LeadsTo nodes 0 t leads.0 in
       let split = leads_split nodes 0 p (b ∷ []) leads.0 (subst To same leads.1) in
       let is : split.0 ≡ n = leads_one nodes 0 p split.0 n split.1 at in
       omega (arith, absent, split.2.0, ap (λ y. child_of nodes y b) is)
@@ -42,7 +42,7 @@ module _ (k : ℕ) (ds : List DelimiterText) (nodes : List Node) (trie : IsTrieO
   pub grown-trie : IsTrieOf k ds (grown nodes n b)
   grown-trie =
       let new = grown nodes n b in
-      let one_new : (t u : List ℕ) (m : ℕ) → Leads new 0 t m → Leads new 0 u m → t ≡ u = λ t u m first second.
+      let one_new : (t u : List ℕ) (m : ℕ) → LeadsTo new 0 t m → LeadsTo new 0 u m → t ≡ u = λ t u m first second.
       elim (leads_new nodes n b trie.linked here absent 0 t m trie.linked.some first) [
         | inl old ↦ elim (leads_new nodes n b trie.linked here absent 0 u m trie.linked.some second) [
           | inl other ↦ trie.one t u m old other
@@ -53,7 +53,7 @@ module _ (k : ℕ) (ds : List DelimiterText) (nodes : List Node) (trie : IsTrieO
           | inr w ↦ v.1.1 ∙ ap (λ r. r ++ b ∷ []) (trie.one v.1.0 w.1.0 n v.1.2 w.1.2) ∙ sym w.1.1
         ]
       ] in
-      let pairs_new : (t : List ℕ) (m : ℕ) → Leads new 0 t m → IsFirstWith k ds t (node_at new m).pair = λ t m leads.
+      let pairs_new : (t : List ℕ) (m : ℕ) → LeadsTo new 0 t m → IsFirstWith k ds t (node_at new m).pair = λ t m leads.
       elim (leads_new nodes n b trie.linked here absent 0 t m trie.linked.some leads) [
         | inl old ↦
             let inside = leads_inside nodes trie.linked 0 t m trie.linked.some old in
@@ -77,10 +77,10 @@ module _ (k : ℕ) (ds : List DelimiterText) (nodes : List Node) (trie : IsTrieO
 
 -- with a child by a byte, which a text of one byte more leads to
 module _ (k : ℕ) (ds : List DelimiterText) (nodes : List Node) (trie : IsTrieOf k ds nodes)
-    (n b : ℕ) (p : List ℕ) (at : Leads nodes 0 p n) where
+    (n b : ℕ) (p : List ℕ) (at : LeadsTo nodes 0 p n) where
   child_case : (v : ℕ) → child_of nodes n b ≡ v
       → IsTrieOf k ds (cond (v == 0) (grown nodes n b) nodes)
-      × Leads (cond (v == 0) (grown nodes n b) nodes) 0 (p ++ b ∷ []) (cond (v == 0) (length nodes) v)
+      × LeadsTo (cond (v == 0) (grown nodes n b) nodes) 0 (p ++ b ∷ []) (cond (v == 0) (length nodes) v)
   child_case zero absent =
       let new = grown nodes n b in
       let inside = here k ds nodes trie n b p at absent in
@@ -96,32 +96,32 @@ module _ (k : ℕ) (ds : List DelimiterText) (nodes : List Node) (trie : IsTrieO
       let some : 0 < child_of nodes n b = omega (arith, is) in
       let Has : Bool → Type 0 = λ w.
       IsTrieOf k ds (cond w (grown nodes n b) nodes)
-      × Leads (cond w (grown nodes n b) nodes) 0 (p ++ b ∷ []) (cond w (length nodes) (suc v)) in
+      × LeadsTo (cond w (grown nodes n b) nodes) 0 (p ++ b ∷ []) (cond w (length nodes) (suc v)) in
       let differs : suc v ≢ 0 = omega arith in
       subst Has (sym (ne_eqb (suc v) 0 differs)) (trie, leads_append nodes 0 p (b ∷ []) n (suc v) at (some, is))
 
   pub with_child-trie : IsTrieOf k ds (with_child nodes n b)
   with_child-trie = (child_case (child_of nodes n b) refl).0
 
-  pub with_child-leads : Leads (with_child nodes n b) 0 (p ++ b ∷ []) (made_child nodes n b)
+  pub with_child-leads : LeadsTo (with_child nodes n b) 0 (p ++ b ∷ []) (made_child nodes n b)
   with_child-leads = (child_case (child_of nodes n b) refl).1
 
-pub with_path-trie : (k : ℕ) (ds : List DelimiterText) (nodes : List Node) (n : ℕ) (p t : List ℕ) → IsTrieOf k ds nodes → Leads nodes 0 p n
-    → IsTrieOf k ds (with_path nodes n t) × Leads (with_path nodes n t) 0 (p ++ t) (path_end nodes n t)
+pub with_path-trie : (k : ℕ) (ds : List DelimiterText) (nodes : List Node) (n : ℕ) (p t : List ℕ) → IsTrieOf k ds nodes → LeadsTo nodes 0 p n
+    → IsTrieOf k ds (with_path nodes n t) × LeadsTo (with_path nodes n t) 0 (p ++ t) (path_end nodes n t)
 with_path-trie k ds nodes n p [] trie at =
-    let To : List ℕ → Type 0 = λ r. Leads nodes 0 r n in
+    let To : List ℕ → Type 0 = λ r. LeadsTo nodes 0 r n in
     (trie, subst To (sym (append-nil p)) at)
 with_path-trie k ds nodes n p (b ∷ t) trie at =
     let new = with_child nodes n b in
     let m = made_child nodes n b in
     let rest = with_path-trie k ds new m (p ++ b ∷ []) t
     (with_child-trie k ds nodes trie n b p at) (with_child-leads k ds nodes trie n b p at) in
-    let To : List ℕ → Type 0 = λ r. Leads (with_path new m t) 0 r (path_end new m t) in
+    let To : List ℕ → Type 0 = λ r. LeadsTo (with_path new m t) 0 r (path_end new m t) in
     (rest.0, subst To (append_assoc p (b ∷ []) t) rest.1)
 
 -- a node that is marked with the delimiter whose text leads to it
 module _ (k : ℕ) (ds : List DelimiterText) (nodes : List Node) (trie : IsTrieOf k ds nodes)
-    (n : ℕ) (at : Leads nodes 0 (text_at ds k) n) where
+    (n : ℕ) (at : LeadsTo nodes 0 (text_at ds k) n) where
   there : n < length nodes
   there = leads_inside nodes trie.linked 0 (text_at ds k) n trie.linked.some at
 
@@ -179,15 +179,15 @@ module _ (k : ℕ) (ds : List DelimiterText) (nodes : List Node) (trie : IsTrieO
       (record { longer = omega (arith, written-length); bytes = λ m below. byte_same m; siblings = λ m below. sibling_same m })
       c first first (omega arith) (trie.linked.children x inside)
 
-  to_written : (t : List ℕ) (m : ℕ) → Leads nodes 0 t m → Leads written 0 t m
+  to_written : (t : List ℕ) (m : ℕ) → LeadsTo nodes 0 t m → LeadsTo written 0 t m
   to_written t m = leads_on nodes written trie.linked (λ x c inside some. children_stay x c inside) 0 t m trie.linked.some
 
-  from_written : (t : List ℕ) (m : ℕ) → Leads written 0 t m → Leads nodes 0 t m
+  from_written : (t : List ℕ) (m : ℕ) → LeadsTo written 0 t m → LeadsTo nodes 0 t m
   from_written t m = leads_on written nodes written-linked
       (λ x c inside some. sym (children_stay x c (omega (arith, written-length, inside)))) 0 t m written-linked.some
 
   -- one delimiter more, in each node but the one where its text leads
-  other_node : (t : List ℕ) (m : ℕ) → Leads nodes 0 t m → (t ≡ text_at ds k → ⊥)
+  other_node : (t : List ℕ) (m : ℕ) → LeadsTo nodes 0 t m → (t ≡ text_at ds k → ⊥)
       → (o : Option ℕ) → IsFirstWith k ds t o → IsFirstWith (k + 1) ds t o
   other_node t m leads differs None none = λ j below same. elim (below_or_at j k below) [
     | inl less ↦ none j less same
@@ -195,23 +195,23 @@ module _ (k : ℕ) (ds : List DelimiterText) (nodes : List Node) (trie : IsTrieO
   ]
   other_node t m leads differs (Some i) first = (omega (arith, first.0), first.1, first.2)
 
-  covers_more : (new : List Node) → ((t : List ℕ) (m : ℕ) → Leads nodes 0 t m → Leads new 0 t m)
-      → (i : ℕ) → i < k + 1 → (m : ℕ) × Leads new 0 (text_at ds i) m
+  covers_more : (new : List Node) → ((t : List ℕ) (m : ℕ) → LeadsTo nodes 0 t m → LeadsTo new 0 t m)
+      → (i : ℕ) → i < k + 1 → (m : ℕ) × LeadsTo new 0 (text_at ds i) m
   covers_more new to i below = elim (below_or_at i k below) [
     | inl less ↦ let old = trie.covers i less in (old.0, to (text_at ds i) old.0 old.1)
-    | inr e ↦ let Covered : ℕ → Type 0 = λ x. (m : ℕ) × Leads new 0 (text_at ds x) m in
+    | inr e ↦ let Covered : ℕ → Type 0 = λ x. (m : ℕ) × LeadsTo new 0 (text_at ds x) m in
         subst Covered e (n, to (text_at ds k) n at)
   ]
 
-  differs_at : (t : List ℕ) (m : ℕ) → Leads nodes 0 t m → m ≢ n → t ≡ text_at ds k → ⊥
+  differs_at : (t : List ℕ) (m : ℕ) → LeadsTo nodes 0 t m → m ≢ n → t ≡ text_at ds k → ⊥
   differs_at t m leads other same =
-      let To : List ℕ → Type 0 = λ r. Leads nodes 0 r m in
+      let To : List ℕ → Type 0 = λ r. LeadsTo nodes 0 r m in
       other (leads_one nodes 0 (text_at ds k) m n (subst To same leads) at)
 
   mark_case : (o : Option ℕ) → (node_at nodes n).pair ≡ o → IsTrieOf (k + 1) ds (cond (is_some o) nodes written)
   unfolding mark
   mark_case None is =
-      let first_here : (t : List ℕ) → Leads nodes 0 t n → IsFirstWith (k + 1) ds t (Some k) = λ t leads.
+      let first_here : (t : List ℕ) → LeadsTo nodes 0 t n → IsFirstWith (k + 1) ds t (Some k) = λ t leads.
       let same : t ≡ text_at ds k = trie.one t (text_at ds k) n leads at in
       let First : Option ℕ → Type 0 = λ o. IsFirstWith k ds t o in
       let none : IsFirstWith k ds t None = subst First is (trie.pairs t n leads) in
@@ -225,7 +225,7 @@ module _ (k : ℕ) (ds : List DelimiterText) (nodes : List Node) (trie : IsTrieO
             let First : Option ℕ → Type 0 = λ o. IsFirstWith (k + 1) ds t o in
             elim (same_or_not m n) [
               | inl e ↦
-                  let Old : ℕ → Type 0 = λ x. Leads nodes 0 t x in
+                  let Old : ℕ → Type 0 = λ x. LeadsTo nodes 0 t x in
                   let pair : (node_at written m).pair ≡ Some k =
                   ap (λ x. (node_at written x).pair) e ∙ ap (λ (x : Node). x.pair) written-here in
                   subst First (sym pair) (first_here t (subst Old e old))
@@ -235,7 +235,7 @@ module _ (k : ℕ) (ds : List DelimiterText) (nodes : List Node) (trie : IsTrieO
             ];
       }
   mark_case (Some i) is =
-      let still_first : (t : List ℕ) → Leads nodes 0 t n → IsFirstWith (k + 1) ds t (node_at nodes n).pair = λ t leads.
+      let still_first : (t : List ℕ) → LeadsTo nodes 0 t n → IsFirstWith (k + 1) ds t (node_at nodes n).pair = λ t leads.
       let First : Option ℕ → Type 0 = λ o. IsFirstWith k ds t o in
       let More : Option ℕ → Type 0 = λ o. IsFirstWith (k + 1) ds t o in
       let first : IsFirstWith k ds t (Some i) = subst First is (trie.pairs t n leads) in
@@ -246,7 +246,7 @@ module _ (k : ℕ) (ds : List DelimiterText) (nodes : List Node) (trie : IsTrieO
         one = trie.one;
         pairs = λ t m leads. elim (same_or_not m n) [
           | inl e ↦
-              let At : ℕ → Type 0 = λ x. Leads nodes 0 t x → IsFirstWith (k + 1) ds t (node_at nodes x).pair in
+              let At : ℕ → Type 0 = λ x. LeadsTo nodes 0 t x → IsFirstWith (k + 1) ds t (node_at nodes x).pair in
               subst At (sym e) (still_first t) leads
           | inr other ↦ other_node t m leads (differs_at t m leads other) _ (trie.pairs t m leads)
         ];
@@ -257,7 +257,7 @@ module _ (k : ℕ) (ds : List DelimiterText) (nodes : List Node) (trie : IsTrieO
   marked-trie = mark_case (node_at nodes n).pair refl
 
 pub with_text-trie : (k : ℕ) (ds : List DelimiterText) (nodes : List Node) → IsTrieOf k ds nodes
-    → IsTrieOf (k + 1) ds (with_text nodes (text_at ds k) k)
+    → IsTrieOf (k + 1) ds (with_trie_text nodes (text_at ds k) k)
 with_text-trie k ds nodes trie =
     let path = with_path-trie k ds nodes 0 [] (text_at ds k) trie refl in
     marked-trie k ds (with_path nodes 0 (text_at ds k)) path.0 (path_end nodes 0 (text_at ds k)) path.1
@@ -274,8 +274,8 @@ with_texts-trie ds qs [] k nodes all count trie =
 with_texts-trie ds qs (p ∷ ps) k nodes all count trie =
     let text : text_at ds k ≡ p.text =
     ap (λ xs. text_at xs k) all ∙ ap (λ x. text_at (qs ++ p ∷ ps) x) count ∙ text_at-seam qs p ps in
-    let Has : List ℕ → Type 0 = λ t. IsTrieOf (k + 1) ds (with_text nodes t k) in
-    with_texts-trie ds (qs ++ p ∷ []) ps (k + 1) (with_text nodes p.text k)
+    let Has : List ℕ → Type 0 = λ t. IsTrieOf (k + 1) ds (with_trie_text nodes t k) in
+    with_texts-trie ds (qs ++ p ∷ []) ps (k + 1) (with_trie_text nodes p.text k)
     (all ∙ sym (append_assoc qs (p ∷ []) ps))
     (ap (λ x. x + 1) count ∙ sym (length_push qs p))
     (subst Has text (with_text-trie k ds nodes trie))
@@ -284,7 +284,7 @@ blank_child : (n c : ℕ) → child_of (blank ∷ []) n c ≡ 0
 blank_child zero c = sibling_with-zero (blank ∷ []) c
 blank_child (suc n) c = sibling_with-zero (blank ∷ []) c
 
-blank_leads : (t : List ℕ) (m : ℕ) → Leads (blank ∷ []) 0 t m → (t ≡ []) × (0 ≡ m)
+blank_leads : (t : List ℕ) (m : ℕ) → LeadsTo (blank ∷ []) 0 t m → (t ≡ []) × (0 ≡ m)
 blank_leads [] m leads = (refl, leads)
 blank_leads (c ∷ t) m leads = absurd (omega (arith, leads.0, blank_child 0 c))
 

@@ -3,7 +3,7 @@ use Rattle.std.proofs.Common.{◌≡◌, ℕ, ◌+◌, ◌-◌, ◌<◌, ◌≤�
 use Rattle.std.proofs.lemmas.List.{take-take, take-append-drop, drop_more, take_more}
 use Rattle.upon_language_spec.specs.Search.{DelimiterText, text_at, Occurs}
 use Rattle.upon_lexer.specs.declared.types.syntax.trie.Node.{Node}
-use Rattle.upon_lexer.specs.Nodes.{node_at, child_of, Leads}
+use Rattle.upon_lexer.specs.Nodes.{node_at, child_of, LeadsTo}
 use Rattle.upon_lexer.specs.Trie.{IsFirstWith, IsTrieOf, longer_of, LongestShorter, LongestAt}
 use Rattle.upon_lexer.proofs.Leads.{leads_append, leads_split, leads_one}
 
@@ -14,7 +14,7 @@ short_or_long : (n k : ℕ) → (n < k + 1) ⊎ (k < n)
 short_or_long n k = grind arith
 
 module _ (ds : List DelimiterText) (nodes : List Node) (trie : IsTrieOf (length ds) ds nodes) (s : List ℕ) (p k m : ℕ)
-    (leads : Leads nodes 0 (take k (drop p s)) m) where
+    (leads : LeadsTo nodes 0 (take k (drop p s)) m) where
   -- a text of this length that occurs is the one that was read
   is_read : (t : List ℕ) → Occurs s p t → length t ≡ k → t ≡ take k (drop p s)
   is_read t occurs same = occurs ∙ ap (λ n. take n (drop p s)) same
@@ -86,7 +86,7 @@ module _ (ds : List DelimiterText) (nodes : List Node) (trie : IsTrieOf (length 
         ∙ ap (λ x. take k t ++ x ∷ drop (k + 1) t) byte
         ∙ ap (λ x. x ++ b ∷ drop (k + 1) t) front in
         let covered = trie.covers j inside in
-        let To : List ℕ → Type 0 = λ x. Leads nodes 0 x covered.0 in
+        let To : List ℕ → Type 0 = λ x. LeadsTo nodes 0 x covered.0 in
         let parts = leads_split nodes 0 (take k (drop p s)) (b ∷ drop (k + 1) t) covered.0 (subst To split covered.1) in
         let is : parts.0 ≡ m = leads_one nodes 0 (take k (drop p s)) parts.0 m parts.1 leads in
         absurd (omega (arith, parts.2.0, absent, ap (λ y. child_of nodes y b) is))
@@ -119,7 +119,7 @@ none_shorter ds s p j inside short occurs = absurd (omega (arith, short))
 
 -- the same by the offset that was reached
 module _ (nodes : List Node) (s : List ℕ) (at end m : ℕ) (after : at ≤ end)
-    (leads : Leads nodes 0 (take (end - at) (drop at s)) m) where
+    (leads : LeadsTo nodes 0 (take (end - at) (drop at s)) m) where
   here : at + (end - at) ≡ end
   here = omega (arith, after)
 
@@ -128,7 +128,7 @@ module _ (nodes : List Node) (s : List ℕ) (at end m : ℕ) (after : at ≤ end
 
   -- one byte further
   pub next_leads : (next : ℕ) → end < length s → next ≡ child_of nodes m (get_or s end 0) → next ≢ 0
-      → Leads nodes 0 (take (end + 1 - at) (drop at s)) next
+      → LeadsTo nodes 0 (take (end + 1 - at) (drop at s)) next
   next_leads next room is some =
       let b = get_or s end 0 in
       let child : 0 < child_of nodes m b = omega (arith, is, some) in
@@ -137,7 +137,7 @@ module _ (nodes : List Node) (s : List ℕ) (at end m : ℕ) (after : at ≤ end
       ap (λ x. take x (drop at s)) further
       ∙ take_more (drop at s) (end - at) 0 (omega (arith, room, after, length-drop at s))
       ∙ ap (λ x. take (end - at) (drop at s) ++ x ∷ []) byte in
-      let To : List ℕ → Type 0 = λ t. Leads nodes 0 t next in
+      let To : List ℕ → Type 0 = λ t. LeadsTo nodes 0 t next in
       subst To (sym read) (leads_append nodes 0 (take (end - at) (drop at s)) (b ∷ []) m next leads (child, sym is))
 
   module _ (ds : List DelimiterText) (trie : IsTrieOf (length ds) ds nodes) (longest now : Option (ℕ × ℕ))

@@ -25,10 +25,11 @@ close_token Brace = token.CloseBrace
 close_token Paren = token.CloseParen
 
 -- the token opens or closes brackets of this shape, or does nothing to them
-abbrev pub HasEffect : Token → BracketEffect → Type 0
-HasEffect t (Opens shape) = t ≡ open_token shape
-HasEffect t (Closes shape) = t ≡ close_token shape
-HasEffect t Nothing = (is_close t ≡ false) × ((stack : List Lexeme) (l : Lexeme) → brackets_after stack t l ≡ stack)
+abbrev pub HasBracketEffect : Token → BracketEffect → Type 0
+HasBracketEffect t (Opens shape) = t ≡ open_token shape
+HasBracketEffect t (Closes shape) = t ≡ close_token shape
+HasBracketEffect t Nothing = (is_close t ≡ false) × ((stack : List Lexeme) (l : Lexeme) → brackets_after stack t l
+    ≡ stack)
 
 -- a token with its span
 abbrev pub plain_lexeme : Token → Span → Lexeme

@@ -36,13 +36,13 @@ marked nodes n i = cond (is_some (node_at nodes n).pair) nodes (slice_set nodes 
 }))
 
 -- a trie with one text more
-abbrev pub with_text : List Node → List ℕ → ℕ → List Node
-with_text nodes text i = marked (with_path nodes 0 text) (path_end nodes 0 text) i
+abbrev pub with_trie_text : List Node → List ℕ → ℕ → List Node
+with_trie_text nodes text i = marked (with_path nodes 0 text) (path_end nodes 0 text) i
 
 -- a trie with the texts of these delimiters more, whose indices count from i on
 abbrev pub with_texts : List Node → ℕ → List DelimiterText → List Node
 with_texts nodes i [] = nodes
-with_texts nodes i (p ∷ ps) = with_texts (with_text nodes p.text i) (i + 1) ps
+with_texts nodes i (p ∷ ps) = with_texts (with_trie_text nodes p.text i) (i + 1) ps
 
 -- the trie of a list of delimiters
 abbrev pub nodes_of : List DelimiterText → List Node

@@ -47,8 +47,8 @@ abbrev pub ReadSoFar : Lexer → List Lexeme → Type 0
 ReadSoFar lexer ls = HasRead (lexer_delimiters lexer) (lexer_text lexer) (lexer_state lexer) ls
 
 -- what a call gives to one who knows them
-abbrev pub Gives : Lexer → List Lexeme → Result (Option (Token × Span)) Error → Lexer → Type 0
-Gives before ls result after = Lexes (lexer_delimiters before) (lexer_text before) (lexer_state before) ls result
+abbrev pub GivesToken : Lexer → List Lexeme → Result (Option (Token × Span)) Error → Lexer → Type 0
+GivesToken before ls result after = Lexes (lexer_delimiters before) (lexer_text before) (lexer_state before) ls result
     (lexer_state after)
 
 -- the same after whitespace
@@ -69,8 +69,8 @@ pub record GivesNext (delimiters : List DelimiterText) (s : List ℕ) (before : 
   pub stopped : before.over ≡ true → (result ≡ Ok None) × (after.over ≡ true)
 
 -- what is where the lexer does: a token, or a fault that ends the cutting
-abbrev pub Finds : Lexer → NextToken → Type 0
-Finds lexer found = IsNext (lexer_delimiters lexer) (lexer_text lexer) (lexer_state lexer) (next_lexeme found)
+abbrev pub FindsToken : Lexer → NextToken → Type 0
+FindsToken lexer found = IsNext (lexer_delimiters lexer) (lexer_text lexer) (lexer_state lexer) (next_lexeme found)
 
 -- a fault that ends the cutting holds where the lexer is
 abbrev pub GoesWrong : Lexer → Wrong → Type 0

@@ -32,6 +32,6 @@ abbrev pub child_of : List Node → ℕ → ℕ → ℕ
 child_of nodes n b = sibling_with nodes (node_at nodes n).child b
 
 -- from a node, a text leads to a node
-abbrev pub Leads : List Node → ℕ → List ℕ → ℕ → Type 0
-Leads nodes n [] m = n ≡ m
-Leads nodes n (b ∷ t) m = (0 < child_of nodes n b) × Leads nodes (child_of nodes n b) t m
+abbrev pub LeadsTo : List Node → ℕ → List ℕ → ℕ → Type 0
+LeadsTo nodes n [] m = n ≡ m
+LeadsTo nodes n (b ∷ t) m = (0 < child_of nodes n b) × LeadsTo nodes (child_of nodes n b) t m

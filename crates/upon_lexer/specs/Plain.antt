@@ -5,11 +5,11 @@ use Rattle.upon_types.specs.declared.types.token.Token.TheVariants.{Dot, Pipe, C
 use Rattle.upon_types.specs.Span.{LiesIn}
 use Rattle.upon_language_spec.specs.Cut.{Lexeme}
 use Rattle.upon_language_spec.specs.InsideStart.{BeginsInside}
-use Rattle.upon_language_spec.specs.LexStep.{Fits}
+use Rattle.upon_language_spec.specs.LexStep.{BracketsFit}
 
 -- the token that one byte is
-abbrev pub mark_of : ℕ → Option Token
-mark_of b =
+abbrev pub byte_token : ℕ → Option Token
+byte_token b =
     if b == 46 then Some Dot
     else (if b == 124 then Some Pipe
     else (if b == 44 then Some Comma
@@ -33,7 +33,7 @@ is_frequent t = is_plain t
 -- this token is from m to n, in a path or not, whichever brackets are open
 pub record IsPlain (s : List ℕ) (t : Token) (m n : ℕ) : Type 0 where
   pub begins : (in_path : Bool) → BeginsInside s in_path t m n
-  pub fits : (brackets : List Lexeme) → Fits brackets t
+  pub fits : (brackets : List Lexeme) → BracketsFit brackets t
   pub span : LiesIn s (record { m = m; n = n })
 
 -- a byte is a letter of ASCII or an underscore

@@ -2,7 +2,7 @@
 use Rattle.std.specs.Prelude.{◌≡◌, ℕ, ◌+◌, ◌<◌, ◌≤◌, List, Option, None, Some, length, MatchOption}
 use Rattle.upon_language_spec.specs.Search.{DelimiterText, text_at, Occurs, NoneAt, IsBest}
 use Rattle.upon_lexer.specs.declared.types.syntax.trie.Node.{Node}
-use Rattle.upon_lexer.specs.Nodes.{IsLinked, node_at, Leads}
+use Rattle.upon_lexer.specs.Nodes.{IsLinked, node_at, LeadsTo}
 
 -- of the first k delimiters, the first that has a text is this one, or none has it
 abbrev pub IsFirstWith : ℕ → List DelimiterText → List ℕ → Option ℕ → Type 0
@@ -13,9 +13,9 @@ IsFirstWith k delimiters t (Some i) =
 -- the nodes are a trie of the first k delimiters
 pub record IsTrieOf (k : ℕ) (delimiters : List DelimiterText) (nodes : List Node) : Type 0 where
   pub linked : IsLinked nodes
-  pub covers : (i : ℕ) → i < k → (m : ℕ) × Leads nodes 0 (text_at delimiters i) m
-  pub one : (t u : List ℕ) (m : ℕ) → Leads nodes 0 t m → Leads nodes 0 u m → t ≡ u
-  pub pairs : (t : List ℕ) (m : ℕ) → Leads nodes 0 t m → IsFirstWith k delimiters t (node_at nodes m).pair
+  pub covers : (i : ℕ) → i < k → (m : ℕ) × LeadsTo nodes 0 (text_at delimiters i) m
+  pub one : (t u : List ℕ) (m : ℕ) → LeadsTo nodes 0 t m → LeadsTo nodes 0 u m → t ≡ u
+  pub pairs : (t : List ℕ) (m : ℕ) → LeadsTo nodes 0 t m → IsFirstWith k delimiters t (node_at nodes m).pair
 
 -- the delimiter of a node, with an offset, or else the one before
 abbrev pub longer_of : Option ℕ → ℕ → Option (ℕ × ℕ) → Option (ℕ × ℕ)

@@ -4,7 +4,7 @@ use Rattle.std.proofs.Common.{◌≡◌, ℕ, zero, suc, ◌+◌, ◌<◌, ◌�
 use Rattle.upon_render.specs.Environment.{Root}
 use Rattle.upon_meaning_spec.specs.Engine.{Calls, Resolver}
 use Rattle.upon_meaning_spec.specs.Outcome.{End, Outcome, States, with_text_before}
-use Rattle.upon_machine_spec.specs.Run.{on_next, run, count_next, steps, text_of, Midway}
+use Rattle.upon_machine_spec.specs.Run.{on_next, run, count_next, steps, text_of_next, Midway}
 use Rattle.upon_machine_spec.specs.State.{State}
 use Rattle.upon_machine_spec.specs.Step.{Next, goes, stops, stuck, step}
 use Rattle.upon_machine_spec.proofs.FollowsTree.Comes.{twice}
@@ -84,12 +84,12 @@ module _ {V T : Type 0} (calls : Calls V) (resolve : Resolver T) (root : Root) w
   begins_in None w t o e = absurd cc
   begins_in (Some p) w t o e = let is : with_text_before w (with_text_before t p) ≡ o = cc in (p.text, sym (ap (λ o. o.text) is) ∙ sym (append_assoc w t p.text))
 
-  begins_by : (n : ℕ) (w : List ℕ) (x : Next V T) (o : Outcome (States V T)) → option_map (with_text_before w) (on n x) ≡ Some o → (rest : List ℕ) × (o.text ≡ (w ++ text_of x) ++ rest)
+  begins_by : (n : ℕ) (w : List ℕ) (x : Next V T) (o : Outcome (States V T)) → option_map (with_text_before w) (on n x) ≡ Some o → (rest : List ℕ) × (o.text ≡ (w ++ text_of_next x) ++ rest)
   begins_by n w (goes t s') o e = begins_in (go n s') w t o e
   begins_by n w (stops t end q) o e = let is : record { text = w ++ t; end = end; next = q } ≡ o = cc in ([], sym (ap (λ o. o.text) is) ∙ sym (append-nil (w ++ t)))
   begins_by n w stuck o e = absurd cc
 
   -- what has been given, and the text of the next step, begin the outcome's text
-  pub begins : (n : ℕ) (w : List ℕ) (s : State V T) (o : Outcome (States V T)) → Midway calls resolve root n w s o → (rest : List ℕ) × (o.text ≡ (w ++ text_of (step calls resolve root s)) ++ rest)
+  pub begins : (n : ℕ) (w : List ℕ) (s : State V T) (o : Outcome (States V T)) → Midway calls resolve root n w s o → (rest : List ℕ) × (o.text ≡ (w ++ text_of_next (step calls resolve root s)) ++ rest)
   begins zero w s o h = absurd cc
   begins (suc n) w s o h = begins_by n w (step calls resolve root s) o h

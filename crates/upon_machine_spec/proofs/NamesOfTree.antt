@@ -9,7 +9,7 @@ use Rattle.upon_meaning_spec.specs.Needs.{Start, a_name, Hides, LoopHides, Expre
 use Rattle.upon_machine_spec.specs.Code.{expression_code, emission_code, jump_unless, else_start, else_part, if_code, turn, for_code, statement_code, statements_code, else_code, program_of}
 use Rattle.upon_machine_spec.specs.Instr.{Instr, jump, emit_raw, loop_start, with_start, with_end}
 use Rattle.upon_machine_spec.specs.Instr.{include as enter, include_with as enter_with}
-use Rattle.upon_machine_spec.specs.ProgramNames.{loop_binds, count_after, unbound, is_this, plain_include, any_include, begins, passes, Lists}
+use Rattle.upon_machine_spec.specs.ProgramNames.{loop_binds, count_after, unbound, is_this, plain_include, any_include, begins, passes_on, IsListed}
 use Rattle.upon_machine_spec.specs.ProgramNames.{includes as includes_of}
 use Rattle.upon_machine_spec.proofs.Walks.{plain_append, either, forward_keeps, back_ends, Walks, walk_nothing, walk_plain, walk_then, walk_after, walk_block}
 use Rattle.upon_machine_spec.proofs.NamesOfExpressions.{of_expression, of_emission, plain, none, this_name, that_name, loop_names, with_last, after_none, joined, f, g, expression_begins, emission_begins, in_value, nothing_passes, nothing_included}
@@ -196,7 +196,7 @@ module _ (name : List ℕ) where
           let other : List Instr = statements_code (at + 1) body in
           an_else (g via) (λ names span. refl) (λ to. refl) passes_turn (λ word. refl) refl passes_unless (at + 1 + length other) at other (StatementsPass start via body) (omega arith) (statements_pass (at + 1) body)
 
-    pub tree_passes : (tree : Statements) → Lists (passes name (program_of tree)) via ↔ StatementsPass start via tree
+    pub tree_passes : (tree : Statements) → IsListed (passes_on name (program_of tree)) via ↔ StatementsPass start via tree
     tree_passes tree = let w = (statements_pass 0 tree).finds in
         let same = listed plain_include via (unbound name 0 0 (program_of tree)) in
         (λ e. w.0 (sym same ∙ e), λ h. same ∙ w.1 h)
@@ -251,5 +251,5 @@ module _ (via : List ℕ) where
     else_includes at no_else = none
     else_includes at (otherwise body) = statements_include (at + 1) body
 
-  pub tree_includes : (tree : Statements) → Lists (includes_of (program_of tree)) via ↔ Includes via tree
+  pub tree_includes : (tree : Statements) → IsListed (includes_of (program_of tree)) via ↔ Includes via tree
   tree_includes tree = let w = statements_include 0 tree in let same = listed any_include via (program_of tree) in (λ e. w.0 (sym same ∙ e), λ h. same ∙ w.1 h)

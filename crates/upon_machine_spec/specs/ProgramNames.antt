@@ -63,13 +63,13 @@ abbrev pub begins : List ℕ → List Instr → Bool
 begins name code = list_any (λ i. is_this name (path_name i)) (unbound name 0 0 code)
 
 -- the templates that are included without a value, outside of the blocks that bind the name
-abbrev pub passes : List ℕ → List Instr → List (List ℕ)
-passes name code = filter_map plain_include (unbound name 0 0 code)
+abbrev pub passes_on : List ℕ → List Instr → List (List ℕ)
+passes_on name code = filter_map plain_include (unbound name 0 0 code)
 
 -- the templates that are included
 abbrev pub includes : List Instr → List (List ℕ)
 includes code = filter_map any_include code
 
 -- a name is among some
-abbrev pub Lists : List (List ℕ) → List ℕ → Type 0
-Lists names name = list_any (bytes_eq name) names ≡ true
+abbrev pub IsListed : List (List ℕ) → List ℕ → Type 0
+IsListed names name = list_any (bytes_eq name) names ≡ true

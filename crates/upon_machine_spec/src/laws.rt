@@ -11,8 +11,8 @@ ghost use Rattle.upon_meaning_spec.specs.Outcome.{End, Outcome, States};
 ghost use Rattle.upon_meaning_spec.specs.RenderFaults.{TemplatesLie};
 ghost use Rattle.upon_machine_spec.specs.Code.{program_of};
 ghost use Rattle.upon_machine_spec.specs.Jumps.{JumpWithin};
-ghost use Rattle.upon_machine_spec.specs.ProgramNames.{begins, passes, includes, Lists};
-ghost use Rattle.upon_machine_spec.specs.Run.{run, steps, text_of, Midway};
+ghost use Rattle.upon_machine_spec.specs.ProgramNames.{begins, passes_on, includes, IsListed};
+ghost use Rattle.upon_machine_spec.specs.Run.{run, steps, text_of_next, Midway};
 ghost use Rattle.upon_machine_spec.specs.Spans.{StateLies, NextLies};
 ghost use Rattle.upon_machine_spec.specs.State.{State, at_start};
 ghost use Rattle.upon_machine_spec.specs.Step.{goes, stops, stuck, step};
@@ -68,7 +68,7 @@ pub fn midway<V, T>()
 
     ensures begins { (calls : Calls V) (resolve : Resolver T) (root : Root) (n : ℕ) (text : List ℕ) (s : State V T)
         (o : Outcome (States V T)) → Midway calls resolve root n text s o
-        → (rest : List ℕ) × (o.text ≡ (text ++ text_of (step calls resolve root s)) ++ rest) }
+        → (rest : List ℕ) × (o.text ≡ (text ++ text_of_next (step calls resolve root s)) ++ rest) }
 {}
 
 /// Each jump of a tree's program goes to one of its instructions, or to its end.
@@ -83,8 +83,8 @@ pub fn program_names()
         → (begins name (program_of tree) ≡ true) ↔ StatementsBegin (a_name name) tree }
 
     ensures passed { (tree : Statements) (name via : List ℕ)
-        → Lists (passes name (program_of tree)) via ↔ StatementsPass (a_name name) via tree }
+        → IsListed (passes_on name (program_of tree)) via ↔ StatementsPass (a_name name) via tree }
 
     ensures included { (tree : Statements) (via : List ℕ)
-        → Lists (includes (program_of tree)) via ↔ Includes via tree }
+        → IsListed (includes (program_of tree)) via ↔ Includes via tree }
 {}

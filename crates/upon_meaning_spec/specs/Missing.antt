@@ -17,8 +17,8 @@ abbrev pub NothingMissing : Table → Statements → Type 0
 NothingMissing table tree = (name : List ℕ) → Reaches table tree name → (t : Template) × (table name ≡ Some t)
 
 -- it answers what the table holds, and of other names what it will
-abbrev pub Answers : {T : Type 0} → Table → Resolver T → Type 0
-Answers {T} table resolve =
+abbrev pub AnswersTable : {T : Type 0} → Table → Resolver T → Type 0
+AnswersTable {T} table resolve =
     (q : T) (name : List ℕ) (t : Template) → table name ≡ Some t → resolve q name ≡ reply (says t) q
 
 -- a rendering ends as the include of a name does that a table does not hold

@@ -12,8 +12,8 @@ abbrev pub with_commas : List (Bor (List ℕ)) → List ℕ
 with_commas names = join_by (λ name. name.now) (codes ", ") names
 
 -- a list of names: of more than eight, the first eight
-abbrev pub list_text : List (Bor (List ℕ)) → List ℕ
-list_text names = codes "there are: "
+abbrev pub names_list_text : List (Bor (List ℕ)) → List ℕ
+names_list_text names = codes "there are: "
     ++ (if nat_lt 8 (length names) then with_commas (take 8 names) ++ codes ", .." else with_commas names)
 
 -- what is said of names: each of one or two, and a list of more
@@ -21,4 +21,4 @@ abbrev pub names_text : List (Bor (List ℕ)) → Option (List ℕ)
 names_text [] = None
 names_text (name ∷ []) = Some (codes "there is `" ++ (name.now ++ codes "`"))
 names_text (first ∷ (second ∷ [])) = Some (two_text first.now second.now)
-names_text (first ∷ (second ∷ (third ∷ more))) = Some (list_text (first ∷ (second ∷ (third ∷ more))))
+names_text (first ∷ (second ∷ (third ∷ more))) = Some (names_list_text (first ∷ (second ∷ (third ∷ more))))

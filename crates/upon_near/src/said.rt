@@ -1,7 +1,7 @@
 // What is said of the names that there are: "there is `a`", "there are `a` and `b`", or a list.
 ghost use Rattle.std.specs.Prelude.{◌≡◌, IfOk, option_map, string_bytes};
 ghost use Rattle.upon_near.specs.Nearest.{nearest};
-ghost use Rattle.upon_near.specs.Said.{list_text, names_text, two_text};
+ghost use Rattle.upon_near.specs.Said.{names_list_text, names_text, two_text};
 
 use crate::nearest::nearest;
 use std::alloc::{AllocError, Global};
@@ -40,7 +40,7 @@ const LISTED: usize = 8;
 
 // What lists names, or the first of them.
 fn list_text(alloc: Global, names: &[&str]) -> Result<String, AllocError>
-    ensures { IfOk result (λ text. string_bytes text ≡ list_text names.now) }
+    ensures { IfOk result (λ text. string_bytes text ≡ names_list_text names.now) }
 {
     let mut text = String::from_str(alloc, "there are: ")?;
     match names.get(..LISTED) {

@@ -5,13 +5,13 @@ use Rattle.std.specs.Char.{is_ascii}
 use Rattle.std.specs.List.{list_all}
 use Rattle.std.specs.Prelude.{IfSome}
 use Rattle.upon_quote.specs.Quoted.{Escapes, or_itself, quoted_by}
-use Rattle.upon_quote.specs.Reading.{Reads, read_past}
+use Rattle.upon_quote.specs.Reading.{CharacterReader, read_past}
 
 -- the language reads what it writes for a character as this character, whatever is behind it
-abbrev pub ReadsAgain : Escapes → Reads → ℕ → Type 0
+abbrev pub ReadsAgain : Escapes → CharacterReader → ℕ → Type 0
 ReadsAgain escape_of reads c = (rest : List ℕ) → read_past reads 0 (or_itself (escape_of c) c ++ rest) ≡ option_map (λ text. c ∷ text) (read_past reads 0 rest)
 
-pub read_quoted : (escape_of : Escapes) (reads : Reads) → ((c : ℕ) → ReadsAgain escape_of reads c) → (text : List ℕ) → read_past reads 0 (quoted_by escape_of text) ≡ Some text
+pub read_quoted : (escape_of : Escapes) (reads : CharacterReader) → ((c : ℕ) → ReadsAgain escape_of reads c) → (text : List ℕ) → read_past reads 0 (quoted_by escape_of text) ≡ Some text
 read_quoted escape_of reads h [] = refl
 read_quoted escape_of reads h (c ∷ cs) = h c (quoted_by escape_of cs) ∙ ap (option_map (λ text. c ∷ text)) (read_quoted escape_of reads h cs)
 

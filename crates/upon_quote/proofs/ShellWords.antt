@@ -8,7 +8,7 @@ use Rattle.upon_fmt.specs.Formatter.{text_of, Formats, Writes}
 use Rattle.upon_fmt.specs.declared.fmt.Error.{Error}
 use Rattle.upon_fmt.specs.declared.fmt.Formatter.{Formatter}
 use Rattle.upon_quote.specs.Shell.{shell_escape_of}
-use Rattle.upon_quote.specs.Tokens.{shell_format, word_of, word_once}
+use Rattle.upon_quote.specs.Tokens.{one_shell_word, shell_format, word_once}
 use Rattle.upon_quote.proofs.PlainDefaults.{NotText, no_nul_default, quoted_default}
 use Rattle.upon_quote.proofs.ShellLemmas.{shell_leaves}
 
@@ -17,7 +17,7 @@ plain_word : (v : Val) → NotText v → (default_format v).end ≡ well → she
 plain_word v h is =
     let text = (default_format v).text in
     ap (word_once text) is
-    ∙ (ap (λ b. word_of b text) (no_nul_default shell_escape_of shell_leaves v h)
+    ∙ (ap (λ b. one_shell_word b text) (no_nul_default shell_escape_of shell_leaves v h)
     ∙ ap (λ t. format_text (39 ∷ (t ++ (39 ∷ [])))) (quoted_default shell_escape_of shell_leaves v h))
 
 regroup : (a t : List ℕ) → ((a ++ (39 ∷ [])) ++ t) ++ (39 ∷ []) ≡ a ++ (39 ∷ (t ++ (39 ∷ [])))

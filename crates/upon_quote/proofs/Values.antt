@@ -13,7 +13,7 @@ use Rattle.upon_meaning_spec.specs.DefaultFormat.{default_format}
 use Rattle.upon_quote.specs.Json.{json_content, json_escape_of, quoted_json}
 use Rattle.upon_quote.specs.Quoted.{quoted_by}
 use Rattle.upon_quote.specs.Shell.{has_nul, quoted_shell, shell_escape_of, shell_word}
-use Rattle.upon_quote.specs.Tokens.{bytes_by, in_single_quotes, json_format, shell_format, word_of, word_once, yaml_format}
+use Rattle.upon_quote.specs.Tokens.{bytes_by, in_single_quotes, json_format, one_shell_word, shell_format, word_once, yaml_format}
 use Rattle.upon_quote.specs.Yaml.{quoted_yaml, yaml_content, yaml_escape_of}
 use Rattle.upon_quote.proofs.JsonLemmas.{json_ascii, json_content_quoted}
 use Rattle.upon_quote.proofs.ShellLemmas.{shell_ascii, shell_word_quoted}
@@ -53,7 +53,7 @@ nul_char (c ∷ cs) h =
       | inr e ↦ rw e.0 (nul_char cs parts.1)
     ]
 
-word_case : (text : List ℕ) (holds : Bool) → has_nul text ≡ holds → IsUtf8 text → (word_of holds text).end ≡ well → shell_word (chars (word_of holds text).text) ≡ Some (chars text)
+word_case : (text : List ℕ) (holds : Bool) → has_nul text ≡ holds → IsUtf8 text → (one_shell_word holds text).end ≡ well → shell_word (chars (one_shell_word holds text).text) ≡ Some (chars text)
 word_case text true is u h = absurd cc
 word_case text false is u h =
     ap shell_word (chars_word text u)
@@ -74,4 +74,4 @@ pub yaml_bytes : (text : List ℕ) → (yaml_format (text_val text)).text ≡ en
 yaml_bytes text = sym (all_bytes yaml_escape_of yaml_ascii (chars text))
 
 pub shell_bytes : (text : List ℕ) → has_nul text ≡ false → (shell_format (text_val text)).text ≡ encode_utf8_all (quoted_shell (chars text))
-shell_bytes text h = ap (λ holds. (word_of holds text).text) h ∙ sym (word_bytes (chars text))
+shell_bytes text h = ap (λ holds. (one_shell_word holds text).text) h ∙ sym (word_bytes (chars text))

@@ -5,7 +5,7 @@ use Rattle.std.specs.List.{starts_with}
 use Rattle.std.specs.Str.{byte}
 use Rattle.upon_quote.specs.Hex.{four_digits, number_of}
 use Rattle.upon_quote.specs.Quoted.{Escapes, quoted_by}
-use Rattle.upon_quote.specs.Reading.{Reads, content_by}
+use Rattle.upon_quote.specs.Reading.{CharacterReader, content_by}
 
 -- the escape of `"`, `\` and the control characters, and of the line separators of JavaScript
 abbrev pub json_escape_of : Escapes
@@ -55,7 +55,7 @@ json_escaped (c ∷ cs) = if c == byte "u" then json_unit (number_of 4 cs) (drop
     option_map (λ x. (x, 1)) (json_named c)
 
 -- `\` begins an escape; `"` ends the content, and no control character is in it; each other character is itself
-abbrev pub json_reads : Reads
+abbrev pub json_reads : CharacterReader
 json_reads c cs = if c == byte "\\" then json_escaped cs else
     (if (c == byte "\"") || nat_lt c 0x20 then None else Some (c, 0))
 

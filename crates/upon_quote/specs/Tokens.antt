@@ -43,13 +43,13 @@ abbrev pub in_single_quotes : List ℕ → List ℕ
 in_single_quotes text = byte "'" ∷ (quoted_bytes shell_escape_of text ++ (byte "'" ∷ []))
 
 -- a text's bytes as one word of a shell; it is refused if U+0000 is in it
-abbrev pub word_of : Bool → List ℕ → Formatted
-word_of true text = no_word
-word_of false text = record { text = in_single_quotes text; end = well }
+abbrev pub one_shell_word : Bool → List ℕ → Formatted
+one_shell_word true text = no_word
+one_shell_word false text = record { text = in_single_quotes text; end = well }
 
 -- a text that was written well as one word; a refusal as it is
 abbrev pub word_once : List ℕ → FormatEnd → Formatted
-word_once text well = word_of (has_nul text) text
+word_once text well = one_shell_word (has_nul text) text
 word_once text (refused message) = record { text = text; end = refused message }
 
 -- what the default formatter writes, as one word of a shell

@@ -5,7 +5,7 @@ use Rattle.std.specs.Int.{is_in_range}
 use Rattle.std.specs.Str.{byte}
 use Rattle.upon_quote.specs.Hex.{two_digits, four_digits, number_of}
 use Rattle.upon_quote.specs.Quoted.{Escapes, quoted_by}
-use Rattle.upon_quote.specs.Reading.{Reads, content_by}
+use Rattle.upon_quote.specs.Reading.{CharacterReader, content_by}
 
 -- a control character, or a space that is none of ASCII
 abbrev pub is_yaml_control : ℕ → Bool
@@ -65,7 +65,7 @@ yaml_escaped (c ∷ cs) = if c == byte "x" then yaml_number 3 (number_of 2 cs) e
 
 -- `\` begins an escape; `"` ends the content, and no control character of ASCII but a tabulator is in it, so that it is
 -- on one line; each other character is itself
-abbrev pub yaml_reads : Reads
+abbrev pub yaml_reads : CharacterReader
 yaml_reads c cs = if c == byte "\\" then yaml_escaped cs else
     (if (c == byte "\"") || (nat_lt c 0x20 && not (c == 0x9)) then None else Some (c, 0))
 

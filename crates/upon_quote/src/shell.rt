@@ -1,7 +1,7 @@
 // The formatter that writes one word of a POSIX shell.
 ghost use Rattle.upon_fmt.specs.Formatter.{Formats};
 ghost use Rattle.upon_quote.specs.Shell.{has_nul, shell_escape_of};
-ghost use Rattle.upon_quote.specs.Tokens.{no_word, shell_format, word_of};
+ghost use Rattle.upon_quote.specs.Tokens.{no_word, one_shell_word, shell_format};
 
 use crate::escapes::{Escape, Language, write_quoted};
 use upon_fmt::fmt;
@@ -44,7 +44,7 @@ impl Format for Shell {
 
 // Appends a text as one word of a shell.
 fn write_word(f: &mut Formatter, text: &str) -> fmt::Result
-    ensures { Formats f.old f.new result (word_of (has_nul text.now) text.now) }
+    ensures { Formats f.old f.new result (one_shell_word (has_nul text.now) text.now) }
 {
     if text.as_bytes().contains(&0) {
         return refuse_word(f);

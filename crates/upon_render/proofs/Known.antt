@@ -13,7 +13,7 @@ use Rattle.upon_render.specs.Finding.{Finding, found, at_fault}
 use Rattle.upon_render.specs.Frames.{lends_bound_or}
 use Rattle.upon_render.specs.Lookup.{bound_value, maybe_bound, bindings_walk}
 use Rattle.upon_render.specs.Seen.{FindsMade, FindsSeen, TellsMade, TellsSeen}
-use Rattle.upon_render.specs.Settled.{Known, known, or_root_settles, Finds}
+use Rattle.upon_render.specs.Settled.{SettledPath, known_path, or_root_settles, FindsSettled}
 use Rattle.upon_render.specs.declared.value.Found.{Found}
 use Rattle.upon_render.specs.declared.value.Found.TheVariants.{Lent, Held, Unknown, Below}
 use Rattle.upon_render.specs.declared.value.Made.{Made}
@@ -61,12 +61,12 @@ lent_some : (o : Finding Val) (error : Error) → Lends {A = Option ValueCow} Is
 lent_some (found v) error lent = lent
 lent_some (at_fault fault) error lent = lent
 
-abbrev known_by : Option Bound → Bool → Root → Member → List Member → Known
+abbrev known_by : Option Bound → Bool → Root → Member → List Member → SettledPath
 known_by bound lent root first rest = record { settled = or_root_settles (maybe_bound bound rest) root first rest; is_lent = lent }
 
 bound_finds : (source : List ℕ) (r : Result (Option ValueCow) Error) (x y : Option Bound) (own lent : Bool) (root : Root) (first : Member) (rest : List Member)
     → Answers maybe_view source (maybe_bound x rest) r → (lends_bound own x ≡ true → Lends IsLentIfAny (maybe_bound x rest) r)
-    → Finds source (known_by (first_or x y) (lends_bound_or own x lent) root first rest) (known_by y lent root first rest) r
+    → FindsSettled source (known_by (first_or x y) (lends_bound_or own x lent) root first rest) (known_by y lent root first rest) r
 bound_finds source (Ok None) None y own lent root first rest answer lends = refl
 bound_finds source (Ok (Some v)) None y own lent root first rest answer lends = absurd cc
 bound_finds source (Err error) None y own lent root first rest answer lends = absurd (lends refl)
@@ -79,7 +79,7 @@ bound_finds source (Err error) (Some b) y own lent root first rest answer lends 
 -- a frame that binds these names, over an environment
 pub frame_finds : (source : List ℕ) (r : Result (Option ValueCow) Error) (bs : List Binding) (env : Environment) (own lent : Bool) (first : Member) (rest : List Member)
     → Answers maybe_view source (bindings_walk bs first rest) r → (lends_bound own (binding_of first.access bs) ≡ true → Lends IsLentIfAny (bindings_walk bs first rest) r)
-    → Finds source (known (bind_all bs env) (lends_bound_or own (binding_of first.access bs) lent) first rest) (known env lent first rest) r
+    → FindsSettled source (known_path (bind_all bs env) (lends_bound_or own (binding_of first.access bs) lent) first rest) (known_path env lent first rest) r
 frame_finds source r bs env own lent first rest answer lends =
     rw (bound_to-append first.access bs env.bindings) (bound_finds source r (binding_of first.access bs) (binding_of first.access env.bindings) own lent env.root first rest answer lends)
 
@@ -99,7 +99,7 @@ bound_lends Below (Some b) y own lent root first rest tells = absurd (never_none
 -- a frame that binds these names, over an environment
 pub frame_lends_so : (r : Found) (bs : List Binding) (env : Environment) (own lent : Bool) (first : Member) (rest : List Member)
     → TellsSeen (bindings_walk bs first rest) r
-    → FindsSeen (known (bind_all bs env) (lends_bound_or own (binding_of first.access bs) lent) first rest) (known env lent first rest) r
+    → FindsSeen (known_path (bind_all bs env) (lends_bound_or own (binding_of first.access bs) lent) first rest) (known_path env lent first rest) r
 frame_lends_so r bs env own lent first rest tells =
     rw (bound_to-append first.access bs env.bindings) (bound_lends r (binding_of first.access bs) (binding_of first.access env.bindings) own lent env.root first rest tells)
 
@@ -111,6 +111,6 @@ bound_made (Some made) None y own lent root first rest tells = absurd cc
 bound_made (Some made) (Some b) y own lent root first rest tells = rw tells refl
 
 pub frame_makes : (r : Option Made) (bs : List Binding) (env : Environment) (own lent : Bool) (first : Member) (rest : List Member)
-    → TellsMade (bindings_walk bs first rest) r → FindsMade (known (bind_all bs env) (lends_bound_or own (binding_of first.access bs) lent) first rest) r
+    → TellsMade (bindings_walk bs first rest) r → FindsMade (known_path (bind_all bs env) (lends_bound_or own (binding_of first.access bs) lent) first rest) r
 frame_makes r bs env own lent first rest tells =
     rw (bound_to-append first.access bs env.bindings) (bound_made r (binding_of first.access bs) (binding_of first.access env.bindings) own lent env.root first rest tells)

@@ -15,7 +15,7 @@ use Rattle.upon_render.specs.Finding.{Finding, found, at_fault, Reply, reply}
 use Rattle.upon_render.specs.Frames.{frame_over, frames_over, frame_lends, frames_lend}
 use Rattle.upon_render.specs.Seen.{FindsMade, LooksUp, RootTells, made_view}
 use Rattle.upon_render.specs.Lookup.{or_root, root_value, lookup}
-use Rattle.upon_render.specs.Settled.{Known, known, root_settles, or_root_settles, Settles, Finds}
+use Rattle.upon_render.specs.Settled.{SettledPath, known_path, root_settles, or_root_settles, Settles, FindsSettled}
 use Rattle.upon_render.specs.Source.{Source}
 use Rattle.upon_render.specs.declared.stack.State.{State}
 use Rattle.upon_render.specs.declared.value.Made.{Made}
@@ -31,18 +31,18 @@ frames_lend-push : (lent : Bool) (frames : List State) (frame : State) (selector
 frames_lend-push lent [] frame selector = refl
 frames_lend-push lent (f ∷ frames) frame selector = frames_lend-push (frame_lends f selector lent) frames frame selector
 
-abbrev pub known_by_frames : Environment → Bool → List State → Member → List Member → Known
-known_by_frames env lent frames first rest = known (frames_over env frames) (frames_lend lent frames first.access) first rest
+abbrev pub known_by_frames : Environment → Bool → List State → Member → List Member → SettledPath
+known_by_frames env lent frames first rest = known_path (frames_over env frames) (frames_lend lent frames first.access) first rest
 
-abbrev pub known_by_frame : State → Environment → Bool → List State → Member → List Member → Known
+abbrev pub known_by_frame : State → Environment → Bool → List State → Member → List Member → SettledPath
 known_by_frame frame env lent frames first rest =
-    known (frame_over frame (frames_over env frames)) (frame_lends frame first.access (frames_lend lent frames first.access)) first rest
+    known_path (frame_over frame (frames_over env frames)) (frame_lends frame first.access (frames_lend lent frames first.access)) first rest
 
 known-push : (env : Environment) (lent : Bool) (frames : List State) (frame : State) (first : Member) (rest : List Member)
     → known_by_frames env lent (frames ++ frame ∷ []) first rest ≡ known_by_frame frame env lent frames first rest
 known-push env lent frames frame first rest =
-    ap (λ e. known e (frames_lend lent (frames ++ frame ∷ []) first.access) first rest) (frames_over-push env frames frame)
-    ∙ ap (λ l. known (frame_over frame (frames_over env frames)) l first rest) (frames_lend-push lent frames frame first.access)
+    ap (λ e. known_path e (frames_lend lent (frames ++ frame ∷ []) first.access) first rest) (frames_over-push env frames frame)
+    ∙ ap (λ l. known_path (frame_over frame (frames_over env frames)) l first rest) (frames_lend-push lent frames frame first.access)
 
 -- the frame at k, ahead of those below it
 known-take : (env : Environment) (lent : Bool) (frames : List State) (n k : ℕ) (frame : State) (first : Member) (rest : List Member)
@@ -100,59 +100,59 @@ same_root x ask root (context v) first rest q is = or_root_settled x ask root fi
 same_root x ask root value_source first rest q is = or_root_asked x ask root first rest q is
 same_root x ask root nothing first rest q is = or_root_settled x ask root first rest q _ is
 
-bare_settles : (root : Root) (lent : Bool) (first : Member) (rest : List Member) → (known (root_environment root) lent first rest).settled ≡ root_settles root first rest
+bare_settles : (root : Root) (lent : Bool) (first : Member) (rest : List Member) → (known_path (root_environment root) lent first rest).settled ≡ root_settles root first rest
 bare_settles root lent first rest = rw (bound_to-nil first.access) refl
 
 -- where frames bind nothing, the root answers
 pub lookup_in_root : {Q : Type 0} (ask : Source Q) (env : Environment) (root : Root) (lent own : Bool) (first : Member) (rest : List Member) (q : Q)
-    → known env lent first rest ≡ known (root_environment root) own first rest → lookup ask env first rest q ≡ root_value ask root first rest q
-lookup_in_root ask env root lent own first rest q same = same_root _ ask env.root root first rest q (ap (λ (k : Known). k.settled) same ∙ bare_settles root own first rest)
+    → known_path env lent first rest ≡ known_path (root_environment root) own first rest → lookup ask env first rest q ≡ root_value ask root first rest q
+lookup_in_root ask env root lent own first rest q same = same_root _ ask env.root root first rest q (ap (λ (k : SettledPath). k.settled) same ∙ bare_settles root own first rest)
 
 -- what settles a path answers a look-up, and the source is not asked
 pub lookup_answer : {Q : Type 0} (source : List ℕ) (ask : Source Q) (env : Environment) (lent : Bool) (first : Member) (rest : List Member) (q : Q) (r : Result ValueCow Error)
-    → Settles source (known env lent first rest) r → Answers cow_view source (lookup ask env first rest q).answer r
+    → Settles source (known_path env lent first rest) r → Answers cow_view source (lookup ask env first rest q).answer r
 lookup_answer source ask env lent first rest q r (o, (is, answers, lends)) =
     let P : Reply _ (Finding Val) → Type 0 = λ s. Answers cow_view source s.answer r in
     subst P (sym (or_root_settled _ ask env.root first rest q o is)) answers
 
 pub lookup_next : {Q : Type 0} (source : List ℕ) (ask : Source Q) (env : Environment) (lent : Bool) (first : Member) (rest : List Member) (q : Q) (r : Result ValueCow Error)
-    → Settles source (known env lent first rest) r → (lookup ask env first rest q).next ≡ q
+    → Settles source (known_path env lent first rest) r → (lookup ask env first rest q).next ≡ q
 lookup_next source ask env lent first rest q r (o, (is, answers, lends)) = ap (λ (s : Reply _ (Finding Val)). s.next) (or_root_settled _ ask env.root first rest q o is)
 
 pub lookup_lends : {Q : Type 0} (source : List ℕ) (ask : Source Q) (env : Environment) (lent : Bool) (first : Member) (rest : List Member) (q : Q) (r : Result ValueCow Error)
-    → Settles source (known env lent first rest) r → lent ≡ true → Lends IsLent (lookup ask env first rest q).answer r
+    → Settles source (known_path env lent first rest) r → lent ≡ true → Lends IsLent (lookup ask env first rest q).answer r
 lookup_lends source ask env lent first rest q r (o, (is, answers, lends)) lent_is =
     let P : Reply _ (Finding Val) → Type 0 = λ s. Lends IsLent s.answer r in
     subst P (sym (or_root_settled _ ask env.root first rest q o is)) (lends lent_is)
 
 -- ---- what a search through frames says
 pub some_known : (source : List ℕ) (env : Environment) (lent : Bool) (fs gs : List State) (first : Member) (rest : List Member) (r : Result (Option ValueCow) Error) (o : Option ValueCow) (value : ValueCow)
-    → gs ≡ fs → r ≡ Ok o → o ≡ Some value → Finds source (known_by_frames env lent gs first rest) (known env lent first rest) r
+    → gs ≡ fs → r ≡ Ok o → o ≡ Some value → FindsSettled source (known_by_frames env lent gs first rest) (known_path env lent first rest) r
     → Settles source (known_by_frames env lent fs first rest) (Ok value)
 some_known source env lent fs gs first rest r o value same is some h =
-    let P : List State → Type 0 = λ l. Finds source (known_by_frames env lent l first rest) (known env lent first rest) r in
-    let R : Result (Option ValueCow) Error → Type 0 = λ x. Finds source (known_by_frames env lent fs first rest) (known env lent first rest) x in
+    let P : List State → Type 0 = λ l. FindsSettled source (known_by_frames env lent l first rest) (known_path env lent first rest) r in
+    let R : Result (Option ValueCow) Error → Type 0 = λ x. FindsSettled source (known_by_frames env lent fs first rest) (known_path env lent first rest) x in
     subst R (is ∙ ap (λ (x : Option ValueCow). Ok x) some) (subst P same h)
 
 pub none_known : (source : List ℕ) (env : Environment) (lent : Bool) (fs gs : List State) (first : Member) (rest : List Member) (r : Result (Option ValueCow) Error) (o : Option ValueCow)
-    → gs ≡ fs → r ≡ Ok o → o ≡ None → Finds source (known_by_frames env lent gs first rest) (known env lent first rest) r
-    → known_by_frames env lent fs first rest ≡ known env lent first rest
+    → gs ≡ fs → r ≡ Ok o → o ≡ None → FindsSettled source (known_by_frames env lent gs first rest) (known_path env lent first rest) r
+    → known_by_frames env lent fs first rest ≡ known_path env lent first rest
 none_known source env lent fs gs first rest r o same is none h =
-    let P : List State → Type 0 = λ l. Finds source (known_by_frames env lent l first rest) (known env lent first rest) r in
-    let R : Result (Option ValueCow) Error → Type 0 = λ x. Finds source (known_by_frames env lent fs first rest) (known env lent first rest) x in
+    let P : List State → Type 0 = λ l. FindsSettled source (known_by_frames env lent l first rest) (known_path env lent first rest) r in
+    let R : Result (Option ValueCow) Error → Type 0 = λ x. FindsSettled source (known_by_frames env lent fs first rest) (known_path env lent first rest) x in
     subst R (is ∙ ap (λ (x : Option ValueCow). Ok x) none) (subst P same h)
 
 pub error_known : (source : List ℕ) (env : Environment) (lent : Bool) (fs gs : List State) (first : Member) (rest : List Member) (r : Result (Option ValueCow) Error) (error : Error)
-    → gs ≡ fs → r ≡ Err error → Finds source (known_by_frames env lent gs first rest) (known env lent first rest) r
+    → gs ≡ fs → r ≡ Err error → FindsSettled source (known_by_frames env lent gs first rest) (known_path env lent first rest) r
     → Settles source (known_by_frames env lent fs first rest) (Err error)
 error_known source env lent fs gs first rest r error same is h =
-    let P : List State → Type 0 = λ l. Finds source (known_by_frames env lent l first rest) (known env lent first rest) r in
-    let R : Result (Option ValueCow) Error → Type 0 = λ x. Finds source (known_by_frames env lent fs first rest) (known env lent first rest) x in
+    let P : List State → Type 0 = λ l. FindsSettled source (known_by_frames env lent l first rest) (known_path env lent first rest) r in
+    let R : Result (Option ValueCow) Error → Type 0 = λ x. FindsSettled source (known_by_frames env lent fs first rest) (known_path env lent first rest) x in
     subst R is (subst P same h)
 
 -- what settles a path is what a look-up finds, and the source is not asked
 pub lookup_settled : {Q : Type 0} (ask : Source Q) (env : Environment) (lent : Bool) (first : Member) (rest : List Member) (q : Q) (o : Finding Val)
-    → (known env lent first rest).settled ≡ Some o → lookup ask env first rest q ≡ reply o q
+    → (known_path env lent first rest).settled ≡ Some o → lookup ask env first rest q ≡ reply o q
 lookup_settled ask env lent first rest q o is = or_root_settled _ ask env.root first rest q o is
 
 -- a value that all frames settle
@@ -164,7 +164,7 @@ looks_up_here ask env lent fs gs first rest q v same is =
 
 -- one that the root has, where no frame binds the path
 pub looks_up_root : {Q : Type 0} (ask : Source Q) (env : Environment) (root : Root) (lent own : Bool) (first : Member) (rest : List Member) (q : Q) (r : Option (Bor Value))
-    → known env lent first rest ≡ known (root_environment root) own first rest → RootTells ask root first rest q r → LooksUp (λ v. view v.now) ask env first rest q r
+    → known_path env lent first rest ≡ known_path (root_environment root) own first rest → RootTells ask root first rest q r → LooksUp (λ v. view v.now) ask env first rest q r
 looks_up_root ask env root lent own first rest q None same h = tt
 looks_up_root ask env root lent own first rest q (Some v) same h = lookup_in_root ask env root lent own first rest q same ∙ h
 

@@ -46,9 +46,9 @@ abbrev pub maybe_view : Option ValueCow → Option Val
 maybe_view value = option_map cow_view value
 
 -- whether the value is lent
-abbrev pub is_borrowed : ValueCow → Bool
-is_borrowed (Borrowed v) = true
-is_borrowed (Owned v) = false
+abbrev pub is_borrowed_value : ValueCow → Bool
+is_borrowed_value (Borrowed v) = true
+is_borrowed_value (Owned v) = false
 
 -- borrowed, or no value, as a miss by `?.` gives it
 abbrev pub IsLent : ValueCow → Type 0

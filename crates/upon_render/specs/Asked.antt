@@ -29,11 +29,11 @@ abbrev pub asked_path : List AskedMember → List ValueMember
 asked_path members = map asked_member members
 
 -- the result is the reply's answer, and the source is in the reply's next state; or memory ran out
-abbrev pub Asked : {L A Q : Type 0} → (L → A) → Result L SourceError → Q → Reply Q (SourceAnswer A) → Type 0
-Asked shows (Ok l) state r = (r.answer ≡ says (shows l)) × (r.next ≡ state)
-Asked shows (Err (Refused text)) state r = (r.answer ≡ refuses (string_bytes text)) × (r.next ≡ state)
-Asked shows (Err Memory) state r = Unit {0}
+abbrev pub HasReply : {L A Q : Type 0} → (L → A) → Result L SourceError → Q → Reply Q (SourceAnswer A) → Type 0
+HasReply shows (Ok l) state r = (r.answer ≡ says (shows l)) × (r.next ≡ state)
+HasReply shows (Err (Refused text)) state r = (r.answer ≡ refuses (string_bytes text)) × (r.next ≡ state)
+HasReply shows (Err Memory) state r = Unit {0}
 
 -- a source that refuses each path, without words
-abbrev pub never : {Q : Type 0} → Source Q
-never q path = reply (refuses []) q
+abbrev pub refuses_all : {Q : Type 0} → Source Q
+refuses_all q path = reply (refuses []) q

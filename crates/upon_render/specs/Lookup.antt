@@ -76,13 +76,13 @@ or_not_in_scope (found None) at = at_fault (not_in_scope at)
 or_not_in_scope (at_fault fault) at = at_fault fault
 
 -- a refusal of the value source lies at the whole path
-abbrev pub answer_value : SourceAnswer Val → Span → Finding Val
-answer_value (says v) at = found v
-answer_value (refuses text) at = at_fault (wrong text at)
+abbrev pub source_value : SourceAnswer Val → Span → Finding Val
+source_value (says v) at = found v
+source_value (refuses text) at = at_fault (wrong text at)
 
 -- the same of a reply
 abbrev pub reply_value : {Q : Type 0} → Reply Q (SourceAnswer Val) → Span → Reply Q (Finding Val)
-reply_value r at = reply (answer_value r.answer at) r.next
+reply_value r at = reply (source_value r.answer at) r.next
 
 -- the value source is asked for the whole path, once
 abbrev pub root_value : {Q : Type 0} → Source Q → Root → Member → List Member → Q → Reply Q (Finding Val)

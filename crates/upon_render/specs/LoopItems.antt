@@ -11,7 +11,7 @@ use Rattle.upon_types.specs.Val.{Val, list_val, map_val, rises}
 use Rattle.upon_types.specs.declared.types.ast.KeyValue.{KeyValue}
 use Rattle.upon_types.specs.View.{view}
 use Rattle.upon_types.specs.declared.value.Value.{Value}
-use Rattle.upon_render.specs.Answer.{is_borrowed}
+use Rattle.upon_render.specs.Answer.{is_borrowed_value}
 use Rattle.upon_render.specs.Environment.{Binding}
 use Rattle.upon_render.specs.Items.{item_binds, entry_binds}
 use Rattle.upon_render.specs.declared.items.Here.{Here}
@@ -61,8 +61,8 @@ is_lent_rest (MapOwned entries) = false
 
 -- whether an item is lent
 abbrev pub is_lent_item : Item → Bool
-is_lent_item (Lone value) = is_borrowed value
-is_lent_item (Entry key value) = is_borrowed value
+is_lent_item (Lone value) = is_borrowed_value value
+is_lent_item (Entry key value) = is_borrowed_value value
 
 -- whether the item is lent, if there is one
 abbrev pub is_lent_here : Option Here → Bool → Bool

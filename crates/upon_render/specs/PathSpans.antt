@@ -4,6 +4,6 @@ use Rattle.upon_types.specs.Path.{Member}
 use Rattle.upon_types.specs.Span.{LiesIn}
 
 -- each step lies in the source
-abbrev pub StepsLieIn : List ℕ → List Member → Type 0
-StepsLieIn source [] = Unit {0}
-StepsLieIn source (member ∷ members) = LiesIn source member.span × StepsLieIn source members
+abbrev pub MembersLieIn : List ℕ → List Member → Type 0
+MembersLieIn source [] = Unit {0}
+MembersLieIn source (member ∷ members) = LiesIn source member.span × MembersLieIn source members

@@ -25,24 +25,24 @@ or_root_settles (found None) root first rest = root_settles root first rest
 or_root_settles (at_fault fault) root first rest = Some (at_fault fault)
 
 -- what is known of a path: what it comes to, if that needs no source, and whether it is lent
-pub record Known : Type 0 where
+pub record SettledPath : Type 0 where
   pub settled : Option (Finding Val)
   pub is_lent : Bool
 
 -- what is known of a path in an environment, before the source is asked
-abbrev pub known : Environment → Bool → Member → List Member → Known
-known env lent first rest =
+abbrev pub known_path : Environment → Bool → Member → List Member → SettledPath
+known_path env lent first rest =
     record { settled = or_root_settles (bindings_walk env.bindings first rest) env.root first rest; is_lent = lent }
 
 -- the result is what is known
-abbrev pub Settles : List ℕ → Known → Result ValueCow Error → Type 0
+abbrev pub Settles : List ℕ → SettledPath → Result ValueCow Error → Type 0
 Settles source k result =
     (outcome : Finding Val) ×
     ((k.settled ≡ Some outcome) × Answers cow_view source outcome result
     × (k.is_lent ≡ true → Lends IsLent outcome result))
 
 -- the result is what is known with these frames; where they bind nothing, the same is known without them
-abbrev pub Finds : List ℕ → Known → Known → Result (Option ValueCow) Error → Type 0
-Finds source with_frames without (Ok (Some value)) = Settles source with_frames (Ok value)
-Finds source with_frames without (Ok None) = with_frames ≡ without
-Finds source with_frames without (Err error) = Settles source with_frames (Err error)
+abbrev pub FindsSettled : List ℕ → SettledPath → SettledPath → Result (Option ValueCow) Error → Type 0
+FindsSettled source with_frames without (Ok (Some value)) = Settles source with_frames (Ok value)
+FindsSettled source with_frames without (Ok None) = with_frames ≡ without
+FindsSettled source with_frames without (Err error) = Settles source with_frames (Err error)

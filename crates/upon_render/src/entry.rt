@@ -9,7 +9,7 @@ ghost use Rattle.upon_render.specs.Answer.{Answers, IsLent, Lends, lent_view};
 ghost use Rattle.upon_render.specs.Finding.{found_only};
 ghost use Rattle.upon_render.specs.Frames.{entry_context};
 ghost use Rattle.upon_render.specs.Lookup.{or_not_in_scope};
-ghost use Rattle.upon_render.specs.PathSpans.{StepsLieIn};
+ghost use Rattle.upon_render.specs.PathSpans.{MembersLieIn};
 ghost use Rattle.upon_render.specs.Seen.{WalksTo};
 ghost use Rattle.upon_render.specs.Walk.{context_walk, lookup_member as member_in};
 
@@ -50,7 +50,7 @@ pub(crate) fn lookup_in_entry<'a>(
     rest: &[Member],
 ) -> Result<ValueCow<'a>>
     requires span { LiesIn source.now first.now.span }
-    requires spans { StepsLieIn source.now (map member_of rest.now) }
+    requires spans { MembersLieIn source.now (map member_of rest.now) }
     ensures answer { Answers
         cow_view
         source.now

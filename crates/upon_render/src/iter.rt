@@ -5,7 +5,7 @@ ghost use Rattle.upon_types.specs.Cow.{cow_view};
 ghost use Rattle.upon_types.specs.Path.{item};
 ghost use Rattle.upon_types.specs.Span.{LiesIn};
 ghost use Rattle.upon_types.specs.View.{view};
-ghost use Rattle.upon_render.specs.Answer.{AnswersAlways, Answers, TellsFault, maybe_view, is_borrowed, IsLentIfAny, Lends};
+ghost use Rattle.upon_render.specs.Answer.{AnswersAlways, Answers, TellsFault, maybe_view, is_borrowed_value, IsLentIfAny, Lends};
 ghost use Rattle.upon_render.specs.Environment.{first_bound};
 ghost use Rattle.upon_render.specs.Cursor.{advance, has_begun, loop_bindings, loop_walk, lends_bound};
 ghost use Rattle.upon_render.specs.Items.{items_of};
@@ -14,7 +14,7 @@ ghost use Rattle.upon_render.specs.declared.items.Item.TheVariants.{Lone};
 ghost use Rattle.upon_types.specs.declared.value.cow.ValueCow.TheVariants.{Borrowed, Owned};
 ghost use Rattle.upon_render.specs.LoopItems.{names_of_both, IsNoList, IsNoMap, KeysRise, given, is_lent_here, is_lent_rest, is_lent_item, items_left, item_of, binds};
 ghost use Rattle.upon_render.specs.Seen.{TellsMade, TellsSeen};
-ghost use Rattle.upon_render.specs.PathSpans.{StepsLieIn};
+ghost use Rattle.upon_render.specs.PathSpans.{MembersLieIn};
 ghost use Rattle.upon_render.specs.Walk.{as_some};
 
 use crate::faults;
@@ -59,7 +59,7 @@ impl<'a> LoopState<'a> {
             (items_of (loop_vars_of vars.entry.now) (cow_view iterable.entry) span)
             result }
         ensures start { IfOk result (λ state. (cursor state).here ≡ None) }
-        ensures lent { IfOk result (λ state. is_lent_loop state ≡ is_borrowed iterable.entry) }
+        ensures lent { IfOk result (λ state. is_lent_loop state ≡ is_borrowed_value iterable.entry) }
         ensures ascending { IfOk result (λ state. KeysRise (cow_view iterable.entry)) }
     {
         let rest = match vars {
@@ -123,7 +123,7 @@ impl<'a> LoopState<'a> {
     ///
     /// What a lent list or map binds is lent; the key and the loop's state are made for the answer.
     pub fn lookup_var(&self, alloc: Global, source: &str, var: &Var) -> Result<Option<ValueCow<'a>>>
-        requires { StepsLieIn source.now (rest_members var.now) }
+        requires { MembersLieIn source.now (rest_members var.now) }
         ensures answer { Answers
             maybe_view
             source.now
@@ -193,7 +193,7 @@ impl<'a> LoopState<'a> {
         path: &[Member],
     ) -> Result<Option<ValueCow<'a>>>
         requires some { 0 < length path.now }
-        requires spans { StepsLieIn source.now (map member_of path.now) }
+        requires spans { MembersLieIn source.now (map member_of path.now) }
         ensures { Answers maybe_view source.now (loop_walk (cursor self.now) (map member_of path.now)) result }
     {
         match (path, &self.here) {
@@ -307,7 +307,7 @@ fn lookup_state<'a>(
 ) -> Result<Option<ValueCow<'a>>>
     requires index { index < 2 ^ 63 }
     requires count { index < count }
-    requires spans { StepsLieIn source.now (map member_of path.now) }
+    requires spans { MembersLieIn source.now (map member_of path.now) }
     ensures { Answers maybe_view source.now (as_some (state_walk index count (map member_of path.now))) result }
 {
     match walk_state(alloc, source, index, count, path) {
@@ -325,7 +325,7 @@ fn walk_state(
 ) -> Result<Value>
     requires index { index < 2 ^ 63 }
     requires count { index < count }
-    requires spans { StepsLieIn source.now (map member_of path.now) }
+    requires spans { MembersLieIn source.now (map member_of path.now) }
     ensures { Answers view source.now (state_walk index count (map member_of path.now)) result }
 {
     match path {
@@ -398,7 +398,7 @@ fn lookup_item<'a>(
     name: &str,
     path: &[Member],
 ) -> Result<Option<ValueCow<'a>>>
-    requires { StepsLieIn source.now (map member_of path.now) }
+    requires { MembersLieIn source.now (map member_of path.now) }
     ensures answer { Answers
         maybe_view
         source.now
@@ -509,7 +509,7 @@ fn lookup_key<'a>(
     key: &str,
     path: &[Member],
 ) -> Result<Option<ValueCow<'a>>>
-    requires { StepsLieIn source.now (map member_of path.now) }
+    requires { MembersLieIn source.now (map member_of path.now) }
     ensures { Answers maybe_view source.now (as_some (key_walk key.now (map member_of path.now))) result }
 {
     match path {
@@ -534,7 +534,7 @@ fn list_items<'a>(
         source.now
         (items_of (item (ident_of name.now)) (cow_view iterable.entry) span)
         result }
-    ensures lent { IfOk result (λ rest. is_lent_rest rest ≡ is_borrowed iterable.entry) }
+    ensures lent { IfOk result (λ rest. is_lent_rest rest ≡ is_borrowed_value iterable.entry) }
     ensures fits { IfOk result (λ rest. length (items_left rest) < 2 ^ 63) }
     ensures ascending { IfOk result (λ rest. KeysRise (cow_view iterable.entry)) }
 {
@@ -566,7 +566,7 @@ fn map_items<'a>(
         source.now
         (items_of (names_of_both names.now) (cow_view iterable.entry) span)
         result }
-    ensures lent { IfOk result (λ rest. is_lent_rest rest ≡ is_borrowed iterable.entry) }
+    ensures lent { IfOk result (λ rest. is_lent_rest rest ≡ is_borrowed_value iterable.entry) }
     ensures fits { IfOk result (λ rest. length (items_left rest) < 2 ^ 63) }
     ensures ascending { IfOk result (λ rest. KeysRise (cow_view iterable.entry)) }
 {

@@ -2,7 +2,7 @@
 ghost use Rattle.std.specs.Prelude.{◌≡◌, List, ℕ, IfOk, map};
 ghost use Rattle.upon_types.specs.AstPath.{member_of};
 ghost use Rattle.upon_types.specs.View.{view};
-ghost use Rattle.upon_render.specs.Asked.{Asked, asked_member, asked_path};
+ghost use Rattle.upon_render.specs.Asked.{HasReply, asked_member, asked_path};
 ghost use Rattle.upon_render.specs.Source.{Source, value_member_of, value_members_of};
 
 use std::alloc::{AllocError, Global};
@@ -62,7 +62,7 @@ pub trait ValueSource: Drop {
     fn value(&mut self, path: &[ValueMember]) -> Result<Value, SourceError>
         ensures same { holds self.new ≡ holds self.old }
         ensures stays { ask self.new ≡ ask self.old }
-        ensures asked { Asked view result (value_state self.new)
+        ensures asked { HasReply view result (value_state self.new)
             (ask self.old (value_state self.old) (asked_path path.now)) };
 }
 
@@ -97,13 +97,13 @@ impl NoSource {
 
 impl ValueSource for NoSource {
     ghost use Rattle.std.specs.Prelude.{[]};
-    ghost use Rattle.upon_render.specs.Asked.{never};
+    ghost use Rattle.upon_render.specs.Asked.{refuses_all};
 
     ghost State = { Unit {0} };
 
     ghost value_state = { λ _. tt };
 
-    ghost ask = { λ _. never };
+    ghost ask = { λ _. refuses_all };
 
     ghost holds = { λ _. [] };
 

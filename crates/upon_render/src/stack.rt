@@ -4,15 +4,15 @@ ghost use Rattle.upon_types.specs.AstPath.{member_of, first_member, rest_members
 ghost use Rattle.upon_types.specs.Cow.{cow_view};
 ghost use Rattle.upon_types.specs.Span.{LiesIn};
 ghost use Rattle.upon_types.specs.View.{view};
-ghost use Rattle.upon_render.specs.Answer.{Answers, maybe_view, is_borrowed, IsLent, IsLentIfAny, Lends};
+ghost use Rattle.upon_render.specs.Answer.{Answers, maybe_view, is_borrowed_value, IsLent, IsLentIfAny, Lends};
 ghost use Rattle.upon_render.specs.Cursor.{lends_bound};
 ghost use Rattle.upon_render.specs.Loop.{cursor};
 ghost use Rattle.upon_render.specs.Environment.{Environment, value_source, binding, plain, binding_of};
 ghost use Rattle.upon_render.specs.Frames.{frame_over, frames_over, frame_lends, frames_lend};
 ghost use Rattle.upon_render.specs.Seen.{FindsMade, FindsSeen, LooksUp, RootTells, TellsSeen, made_view};
 ghost use Rattle.upon_render.specs.Lookup.{lookup, root_value, bindings_walk, or_not_in_scope};
-ghost use Rattle.upon_render.specs.PathSpans.{StepsLieIn};
-ghost use Rattle.upon_render.specs.Settled.{known, Finds};
+ghost use Rattle.upon_render.specs.PathSpans.{MembersLieIn};
+ghost use Rattle.upon_render.specs.Settled.{known_path, FindsSettled};
 ghost use Rattle.upon_render.specs.Source.{Source};
 ghost use Rattle.upon_render.specs.Roots.{pure_root, root_lends, HasSource, KeepsRoot, OrOutOfMemory};
 ghost use Rattle.upon_render.specs.Walk.{context_walk};
@@ -57,7 +57,7 @@ pub struct Stack<'a, V> {
 }
 
 impl<'a, V: ValueSource> Stack<'a, V> {
-    ghost use Rattle.upon_render.specs.Stack.{environment_of, root_of, frames_of, stack_lends, top, IsScope, IsVar, IsLoop, IsBoundary, Iterates};
+    ghost use Rattle.upon_render.specs.Stack.{stack_environment, root_of, frames_of, stack_lends, top, IsScope, IsVar, IsLoop, IsBoundary, Iterates};
 
     /// No frame, over a context.
     pub fn new(alloc: Global, context: &'a Value) -> Stack<'a, V>
@@ -85,22 +85,22 @@ impl<'a, V: ValueSource> Stack<'a, V> {
     ///
     /// What a lent value binds is lent. A source is asked once, for the whole path, if no frame binds it.
     pub fn lookup_var(&mut self, source: &str, var: &Var) -> Result<ValueCow<'a>>
-        requires { StepsLieIn source.now (first_member var.now ∷ rest_members var.now) }
+        requires { MembersLieIn source.now (first_member var.now ∷ rest_members var.now) }
         ensures answer { (ask : Source V.State) (q : V.State) → HasSource V.ask V.value_state (root_of self.old) ask q
             → Answers
             cow_view
             source.now
-            (lookup ask (environment_of self.old) (first_member var.now) (rest_members var.now) q).answer
+            (lookup ask (stack_environment self.old) (first_member var.now) (rest_members var.now) q).answer
             result }
         ensures next { (ask : Source V.State) (q : V.State) → HasSource V.ask V.value_state (root_of self.old) ask q
             → OrOutOfMemory
             result
             (HasSource V.ask V.value_state (root_of self.new) ask
-            (lookup ask (environment_of self.old) (first_member var.now) (rest_members var.now) q).next) }
+            (lookup ask (stack_environment self.old) (first_member var.now) (rest_members var.now) q).next) }
         ensures lent { (ask : Source V.State) (q : V.State) → stack_lends self.old (first_member var.now).access ≡ true
             → Lends
             IsLent
-            (lookup ask (environment_of self.old) (first_member var.now) (rest_members var.now) q).answer
+            (lookup ask (stack_environment self.old) (first_member var.now) (rest_members var.now) q).answer
             result }
         ensures frames { frames_of self.new ≡ frames_of self.old }
         ensures root { KeepsRoot V.ask V.holds (root_of self.old) (root_of self.new) }
@@ -119,7 +119,7 @@ impl<'a, V: ValueSource> Stack<'a, V> {
         ensures { (ask : Source V.State) (q : V.State) → LooksUp
             (λ value. view value.now)
             ask
-            (environment_of self.now)
+            (stack_environment self.now)
             (first_member var.now)
             (rest_members var.now)
             q
@@ -139,7 +139,7 @@ impl<'a, V: ValueSource> Stack<'a, V> {
         ensures { (ask : Source V.State) (q : V.State) → LooksUp
             (λ value. view value.now)
             ask
-            (environment_of self.now)
+            (stack_environment self.now)
             (first_member var.now)
             (rest_members var.now)
             q
@@ -158,7 +158,7 @@ impl<'a, V: ValueSource> Stack<'a, V> {
         ensures { (ask : Source V.State) (q : V.State) → LooksUp
             made_view
             ask
-            (environment_of self.now)
+            (stack_environment self.now)
             (first_member var.now)
             (rest_members var.now)
             q
@@ -173,7 +173,7 @@ impl<'a, V: ValueSource> Stack<'a, V> {
         ensures { (ask : Source V.State) (q : V.State) → IfSome result (λ copy. IfOk copy (λ value. LooksUp
             view
             ask
-            (environment_of self.now)
+            (stack_environment self.now)
             (first_member var.now)
             (rest_members var.now)
             q
@@ -192,7 +192,8 @@ impl<'a, V: ValueSource> Stack<'a, V> {
     #[inline(always)]
     pub fn push(&mut self, frame: State<'a>) -> std::result::Result<(), AllocError>
         ensures ok { OnOk result (frames_of self.new ≡ frames_of self.old ++ frame.entry ∷ []) }
-        ensures environment { OnOk result (environment_of self.new ≡ frame_over frame.entry (environment_of self.old)) }
+        ensures environment { OnOk result (stack_environment self.new
+            ≡ frame_over frame.entry (stack_environment self.old)) }
         ensures err { OnErr result (frames_of self.new ≡ frames_of self.old) }
         ensures root { root_of self.new ≡ root_of self.old }
     {
@@ -368,7 +369,7 @@ fn lookup_root<'a, V: ValueSource>(
     root: &mut Root<'a, V>,
     var: &Var,
 ) -> Result<ValueCow<'a>>
-    requires { StepsLieIn source.now (first_member var.now ∷ rest_members var.now) }
+    requires { MembersLieIn source.now (first_member var.now ∷ rest_members var.now) }
     ensures answer { (ask : Source V.State) (q : V.State) → HasSource V.ask V.value_state root.old ask q → Answers
         cow_view
         source.now
@@ -405,7 +406,7 @@ fn ask_source<'a, V: ValueSource>(
     values: &mut V,
     var: &Var,
 ) -> Result<ValueCow<'a>>
-    requires { StepsLieIn source.now (first_member var.now ∷ rest_members var.now) }
+    requires { MembersLieIn source.now (first_member var.now ∷ rest_members var.now) }
     ensures answer { Answers
         cow_view
         source.now
@@ -439,12 +440,12 @@ fn search<'a>(
     frames: &[State<'a>],
     var: &Var,
 ) -> Result<Option<ValueCow<'a>>>
-    requires { StepsLieIn source.now (first_member var.now ∷ rest_members var.now) }
-    ensures { (env : Environment) (lent : Bool) → Finds
+    requires { MembersLieIn source.now (first_member var.now ∷ rest_members var.now) }
+    ensures { (env : Environment) (lent : Bool) → FindsSettled
         source.now
-        (known (frames_over env frames.now) (frames_lend lent frames.now (first_member var.now).access)
+        (known_path (frames_over env frames.now) (frames_lend lent frames.now (first_member var.now).access)
         (first_member var.now) (rest_members var.now))
-        (known env lent (first_member var.now) (rest_members var.now))
+        (known_path env lent (first_member var.now) (rest_members var.now))
         result }
 {
     let mut left = frames.len();
@@ -463,9 +464,9 @@ fn search<'a>(
 #[inline(always)]
 fn find_in_frames<'s, 'a>(frames: &'s [State<'a>], var: &Var) -> Found<'s, 'a>
     ensures { (env : Environment) (lent : Bool) → FindsSeen
-        (known (frames_over env frames.now) (frames_lend lent frames.now (first_member var.now).access)
+        (known_path (frames_over env frames.now) (frames_lend lent frames.now (first_member var.now).access)
         (first_member var.now) (rest_members var.now))
-        (known env lent (first_member var.now) (rest_members var.now))
+        (known_path env lent (first_member var.now) (rest_members var.now))
         result }
 {
     let mut left = frames.len();
@@ -484,7 +485,7 @@ fn find_in_frames<'s, 'a>(frames: &'s [State<'a>], var: &Var) -> Found<'s, 'a>
 // What the innermost frame that binds the path says of itself, if that is a loop.
 fn made_in_frames<'s>(frames: &'s [State<'_>], var: &Var) -> Option<Made<'s>>
     ensures { (env : Environment) (lent : Bool) → FindsMade
-        (known (frames_over env frames.now) (frames_lend lent frames.now (first_member var.now).access)
+        (known_path (frames_over env frames.now) (frames_lend lent frames.now (first_member var.now).access)
         (first_member var.now) (rest_members var.now))
         result }
 {
@@ -504,9 +505,9 @@ fn made_in_frames<'s>(frames: &'s [State<'_>], var: &Var) -> Option<Made<'s>>
 #[inline(always)]
 fn find_in_frame<'s, 'a>(frame: &'s State<'a>, var: &Var) -> Found<'s, 'a>
     ensures { (env : Environment) (lent : Bool) → FindsSeen
-        (known (frame_over frame.now env) (frame_lends frame.now (first_member var.now).access lent)
+        (known_path (frame_over frame.now env) (frame_lends frame.now (first_member var.now).access lent)
         (first_member var.now) (rest_members var.now))
-        (known env lent (first_member var.now) (rest_members var.now))
+        (known_path env lent (first_member var.now) (rest_members var.now))
         result }
 {
     match frame {
@@ -560,12 +561,12 @@ fn lookup_frame<'a>(
     frame: &State<'a>,
     var: &Var,
 ) -> Result<Option<ValueCow<'a>>>
-    requires { StepsLieIn source.now (first_member var.now ∷ rest_members var.now) }
-    ensures { (env : Environment) (lent : Bool) → Finds
+    requires { MembersLieIn source.now (first_member var.now ∷ rest_members var.now) }
+    ensures { (env : Environment) (lent : Bool) → FindsSettled
         source.now
-        (known (frame_over frame.now env) (frame_lends frame.now (first_member var.now).access lent)
+        (known_path (frame_over frame.now env) (frame_lends frame.now (first_member var.now).access lent)
         (first_member var.now) (rest_members var.now))
-        (known env lent (first_member var.now) (rest_members var.now))
+        (known_path env lent (first_member var.now) (rest_members var.now))
         result }
 {
     match frame {
@@ -595,14 +596,14 @@ fn lookup_named<'a>(
     value: &ValueCow<'a>,
     var: &Var,
 ) -> Result<Option<ValueCow<'a>>>
-    requires { StepsLieIn source.now (rest_members var.now) }
+    requires { MembersLieIn source.now (rest_members var.now) }
     ensures answer { Answers
         maybe_view
         source.now
         (bindings_walk (binding (ident_of ident.now).text (plain (cow_view value.now)) ∷ []) (first_member var.now)
         (rest_members var.now))
         result }
-    ensures lent { lends_bound (is_borrowed value.now)
+    ensures lent { lends_bound (is_borrowed_value value.now)
         (binding_of (first_member var.now).access
         (binding (ident_of ident.now).text (plain (cow_view value.now)) ∷ [])) ≡ true → Lends
         IsLentIfAny
@@ -628,14 +629,14 @@ fn lookup_context<'a>(
     rest: &[Member],
 ) -> Result<ValueCow<'a>>
     requires span { LiesIn source.now first.now.span }
-    requires spans { StepsLieIn source.now (map member_of rest.now) }
+    requires spans { MembersLieIn source.now (map member_of rest.now) }
     ensures answer { Answers
         cow_view
         source.now
         (or_not_in_scope (context_walk (member_of first.now) (map member_of rest.now) (cow_view context.now))
         first.now.span)
         result }
-    ensures lent { is_borrowed context.now ≡ true → Lends
+    ensures lent { is_borrowed_value context.now ≡ true → Lends
         IsLent
         (or_not_in_scope (context_walk (member_of first.now) (map member_of rest.now) (cow_view context.now))
         first.now.span)

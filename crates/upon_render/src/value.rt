@@ -4,10 +4,10 @@ ghost use Rattle.upon_types.specs.AstPath.{member_of};
 ghost use Rattle.upon_types.specs.Cow.{cow_view};
 ghost use Rattle.upon_types.specs.Span.{LiesIn};
 ghost use Rattle.upon_types.specs.View.{view, vals_view};
-ghost use Rattle.upon_render.specs.Answer.{AnswersAlways, Answers, TellsFault, lent_view, lent_or_none, maybe_view, is_borrowed, IsLent, IsLentIfAny, Lends};
+ghost use Rattle.upon_render.specs.Answer.{AnswersAlways, Answers, TellsFault, lent_view, lent_or_none, maybe_view, is_borrowed_value, IsLent, IsLentIfAny, Lends};
 ghost use Rattle.upon_render.specs.Finding.{found, found_only};
 ghost use Rattle.upon_render.specs.Seen.{IsFound, TellsSeen, WalksTo, made_view};
-ghost use Rattle.upon_render.specs.PathSpans.{StepsLieIn};
+ghost use Rattle.upon_render.specs.PathSpans.{MembersLieIn};
 ghost use Rattle.upon_render.specs.Vals.{val_list};
 ghost use Rattle.upon_render.specs.Walk.{lookup_member as member_in, walk, as_some, context_walk, path_in_context, found_or_missed};
 ghost use Rattle.upon_types.specs.Fault.{Fault};
@@ -50,9 +50,9 @@ pub fn lookup_path<'a>(
     value: &ValueCow<'a>,
     path: &[Member],
 ) -> Result<ValueCow<'a>>
-    requires { StepsLieIn source.now (map member_of path.now) }
+    requires { MembersLieIn source.now (map member_of path.now) }
     ensures answer { Answers cow_view source.now (walk (map member_of path.now) (cow_view value.now)) result }
-    ensures lent { is_borrowed value.now ≡ true
+    ensures lent { is_borrowed_value value.now ≡ true
         → Lends IsLent (walk (map member_of path.now) (cow_view value.now)) result }
 {
     match value {
@@ -78,10 +78,10 @@ pub fn lookup_path_maybe<'a>(
     path: &[Member],
 ) -> Result<Option<ValueCow<'a>>>
     requires some { 0 < length path.now }
-    requires spans { StepsLieIn source.now (map member_of path.now) }
+    requires spans { MembersLieIn source.now (map member_of path.now) }
     ensures answer { Answers maybe_view source.now (path_in_context (map member_of path.now) (cow_view value.now))
         result }
-    ensures lent { is_borrowed value.now ≡ true
+    ensures lent { is_borrowed_value value.now ≡ true
         → Lends IsLentIfAny (path_in_context (map member_of path.now) (cow_view value.now)) result }
     ensures unbound { path_in_context (map member_of path.now) (cow_view value.now) ≡ found None → result ≡ Ok None }
 {
@@ -98,10 +98,10 @@ pub(crate) fn lookup_bound<'a>(
     value: &ValueCow<'a>,
     path: &[Member],
 ) -> Result<Option<ValueCow<'a>>>
-    requires { StepsLieIn source.now (map member_of path.now) }
+    requires { MembersLieIn source.now (map member_of path.now) }
     ensures answer { Answers maybe_view source.now (as_some (walk (map member_of path.now) (cow_view value.now)))
         result }
-    ensures lent { is_borrowed value.now ≡ true
+    ensures lent { is_borrowed_value value.now ≡ true
         → Lends IsLentIfAny (as_some (walk (map member_of path.now) (cow_view value.now))) result }
 {
     match lookup_path(alloc, source, value, path) {
@@ -118,10 +118,10 @@ pub(crate) fn lookup_in_context<'a>(
     first: &Member,
     rest: &[Member],
 ) -> Result<Option<ValueCow<'a>>>
-    requires { StepsLieIn source.now (map member_of rest.now) }
+    requires { MembersLieIn source.now (map member_of rest.now) }
     ensures answer { Answers maybe_view source.now
         (context_walk (member_of first.now) (map member_of rest.now) (cow_view value.now)) result }
-    ensures lent { is_borrowed value.now ≡ true
+    ensures lent { is_borrowed_value value.now ≡ true
         → Lends IsLentIfAny (context_walk (member_of first.now) (map member_of rest.now) (cow_view value.now)) result }
     ensures unbound { context_walk (member_of first.now) (map member_of rest.now) (cow_view value.now) ≡ found None
         → result ≡ Ok None }
@@ -236,7 +236,7 @@ fn descend<'a>(
     start: &'a Value,
     path: &[Member],
 ) -> Result<Option<&'a Value>>
-    requires { StepsLieIn source.now (map member_of path.now) }
+    requires { MembersLieIn source.now (map member_of path.now) }
     ensures { AnswersAlways lent_or_none source.now (walk (map member_of path.now) (view start.now)) result }
 {
     let mut here = start;

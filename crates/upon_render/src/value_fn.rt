@@ -1,7 +1,7 @@
 // Functions from paths to values as sources.
 ghost use Rattle.std.specs.Prelude.{◌≡◌};
 ghost use Rattle.upon_types.specs.View.{view};
-ghost use Rattle.upon_render.specs.Asked.{Asked, asked_path};
+ghost use Rattle.upon_render.specs.Asked.{HasReply, asked_path};
 ghost use Rattle.upon_render.specs.Source.{Source};
 
 use crate::source::{SourceError, ValueMember, ValueSource};
@@ -21,7 +21,8 @@ pub trait CallPath: Drop {
     /// Returns the value at this path. The error is `Refused` if the function refuses, and `Memory` if memory is
     /// out.
     fn call(&mut self, path: &[ValueMember]) -> Result<Value, SourceError>
-        ensures { Asked view result (call_state self.new) (answers_path (call_state self.old) (asked_path path.now)) };
+        ensures { HasReply view result (call_state self.new)
+            (answers_path (call_state self.old) (asked_path path.now)) };
 }
 
 /// The source that is a function.

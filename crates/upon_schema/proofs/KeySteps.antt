@@ -4,7 +4,7 @@ use Rattle.std.proofs.lemmas.Slice.Eq.{bytes_eq-Decides}
 use Rattle.upon_types.specs.Val.{Val, text_val, map_val, Vals, val_then, Entries, entry_then, entry_at}
 use Rattle.upon_shape_spec.specs.Shape.{Shape as SpecShape, Keys, other_keys, key_then}
 use Rattle.upon_shape_spec.specs.Fits.{Held, Fits, KeyFits, MapsRise}
-use Rattle.upon_shape.specs.View.{view, ahead}
+use Rattle.upon_shape.specs.View.{shape_view, ahead}
 use Rattle.upon_shape.specs.declared.shape.Key.{Key}
 use Rattle.upon_shape.specs.declared.shape.Shape.{Shape}
 use Rattle.upon_types.specs.View.{view as value_view, vals_view}
@@ -23,24 +23,24 @@ ReadsAhead P properties names left named = (es : Entries) → MapsRise (map_val 
     → (key : List ℕ) (rest : Keys) → (entry_at key left ≡ entry_at key properties → KeyFits key rest (entry_at key es)) → KeyFits key (ahead named rest) (entry_at key es)
 
 -- one more key, ahead of others
-pub key_ahead : (named : List (Key Shape)) (x : Key Shape) (rest : Keys) (key : List ℕ) (o : Option Val) → KeyFits key (ahead named (key_then (string_bytes x.name) x.required (view x.shape) rest)) o → KeyFits key (ahead (named ++ x ∷ []) rest) o
+pub key_ahead : (named : List (Key Shape)) (x : Key Shape) (rest : Keys) (key : List ℕ) (o : Option Val) → KeyFits key (ahead named (key_then (string_bytes x.name) x.required (shape_view x.shape) rest)) o → KeyFits key (ahead (named ++ x ∷ []) rest) o
 key_ahead named x rest key o h = subst (λ (ks : Keys). KeyFits key ks o) (sym (ahead-push named x rest)) h
 
 -- what a property says of a map that is valid
-property_held : (P : Val → Val → Type 0) (properties : Entries) (names : Vals) (x : Key Shape) (s : Val) → x.required ≡ has_text (string_bytes x.name) names → Covers (view x.shape) (P s)
-    → (es : Entries) → MapsRise (map_val es) → PropertiesHold P properties es → RequiredHold names es → (key : List ℕ) → key ≡ string_bytes x.name → entry_at key properties ≡ Some s → Held x.required (Fits (view x.shape)) (entry_at key es)
+property_held : (P : Val → Val → Type 0) (properties : Entries) (names : Vals) (x : Key Shape) (s : Val) → x.required ≡ has_text (string_bytes x.name) names → Covers (shape_view x.shape) (P s)
+    → (es : Entries) → MapsRise (map_val es) → PropertiesHold P properties es → RequiredHold names es → (key : List ℕ) → key ≡ string_bytes x.name → entry_at key properties ≡ Some s → Held x.required (Fits (shape_view x.shape)) (entry_at key es)
 property_held P properties names x s required covers es rise hold there key is at =
-    held_unless (entry_at key es) x.required (Fits (view x.shape))
+    held_unless (entry_at key es) x.required (Fits (shape_view x.shape))
     (λ v e. covers v (entry_rises es key v rise.1 e) (hold key s v at e))
     (λ must. there key (ap (λ (k : List ℕ). has_text k names) is ∙ sym required ∙ must))
 
 pub reads_more : (P : Val → Val → Type 0) (properties : Entries) (names : Vals) (k : List ℕ) (s : Val) (left : Entries) (named : List (Key Shape)) (x : Key Shape)
-    → string_bytes x.name ≡ k → x.required ≡ has_text k names → Covers (view x.shape) (P s)
+    → string_bytes x.name ≡ k → x.required ≡ has_text k names → Covers (shape_view x.shape) (P s)
     → ReadsAhead P properties names (entry_then k s left) named → ReadsAhead P properties names left (named ++ x ∷ [])
 reads_more P properties names k s left named x name required covers before es rise hold there key rest f =
     let n = string_bytes x.name in
     key_ahead named x rest key (entry_at key es)
-    (before es rise hold there key (key_then n x.required (view x.shape) rest)
+    (before es rise hold there key (key_then n x.required (shape_view x.shape) rest)
     (λ same. by_test (bytes_eq key n)
     (λ here. property_held P properties names x s (required ∙ ap (λ (l : List ℕ). has_text l names) (sym name)) covers es rise hold there key ((bytes_eq-Decides key n).0 here)
     (sym same ∙ at_first key k s left (ap (bytes_eq key) (sym name) ∙ here)))
@@ -48,15 +48,15 @@ reads_more P properties names k s left named x name required covers before es ri
 
 -- ---- keys that a map must have
 pub requires_more : (properties es : Entries) (names : Vals) (key : List ℕ) (others : SpecShape) (named : List (Key Shape)) (x : Key Shape)
-    → x.required ≡ true → view x.shape ≡ others → has_text (string_bytes x.name) names ≡ true → RequiredHold names es
+    → x.required ≡ true → shape_view x.shape ≡ others → has_text (string_bytes x.name) names ≡ true → RequiredHold names es
     → (entry_at key properties ≡ None → Held false (Fits others) (entry_at key es))
     → FitsAhead properties key (entry_at key es) named → FitsAhead properties key (entry_at key es) (named ++ x ∷ [])
 requires_more properties es names key others named x required shape among there held before rest f =
     let n = string_bytes x.name in
     key_ahead named x rest key (entry_at key es)
-    (before (key_then n x.required (view x.shape) rest)
+    (before (key_then n x.required (shape_view x.shape) rest)
     (λ beside. by_test (bytes_eq key n)
-    (λ here. held_there (entry_at key es) x.required (Fits (view x.shape))
+    (λ here. held_there (entry_at key es) x.required (Fits (shape_view x.shape))
     (subst (λ (s : SpecShape). Held false (Fits s) (entry_at key es)) (sym shape) (held beside))
     (there key (ap (λ (l : List ℕ). has_text l names) ((bytes_eq-Decides key n).0 here) ∙ among)))
     (λ later. f beside)))

@@ -6,7 +6,7 @@ use Rattle.upon_types.specs.declared.value.Value.{Value}
 use Rattle.upon_shape.proofs.Steps.{cut_before}
 use Rattle.upon_shape_spec.specs.Shape.{Shape, any_shape, list_of}
 use Rattle.upon_shape_spec.specs.Fits.{Fits, MapsRise}
-use Rattle.upon_shape_spec.specs.Join.{join}
+use Rattle.upon_shape_spec.specs.Join.{join_shapes}
 use Rattle.upon_shape_spec.proofs.Joins.{first_fits, second_fits}
 use Rattle.upon_schema.specs.Covers.{Covers}
 use Rattle.upon_schema.specs.Valid.{IsOfType, IsOfTypes, TypeAllows, TypeHolds}
@@ -26,7 +26,7 @@ pub covers_type : (s t : Shape) (name other : List ℕ) → s ≡ t → name ≡
 covers_type s t name other e f fits v rise h = subst (λ (x : Shape). Fits x v) (sym e) (fits v rise (subst (λ (x : List ℕ). IsOfType x v) f h))
 
 -- ---- some types
-pub covers_more : (s t : Shape) (name : List ℕ) (names : Vals) → Covers s (IsOfType name) → Covers t (IsOfTypes names) → (v : Val) → MapsRise v → IsOfTypes (val_then (text_val name) names) v → Fits (join s t) v
+pub covers_more : (s t : Shape) (name : List ℕ) (names : Vals) → Covers s (IsOfType name) → Covers t (IsOfTypes names) → (v : Val) → MapsRise v → IsOfTypes (val_then (text_val name) names) v → Fits (join_shapes s t) v
 covers_more s t name names f g v rise (inl h) = first_fits s t v (f v rise h)
 covers_more s t name names f g v rise (inr h) = second_fits s t v (g v rise h)
 
@@ -39,7 +39,7 @@ of_some_types schema names e v h = subst (λ (o : Option Val). TypeAllows o v) (
 
 -- ---- one name more
 pub types_before : (names : List Value) (i j : ℕ) (x : Value) (name : List ℕ) (s t u : Shape) → j + 1 ≡ i → j < length names → x ≡ get_or names j x → view x ≡ text_val name
-    → u ≡ join s t → Covers s (IsOfType name) → Covers t (IsOfTypes (vals_view (drop i names))) → (v : Val) → MapsRise v → IsOfTypes (vals_view (drop j names)) v → Fits u v
+    → u ≡ join_shapes s t → Covers s (IsOfType name) → Covers t (IsOfTypes (vals_view (drop i names))) → (v : Val) → MapsRise v → IsOfTypes (vals_view (drop j names)) v → Fits u v
 types_before names i j x name s t u next less is text joined f g v rise h =
     let cut : drop j names ≡ x ∷ drop i names = cut_before names j x less is ∙ (λ k. x ∷ drop (next k) names) in
     let some : IsOfTypes (val_then (view x) (vals_view (drop i names))) v = subst (λ (ws : List Value). IsOfTypes (vals_view ws) v) cut h in

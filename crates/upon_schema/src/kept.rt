@@ -1,13 +1,13 @@
 // The values of a shape that are of the kinds of another.
 ghost use Rattle.std.specs.Prelude.{◌≡◌};
-ghost use Rattle.upon_shape.specs.View.{plain_view, view, lists_view, maps_view};
+ghost use Rattle.upon_shape.specs.View.{plain_view, shape_view, lists_view, maps_view};
 ghost use Rattle.upon_schema.specs.Kept.{kept, kept_lists, kept_maps, kept_plain};
 
 use upon_shape::shape::{Keys, Plain, Shape};
 
 // The shape of those values of a shape that are of a kind that another shape has.
 pub(crate) fn kept(kinds: Shape, shape: Shape) -> Shape
-    ensures { view result ≡ kept (view kinds) (view shape) }
+    ensures { shape_view result ≡ kept (shape_view kinds) (shape_view shape) }
 {
     let Shape::OneOf { plain, items, keys } = kinds else {
         return shape;

@@ -4,7 +4,7 @@ ghost use Rattle.upon_types.specs.Val.{Val, Entries, map_val, entry_at};
 ghost use Rattle.upon_types.specs.View.{view as value_view, vals_view};
 ghost use Rattle.upon_shape_spec.specs.Fits.{Fits, Held, MapsRise};
 ghost use Rattle.upon_shape_spec.specs.Shape.{plain};
-ghost use Rattle.upon_shape.specs.View.{view, keys_view, plain_view};
+ghost use Rattle.upon_shape.specs.View.{shape_view, keys_view, plain_view};
 ghost use Rattle.upon_schema.specs.Covers.{Covers, CoversMaps, FitsAhead};
 ghost use Rattle.upon_schema.specs.Place.{ValidAt};
 ghost use Rattle.upon_schema.specs.Valid.{Valid, ValidAtKey, KeywordsHold, ReferenceHolds, EntriesHold, PropertiesHold, RequiredHold, has_text, properties_of};
@@ -34,7 +34,7 @@ const MAX_SCHEMAS: usize = 65_536;
 /// nothing refers to are not looked at.
 pub fn shape_of_schema(alloc: Global, schema: &Value) -> Result<Shape, SchemaFault>
     ensures { IfOk result
-        (λ s. (v : Val) → MapsRise v → Valid (value_view schema.now) v → Fits (view s) v) }
+        (λ s. (v : Val) → MapsRise v → Valid (value_view schema.now) v → Fits (shape_view s) v) }
 {
     let open = ["#"];
     let place = Place {
@@ -50,7 +50,7 @@ pub fn shape_of_schema(alloc: Global, schema: &Value) -> Result<Shape, SchemaFau
 // The shape of what is valid by a schema.
 #[cycle(read)]
 fn read(place: &Place<'_>, schema: &Value, left: &mut usize) -> Result<Shape, SchemaFault>
-    ensures { IfOk result (λ s. Covers (view s) (ValidAt place.now (value_view schema.now))) }
+    ensures { IfOk result (λ s. Covers (shape_view s) (ValidAt place.now (value_view schema.now))) }
 {
     let inner = place.inside(left)?;
     match schema {
@@ -71,7 +71,7 @@ fn referred_shape(
     reference: &Value,
     left: &mut usize,
 ) -> Result<Shape, SchemaFault>
-    ensures { IfOk result (λ s. Covers (view s) (λ v. (root : Val) → ReferenceHolds (ValidAt place.now)
+    ensures { IfOk result (λ s. Covers (shape_view s) (λ v. (root : Val) → ReferenceHolds (ValidAt place.now)
         (value_view place.now.root.now) root (Some (value_view reference.now)) v)) }
 {
     let alloc = place.alloc;
@@ -100,7 +100,7 @@ fn referred_shape(
 // The shape of what is valid by the keywords of a schema.
 #[cycle(read)]
 fn keywords_shape(place: &Place<'_>, schema: &Value, left: &mut usize) -> Result<Shape, SchemaFault>
-    ensures { IfOk result (λ s. Covers (view s) (KeywordsHold (ValidAt place.now) (value_view schema.now))) }
+    ensures { IfOk result (λ s. Covers (shape_view s) (KeywordsHold (ValidAt place.now) (value_view schema.now))) }
 {
     let alloc = place.alloc;
     check_keywords(alloc, schema)?;
@@ -124,7 +124,7 @@ fn shape_at(
     left: &mut usize,
 ) -> Result<Shape, SchemaFault>
     ensures { IfOk result
-        (λ s. Covers (view s) (ValidAtKey (ValidAt place.now) keyword.now (value_view schema.now))) }
+        (λ s. Covers (shape_view s) (ValidAtKey (ValidAt place.now) keyword.now (value_view schema.now))) }
 {
     let Some(inner) = entry(schema, keyword) else {
         return Ok(Shape::Any);
@@ -213,7 +213,7 @@ fn add_required(
 ) -> Result<(), AllocError>
     ensures { OnOk result ((properties : Entries) (es : Entries) (key : List ℕ)
         → RequiredHold (vals_view required.now) es
-        → (entry_at key properties ≡ None → Held false (Fits (view others.now)) (entry_at key es))
+        → (entry_at key properties ≡ None → Held false (Fits (shape_view others.now)) (entry_at key es))
         → FitsAhead properties key (entry_at key es) named.old.items
         → FitsAhead properties key (entry_at key es) named.new.items) }
 {
@@ -252,7 +252,7 @@ fn each_plain() -> Plain
 
 // The shape, or that of any value if it takes each.
 fn simplified(shape: Shape) -> Shape
-    ensures { (v : Val) → Fits (view shape) v → Fits (view result) v }
+    ensures { (v : Val) → Fits (shape_view shape) v → Fits (shape_view result) v }
 {
     if takes_all(&shape) { Shape::Any } else { shape }
 }

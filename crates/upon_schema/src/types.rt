@@ -1,7 +1,7 @@
 // The shapes of the types that a schema names.
 ghost use Rattle.std.specs.Prelude.{IfOk, codes};
 ghost use Rattle.upon_types.specs.View.{view as value_view, vals_view};
-ghost use Rattle.upon_shape.specs.View.{view};
+ghost use Rattle.upon_shape.specs.View.{shape_view};
 ghost use Rattle.upon_schema.specs.Covers.{Covers};
 ghost use Rattle.upon_schema.specs.Valid.{IsOfType, IsOfTypes, TypeHolds};
 
@@ -13,7 +13,7 @@ use upon_types::value::look::entry;
 
 // The shape of the values of the types that the schema names, or of any value if it names none.
 pub(crate) fn types_shape(alloc: Global, schema: &Value) -> Result<Shape, SchemaFault>
-    ensures { IfOk result (λ s. Covers (view s) (TypeHolds (value_view schema.now))) }
+    ensures { IfOk result (λ s. Covers (shape_view s) (TypeHolds (value_view schema.now))) }
 {
     let Some(found) = entry(schema, "type") else {
         return Ok(Shape::Any);
@@ -27,7 +27,7 @@ pub(crate) fn types_shape(alloc: Global, schema: &Value) -> Result<Shape, Schema
 
 // The shape of the values of one of some types.
 fn joined_types(alloc: Global, names: &[Value]) -> Result<Shape, SchemaFault>
-    ensures { IfOk result (λ s. Covers (view s) (IsOfTypes (vals_view names.now))) }
+    ensures { IfOk result (λ s. Covers (shape_view s) (IsOfTypes (vals_view names.now))) }
 {
     let mut shape = Shape::never();
     for index in (0..names.len()).rev() {
@@ -41,7 +41,7 @@ fn joined_types(alloc: Global, names: &[Value]) -> Result<Shape, SchemaFault>
 
 // The shape of the values of a type.
 fn type_shape(alloc: Global, name: &str) -> Result<Shape, SchemaFault>
-    ensures { IfOk result (λ s. Covers (view s) (IsOfType name.now)) }
+    ensures { IfOk result (λ s. Covers (shape_view s) (IsOfType name.now)) }
 {
     match name {
         "null" => Ok(Shape::none()),
@@ -57,7 +57,7 @@ fn type_shape(alloc: Global, name: &str) -> Result<Shape, SchemaFault>
 
 // The shape of numbers: the integers, and the texts that spell the others.
 fn number_shape() -> Shape
-    ensures { Covers (view result) (IsOfType (codes "number")) }
+    ensures { Covers (shape_view result) (IsOfType (codes "number")) }
 {
     Shape::plain(Plain {
         none: false,

@@ -3,7 +3,7 @@ ghost use Rattle.std.specs.Prelude.{◌≡◌, IfOk, OnOk};
 ghost use Rattle.upon_types.specs.Val.{Vals};
 ghost use Rattle.upon_types.specs.View.{view as value_view, vals_view, entries_view};
 ghost use Rattle.upon_meaning_spec.specs.Entries.{with_entry};
-ghost use Rattle.upon_shape.specs.View.{view, plain_view, keys_view, lists_view, maps_view};
+ghost use Rattle.upon_shape.specs.View.{shape_view, plain_view, keys_view, lists_view, maps_view};
 ghost use Rattle.upon_schema.specs.Written.{is_true_schema, kind_names, name_if, one_or_all, required_in, schema_value, typed, vals_ahead, with_items, with_keys, with_properties, with_required, with_schema};
 
 use std::alloc::{AllocError, Global};
@@ -15,7 +15,7 @@ use upon_types::value::Value;
 /// there is no memory for the schema.
 #[cycle(write)]
 pub fn schema_of(alloc: Global, shape: &Shape) -> Result<Value, AllocError>
-    ensures { IfOk result (λ v. value_view v ≡ schema_value (view shape.now)) }
+    ensures { IfOk result (λ v. value_view v ≡ schema_value (shape_view shape.now)) }
 {
     match shape {
         Shape::Any => Ok(Value::Bool(true)),

@@ -10,7 +10,7 @@ use Rattle.upon_types.specs.Val.{Val, none_val, bool_val, int_val, text_val, lis
 use Rattle.upon_types.specs.View.{vals_of}
 use Rattle.upon_types.proofs.Copies.{joined, joined-none, before_middle}
 use Rattle.upon_serde.specs.Again.{Ascends, EachAscends, EntriesAscend}
-use Rattle.upon_serde.specs.Data.{Key, text_key, key_events, Datum, unit, truth, signed, text, sequence, mapping, events, value_of, Data, no_data, datum_then, item_events, values_of, Members, no_members, member_then, member_events, with_members, Pairs, with_pair, entries_from}
+use Rattle.upon_serde.specs.Data.{EntryKey, text_key, key_events, Datum, unit, truth, signed, text, sequence, mapping, events, datum_value, Data, no_data, datum_then, item_events, data_values, Members, no_members, member_then, member_events, with_members, Pairs, with_pair, entries_from}
 use Rattle.upon_serde.proofs.Sent.{val_events, vals_events, entries_events}
 
 -- ---- entries whose keys ascend, put into a map one after the other
@@ -41,13 +41,13 @@ no_end_of_value : (v : Val) (a r : List Event) → event.seq_ends ∷ a ≡ val_
 no_end_of_value none_val a r is = absurd cc
 no_end_of_value _ a r is = absurd cc
 
-no_end_of_map : (k : Key) (a r : List Event) → key_events k a ≡ event.map_ends ∷ r → ⊥
+no_end_of_map : (k : EntryKey) (a r : List Event) → key_events k a ≡ event.map_ends ∷ r → ⊥
 no_end_of_map (text_key s) a r is = absurd cc
 no_end_of_map _ a r is = absurd cc
 
 -- ---- reading again
 mutual
-  pub again : (v : Val) (d : Datum) (r after : List Event) → Ascends v → events d after ≡ val_events v r → (value_of d ≡ v) × (after ≡ r)
+  pub again : (v : Val) (d : Datum) (r after : List Event) → Ascends v → events d after ≡ val_events v r → (datum_value d ≡ v) × (after ≡ r)
   again none_val unit r after asc is = (refl, cc)
   again none_val _ r after asc is = absurd cc
   again (bool_val b) (truth c) r after asc is = (cc, cc)
@@ -65,7 +65,7 @@ mutual
       (ap map_val (ap entries_from inner.0 ∙ put_all-joined es [] asc.0), inner.1)
   again (map_val es) _ r after asc is = absurd cc
 
-  again_vals : (vs : Vals) (ds : Data) (r after : List Event) → EachAscends vs → item_events ds after ≡ vals_events vs r → (vals_of (values_of ds) ≡ vs) × (after ≡ r)
+  again_vals : (vs : Vals) (ds : Data) (r after : List Event) → EachAscends vs → item_events ds after ≡ vals_events vs r → (vals_of (data_values ds) ≡ vs) × (after ≡ r)
   again_vals no_vals no_data r after asc is = (refl, cc)
   again_vals no_vals (datum_then d ds) r after asc is = absurd (no_end_of_seq d (item_events ds after) r is)
   again_vals (val_then v vs) no_data r after asc is = absurd (no_end_of_value v after (vals_events vs r) is)
@@ -81,6 +81,6 @@ mutual
   again_entries (entry_then key v es) (member_then (text_key s) d ms) r after pairs asc is =
       let word : s ≡ key = cc in
       let one = again v d (entries_events es r) (member_events ms after) asc.0 cc in
-      let rest = again_entries es ms r after (with_pair s (value_of d) pairs) asc.1 one.1 in
+      let rest = again_entries es ms r after (with_pair s (datum_value d) pairs) asc.1 one.1 in
       (rest.0 ∙ (λ i. put_all es (with_pair (word i) (one.0 i) pairs)), rest.1)
   again_entries (entry_then key v es) _ r after pairs asc is = absurd cc

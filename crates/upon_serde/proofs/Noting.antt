@@ -7,10 +7,10 @@ use Rattle.upon_serde.specs.declared.note.Note.{Note}
 use Rattle.upon_serde.specs.declared.note.Note.TheVariants as note
 use Rattle.upon_serde.specs.declared.recorder.Key.{Key}
 use Rattle.upon_serde.specs.declared.recorder.Key.TheVariants as key
-use Rattle.upon_serde.specs.Notes.{event_of, noted, events_from, joined, begun}
+use Rattle.upon_serde.specs.Notes.{note_event, noted, events_from, joined_notes, begun}
 
 -- a note of one event
-pub noted_one : (n : Note) (after : List Event) → (event_of n ≡ event.key_begins → ⊥) → noted n after ≡ event_of n ∷ after
+pub noted_one : (n : Note) (after : List Event) → (note_event n ≡ event.key_begins → ⊥) → noted n after ≡ note_event n ∷ after
 noted_one note.Unit after other = refl
 noted_one (note.Bool b) after other = refl
 noted_one (note.Signed z) after other = refl
@@ -80,7 +80,7 @@ all_noted (key.Text s) begun text = absurd (text s refl)
 all_noted key.Noted begun text = refl
 
 -- a block more
-pub joined_end : (blocks : List (Vec Note Global)) (block : Vec Note Global) → joined (blocks ++ block ∷ []) ≡ joined blocks ++ block.items
+pub joined_end : (blocks : List (Vec Note Global)) (block : Vec Note Global) → joined_notes (blocks ++ block ∷ []) ≡ joined_notes blocks ++ block.items
 joined_end [] block = append-nil block.items
 joined_end (first ∷ blocks) block =
-    ap (λ notes. first.items ++ notes) (joined_end blocks block) ∙ sym (append_assoc first.items (joined blocks) block.items)
+    ap (λ notes. first.items ++ notes) (joined_end blocks block) ∙ sym (append_assoc first.items (joined_notes blocks) block.items)

@@ -15,7 +15,7 @@ use Rattle.std.proofs.lemmas.Map.Lookups.{exact_bytes}
 use Rattle.upon_types.specs.View.{view}
 use Rattle.upon_types.specs.declared.value.Value.{Value}
 use Rattle.upon_serde.specs.Data.{Pairs, with_pair}
-use Rattle.upon_serde.specs.Reads.{pairs_of}
+use Rattle.upon_serde.specs.Reads.{entry_pairs}
 use Rattle.upon_serde.specs.Put.{pairs_put}
 use Rattle.upon_serde.proofs.Reading.{Entry, pairs_of-insert}
 
@@ -29,7 +29,7 @@ abbrev put_in : List Entry → List Entry → List Entry
 put_in [] es = es
 put_in (x ∷ xs) es = put_in xs (insert_entry string_cmp es x.0 x.1)
 
-pairs_of-put_in : (xs es : List Entry) → pairs_of (put_in xs es) ≡ pairs_put xs (pairs_of es)
+pairs_of-put_in : (xs es : List Entry) → entry_pairs (put_in xs es) ≡ pairs_put xs (entry_pairs es)
 pairs_of-put_in [] es = refl
 pairs_of-put_in (x ∷ xs) es = pairs_of-put_in xs (insert_entry string_cmp es x.0 x.1) ∙ ap (pairs_put xs) (pairs_of-insert es x.0 x.1)
 
@@ -146,7 +146,7 @@ module _ (x y : Entry) (xs ys : List Entry) (s : IsStrictlySortedBy order (keys_
 same_value : (v w : Value) → Some v ≡ Some w → v ≡ w
 same_value v w is = cc
 
-same_pairs : (es fs : List Entry) → IsStrictlySortedBy order (keys_of es) → IsStrictlySortedBy order (keys_of fs) → ((q : Key) → find es q ≡ find fs q) → pairs_of es ≡ pairs_of fs
+same_pairs : (es fs : List Entry) → IsStrictlySortedBy order (keys_of es) → IsStrictlySortedBy order (keys_of fs) → ((q : Key) → find es q ≡ find fs q) → entry_pairs es ≡ entry_pairs fs
 same_pairs [] [] s t h = refl
 same_pairs [] (y ∷ ys) s t h = absurd (not_none y.1 (sym (h y.0 ∙ at_head y ys)))
 same_pairs (x ∷ xs) [] s t h = absurd (not_none x.1 (sym (at_head x xs) ∙ h x.0))
@@ -157,7 +157,7 @@ same_pairs (x ∷ xs) (y ∷ ys) s t h =
     λ i. (key i, value i) ∷ later i
 
 -- ---- made at once
-pub made_at_once : (xs : List Entry) (m : BTreeMap (String Global) Value) → IsFromIterResult string_cmp xs m → pairs_of m.entries ≡ pairs_put xs []
+pub made_at_once : (xs : List Entry) (m : BTreeMap (String Global) Value) → IsFromIterResult string_cmp xs m → entry_pairs m.entries ≡ pairs_put xs []
 unfolding IsStrictlySortedBy
 made_at_once xs m is =
     same_pairs m.entries (put_in xs []) is.1 (sorted_put_in xs [] tt) (λ q. is.0 q ∙ sym (find_put_in xs [] q)) ∙ pairs_of-put_in xs []

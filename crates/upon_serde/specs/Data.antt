@@ -14,14 +14,14 @@ use Rattle.upon_types.specs.View.{vals_of}
 
 -- what may be the key of an entry: the name of a field or of a variant, as it is in the program and with the case that
 -- it is spelled in; or a value that has a text
-pub data Key : Type 0 where
-  field : List ℕ → Case → Key
-  variant : List ℕ → Case → Key
-  signed_key : ℤ → Key
-  unsigned_key : ℕ → Key
-  character_key : ℕ → Key
-  text_key : List ℕ → Key
-  unit_variant_key : List ℕ → Case → Key
+pub data EntryKey : Type 0 where
+  field : List ℕ → Case → EntryKey
+  variant : List ℕ → Case → EntryKey
+  signed_key : ℤ → EntryKey
+  unsigned_key : ℕ → EntryKey
+  character_key : ℕ → EntryKey
+  text_key : List ℕ → EntryKey
+  unit_variant_key : List ℕ → Case → EntryKey
 
 mutual
   -- what a type writes: a unit (which is also no option), a truth value, a number, a character, a text, bytes, a
@@ -46,14 +46,14 @@ mutual
   -- the members of a map: entries, and maps whose members are flattened into this one
   pub data Members : Type 0 where
     no_members : Members
-    member_then : Key → Datum → Members → Members
+    member_then : EntryKey → Datum → Members → Members
     flattened_then : Option ℕ → Members → Members → Members
     flattened_unit_then : Members → Members
 
 -- ---- what is written
 
 -- a key as events, and then others
-abbrev pub key_events : Key → List Event → List Event
+abbrev pub key_events : EntryKey → List Event → List Event
 key_events (field name case) after = event.field_key name case ∷ after
 key_events (variant name case) after = event.variant_key name case ∷ after
 key_events (signed_key z) after = event.key_begins ∷ event.signed z ∷ event.key_ends ∷ after
@@ -92,7 +92,7 @@ abbrev mutual
 -- ---- which value it is
 
 -- the text of a key: names as they are spelled, whole numbers in decimal
-abbrev pub key_text : Key → List ℕ
+abbrev pub key_text : EntryKey → List ℕ
 key_text (field name case) = spelled case Field name
 key_text (variant name case) = spelled case Variant name
 key_text (signed_key z) = signed_decimal z
@@ -117,26 +117,26 @@ with_pair key v pairs = insert_entry (slice_cmp nat_cmp) pairs key v
 abbrev mutual
   -- a unit is no value; truth values, numbers and texts are themselves; a character is a text, bytes are a list of
   -- integers, a variant without data is its name; a sequence is a list, and a map is a map
-  pub value_of : Datum → Val
-  value_of unit = none_val
-  value_of (truth b) = bool_val b
-  value_of (signed z) = int_val z
-  value_of (unsigned n) = int_val (pos n)
-  value_of (character c) = text_val (encode_utf8 c)
-  value_of (text s) = text_val s
-  value_of (octets bytes) = list_val (vals_of (map (λ b. int_val (pos b)) bytes))
-  value_of (unit_variant name case) = text_val (spelled case Variant name)
-  value_of (sequence length ds) = list_val (vals_of (values_of ds))
-  value_of (mapping length ms) = map_val (entries_from (with_members ms []))
+  pub datum_value : Datum → Val
+  datum_value unit = none_val
+  datum_value (truth b) = bool_val b
+  datum_value (signed z) = int_val z
+  datum_value (unsigned n) = int_val (pos n)
+  datum_value (character c) = text_val (encode_utf8 c)
+  datum_value (text s) = text_val s
+  datum_value (octets bytes) = list_val (vals_of (map (λ b. int_val (pos b)) bytes))
+  datum_value (unit_variant name case) = text_val (spelled case Variant name)
+  datum_value (sequence length ds) = list_val (vals_of (data_values ds))
+  datum_value (mapping length ms) = map_val (entries_from (with_members ms []))
 
   -- the items of a sequence, each as its value
-  pub values_of : Data → List Val
-  values_of no_data = []
-  values_of (datum_then d ds) = value_of d ∷ values_of ds
+  pub data_values : Data → List Val
+  data_values no_data = []
+  data_values (datum_then d ds) = datum_value d ∷ data_values ds
 
   -- the pairs with the members put in, one after the other
   pub with_members : Members → Pairs → Pairs
   with_members no_members pairs = pairs
-  with_members (member_then key d ms) pairs = with_members ms (with_pair (key_text key) (value_of d) pairs)
+  with_members (member_then key d ms) pairs = with_members ms (with_pair (key_text key) (datum_value d) pairs)
   with_members (flattened_then length inner ms) pairs = with_members ms (with_members inner pairs)
   with_members (flattened_unit_then ms) pairs = with_members ms pairs

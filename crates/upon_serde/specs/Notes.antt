@@ -11,31 +11,31 @@ use Rattle.upon_serde.specs.declared.recorder.Key.TheVariants as key
 use Rattle.upon_serde.specs.declared.recorder.Recorder.{Recorder}
 
 -- the event that a note is of; of a whole key, the first
-abbrev pub event_of : Note → Event
-event_of note.Unit = event.nothing
-event_of (note.Bool b) = event.boolean b
-event_of (note.Signed z) = event.signed z
-event_of (note.Unsigned n) = event.unsigned n
-event_of (note.Char c) = event.character c
-event_of (note.Text s) = event.text (string_bytes s)
-event_of (note.Bytes bytes) = event.octets bytes.items
-event_of (note.UnitVariant case name) = event.unit_variant (string_bytes name) case
-event_of (note.BeginSeq length) = event.seq_begins length
-event_of note.EndSeq = event.seq_ends
-event_of (note.BeginMap length) = event.map_begins length
-event_of (note.BeginRoom length room) = event.map_begins (Some length)
-event_of note.EndMap = event.map_ends
-event_of (note.FieldKey case name) = event.field_key (string_bytes name) case
-event_of (note.VariantKey case name) = event.variant_key (string_bytes name) case
-event_of note.BeginKey = event.key_begins
-event_of note.EndKey = event.key_ends
-event_of (note.TextKey s) = event.key_begins
-event_of note.Flatten = event.flattens
+abbrev pub note_event : Note → Event
+note_event note.Unit = event.nothing
+note_event (note.Bool b) = event.boolean b
+note_event (note.Signed z) = event.signed z
+note_event (note.Unsigned n) = event.unsigned n
+note_event (note.Char c) = event.character c
+note_event (note.Text s) = event.text (string_bytes s)
+note_event (note.Bytes bytes) = event.octets bytes.items
+note_event (note.UnitVariant case name) = event.unit_variant (string_bytes name) case
+note_event (note.BeginSeq length) = event.seq_begins length
+note_event note.EndSeq = event.seq_ends
+note_event (note.BeginMap length) = event.map_begins length
+note_event (note.BeginRoom length room) = event.map_begins (Some length)
+note_event note.EndMap = event.map_ends
+note_event (note.FieldKey case name) = event.field_key (string_bytes name) case
+note_event (note.VariantKey case name) = event.variant_key (string_bytes name) case
+note_event note.BeginKey = event.key_begins
+note_event note.EndKey = event.key_ends
+note_event (note.TextKey s) = event.key_begins
+note_event note.Flatten = event.flattens
 
 -- the events that a note is of, and then others
 abbrev pub noted : Note → List Event → List Event
 noted (note.TextKey s) after = event.key_begins ∷ event.text (string_bytes s) ∷ event.key_ends ∷ after
-noted n after = event_of n ∷ after
+noted n after = note_event n ∷ after
 
 -- the events that notes are of, and then others
 abbrev pub events_from : List Note → List Event → List Event
@@ -43,20 +43,20 @@ events_from [] after = after
 events_from (n ∷ ns) after = noted n (events_from ns after)
 
 -- the notes of blocks, one after the other
-abbrev pub joined : List (Vec Note Global) → List Note
-joined [] = []
-joined (block ∷ blocks) = block.items ++ joined blocks
+abbrev pub joined_notes : List (Vec Note Global) → List Note
+joined_notes [] = []
+joined_notes (block ∷ blocks) = block.items ++ joined_notes blocks
 
 -- the notes that are left, and how many they are
 abbrev pub notes_in : Notes → List Note
-notes_in notes = notes.first.items ++ joined notes.rest
+notes_in notes = notes.first.items ++ joined_notes notes.rest
 
 abbrev pub notes_left : Notes → ℕ
 notes_left notes = length (notes_in notes)
 
 -- the events that notes are of
-abbrev pub events_of : Notes → List Event
-events_of notes = events_from (notes_in notes) []
+abbrev pub notes_events : Notes → List Event
+notes_events notes = events_from (notes_in notes) []
 
 -- the events of a key that are not noted yet
 abbrev pub begun : Key → List Event
@@ -67,7 +67,7 @@ begun key.Noted = []
 
 -- what a recorder noted
 abbrev pub notes_of : Recorder → List Note
-notes_of recorder = joined recorder.full ++ recorder.notes.items
+notes_of recorder = joined_notes recorder.full ++ recorder.notes.items
 
 -- what a recorder was sent
 abbrev pub sent : Recorder → List Event

@@ -6,7 +6,7 @@ use Rattle.upon_types.specs.declared.value.Value.{Value}
 use Rattle.upon_serde.specs.declared.entries.Entries.{Entries}
 use Rattle.upon_serde.specs.declared.entries.Entries.TheVariants.{Map, Row}
 use Rattle.upon_serde.specs.Data.{Pairs, with_pair}
-use Rattle.upon_serde.specs.Reads.{pairs_of}
+use Rattle.upon_serde.specs.Reads.{entry_pairs}
 
 -- the pairs with entries put in, one after the other
 abbrev pub pairs_put : List (String Global × Value) → Pairs → Pairs
@@ -15,5 +15,5 @@ pairs_put (e ∷ es) pairs = pairs_put es (with_pair (string_bytes e.0) (view e.
 
 -- the pairs that entries make
 abbrev pub pairs_so_far : Entries → Pairs
-pairs_so_far (Map map) = pairs_of map.entries
+pairs_so_far (Map map) = entry_pairs map.entries
 pairs_so_far (Row row) = pairs_put row.items []

@@ -4,10 +4,10 @@ ghost use Rattle.serde.specs.Event.{key_begins};
 ghost use Rattle.serde.specs.Spelling.{spelled};
 ghost use Rattle.upon_types.specs.Val.{int_val};
 ghost use Rattle.upon_types.specs.View.{view};
-ghost use Rattle.upon_serde.specs.Data.{key_text, value_of};
-ghost use Rattle.upon_serde.specs.Notes.{event_of, noted, notes_left, events_of};
+ghost use Rattle.upon_serde.specs.Data.{datum_value, key_text};
+ghost use Rattle.upon_serde.specs.Notes.{note_event, noted, notes_left, notes_events};
 ghost use Rattle.upon_serde.specs.Put.{pairs_so_far};
-ghost use Rattle.upon_serde.specs.Reads.{ReadsDatum, ReadsItems, ReadsMembers, ReadsFlattened, ReadsKey, datum_of, key_of, pairs_of};
+ghost use Rattle.upon_serde.specs.Reads.{ReadsDatum, ReadsItems, ReadsEntries, ReadsFlattened, ReadsKey, datum_of, event_key, entry_pairs};
 
 use crate::entries::Entries;
 use crate::fault::{Refused, Result, integer};
@@ -19,7 +19,7 @@ use upon_types::value::Value;
 
 /// Returns the value of the data that the notes are.
 pub fn whole_value(alloc: Global, mut notes: Notes) -> Result<Value>
-    ensures reads { IfOk result (λ v. ReadsDatum (events_of notes) [] (view v)) }
+    ensures reads { IfOk result (λ v. ReadsDatum (notes_events notes) [] (view v)) }
 {
     let value = value(alloc, &mut notes)?;
     if notes.is_empty() {
@@ -33,7 +33,7 @@ pub fn whole_value(alloc: Global, mut notes: Notes) -> Result<Value>
 #[cycle(build)]
 #[inline(always)]
 fn value(alloc: Global, notes: &mut Notes) -> Result<Value>
-    ensures reads { IfOk result (λ v. ReadsDatum (events_of notes.old) (events_of notes.new) (view v)) }
+    ensures reads { IfOk result (λ v. ReadsDatum (notes_events notes.old) (notes_events notes.new) (view v)) }
     ensures shorter { OnOk result (notes_left notes.new < notes_left notes.old) }
 {
     let Some(note) = notes.pop_front() else {
@@ -58,7 +58,7 @@ fn value(alloc: Global, notes: &mut Notes) -> Result<Value>
 // The value of data that are one note.
 #[inline(always)]
 fn simple_value(alloc: Global, note: Note) -> Result<Value>
-    ensures { IfOk result (λ v. option_map value_of (datum_of (event_of note)) ≡ Some (view v)) }
+    ensures { IfOk result (λ v. option_map datum_value (datum_of (note_event note)) ≡ Some (view v)) }
 {
     match note {
         Note::Unit => Ok(Value::None),
@@ -78,7 +78,8 @@ fn simple_value(alloc: Global, note: Note) -> Result<Value>
 // The values up to the end of a sequence.
 #[cycle(build)]
 fn items(alloc: Global, notes: &mut Notes) -> Result<Vec<Value>>
-    ensures reads { IfOk result (λ vs. ReadsItems (events_of notes.old) (events_of notes.new) (map view vs.items)) }
+    ensures reads { IfOk result (λ vs. ReadsItems (notes_events notes.old) (notes_events notes.new)
+        (map view vs.items)) }
     ensures shorter { OnOk result (notes_left notes.new < notes_left notes.old) }
 {
     let mut items = Vec::new(alloc);
@@ -95,7 +96,8 @@ fn items(alloc: Global, notes: &mut Notes) -> Result<Vec<Value>>
 #[inline(always)]
 fn map(alloc: Global, notes: &mut Notes, entries: Entries) -> Result<BTreeMap<String, Value>>
     ensures reads { IfOk result
-        (λ m. ReadsMembers (events_of notes.old) (events_of notes.new) (pairs_so_far entries) (pairs_of m.entries)) }
+        (λ m. ReadsEntries (notes_events notes.old) (notes_events notes.new) (pairs_so_far entries)
+        (entry_pairs m.entries)) }
     ensures shorter { OnOk result (notes_left notes.new < notes_left notes.old) }
 {
     let mut entries = entries;
@@ -107,9 +109,9 @@ fn map(alloc: Global, notes: &mut Notes, entries: Entries) -> Result<BTreeMap<St
 #[cycle(build)]
 fn members(alloc: Global, notes: &mut Notes, entries: &mut Entries) -> Result<()>
     ensures reads { OnOk result
-        (ReadsMembers
-        (events_of notes.old)
-        (events_of notes.new)
+        (ReadsEntries
+        (notes_events notes.old)
+        (notes_events notes.new)
         (pairs_so_far entries.old)
         (pairs_so_far entries.new)) }
     ensures shorter { OnOk result (notes_left notes.new < notes_left notes.old) }
@@ -136,8 +138,8 @@ fn members(alloc: Global, notes: &mut Notes, entries: &mut Entries) -> Result<()
 fn flattened(alloc: Global, notes: &mut Notes, entries: &mut Entries) -> Result<()>
     ensures reads { OnOk result
         (ReadsFlattened
-        (events_of notes.old)
-        (events_of notes.new)
+        (notes_events notes.old)
+        (notes_events notes.new)
         (pairs_so_far entries.old)
         (pairs_so_far entries.new)) }
     ensures shorter { OnOk result (notes_left notes.new < notes_left notes.old) }
@@ -153,7 +155,7 @@ fn flattened(alloc: Global, notes: &mut Notes, entries: &mut Entries) -> Result<
 #[inline(never)]
 fn key(alloc: Global, first: Note, notes: &mut Notes) -> Result<String>
     ensures reads { IfOk result
-        (λ s. ReadsKey (noted first (events_of notes.old)) (events_of notes.new) (string_bytes s)) }
+        (λ s. ReadsKey (noted first (notes_events notes.old)) (notes_events notes.new) (string_bytes s)) }
     ensures shorter { OnOk result (notes_left notes.new ≤ notes_left notes.old) }
 {
     match first {
@@ -169,7 +171,7 @@ fn key(alloc: Global, first: Note, notes: &mut Notes) -> Result<String>
 #[inline(never)]
 fn inner_key(alloc: Global, notes: &mut Notes) -> Result<String>
     ensures reads { IfOk result
-        (λ s. ReadsKey (key_begins ∷ events_of notes.old) (events_of notes.new) (string_bytes s)) }
+        (λ s. ReadsKey (key_begins ∷ notes_events notes.old) (notes_events notes.new) (string_bytes s)) }
     ensures shorter { OnOk result (notes_left notes.new ≤ notes_left notes.old) }
 {
     let Some(note) = notes.pop_front() else {
@@ -184,7 +186,7 @@ fn inner_key(alloc: Global, notes: &mut Notes) -> Result<String>
 
 // The text of a key that is one note.
 fn simple_key(alloc: Global, note: Note) -> Result<String>
-    ensures { IfOk result (λ s. option_map key_text (key_of (event_of note)) ≡ Some (string_bytes s)) }
+    ensures { IfOk result (λ s. option_map key_text (event_key (note_event note)) ≡ Some (string_bytes s)) }
 {
     match note {
         Note::Signed(number) => Ok(format!(in alloc; "{number}")?),

@@ -4,7 +4,7 @@ ghost use Rattle.std.specs.BTreeMap.{IsFromIterResult};
 ghost use Rattle.upon_types.specs.View.{view};
 ghost use Rattle.upon_serde.specs.Data.{with_pair};
 ghost use Rattle.upon_serde.specs.Put.{pairs_so_far};
-ghost use Rattle.upon_serde.specs.Reads.{pairs_of};
+ghost use Rattle.upon_serde.specs.Reads.{entry_pairs};
 
 use crate::fault::Result;
 use std::alloc::{AllocError, Global};
@@ -66,7 +66,7 @@ impl Entries {
     /// Returns the map of the entries.
     #[inline(always)]
     pub fn into_map(self, alloc: Global) -> Result<BTreeMap<String, Value>>
-        ensures { IfOk result (λ map. pairs_of map.entries ≡ pairs_so_far self) }
+        ensures { IfOk result (λ map. entry_pairs map.entries ≡ pairs_so_far self) }
     {
         match self {
             Entries::Map(map) => Ok(map),

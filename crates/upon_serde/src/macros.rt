@@ -2,7 +2,7 @@
 ghost use Rattle.std.specs.Prelude.{◌≡◌, [], ◌∷◌, ◌++◌, OnOk};
 ghost use Rattle.upon_types.specs.View.{view};
 ghost use Rattle.upon_serde.specs.Data.{with_pair};
-ghost use Rattle.upon_serde.specs.Reads.{pairs_of};
+ghost use Rattle.upon_serde.specs.Reads.{entry_pairs};
 
 use std::alloc::{AllocError, Global};
 use std::collections::BTreeMap;
@@ -26,7 +26,7 @@ pub fn put(
     item: Value,
 ) -> Result<(), AllocError>
     ensures { OnOk result
-        (pairs_of entries.new.entries ≡ with_pair key.now (view item) (pairs_of entries.old.entries)) }
+        (entry_pairs entries.new.entries ≡ with_pair key.now (view item) (entry_pairs entries.old.entries)) }
 {
     drop(entries.insert(String::from_str(alloc, key)?, item)?);
     Ok(())

@@ -1,7 +1,7 @@
 // What serde's data send, written down.
 ghost use Rattle.std.specs.Prelude.{◌≡◌, ◌+◌, ◌∷◌, ◌++◌, [], true, length, option_to_list, IsTrue, if◌then◌else◌};
 ghost use Rattle.serde.specs.Event.{seq_ends};
-ghost use Rattle.upon_serde.specs.Notes.{joined, notes_in, notes_left, events_of};
+ghost use Rattle.upon_serde.specs.Notes.{joined_notes, notes_in, notes_left, notes_events};
 
 use serde::Case;
 use std::alloc::Global;
@@ -48,7 +48,7 @@ pub struct Notes {
 impl Notes {
     /// Creates the notes of blocks.
     pub fn new(alloc: Global, blocks: Blocks) -> Notes
-        ensures { notes_in result ≡ joined blocks }
+        ensures { notes_in result ≡ joined_notes blocks }
     {
         Notes {
             first: VecDeque::new(alloc),
@@ -76,7 +76,8 @@ impl Notes {
     /// Takes the end of a sequence, where it is next.
     #[inline(always)]
     pub fn takes_end_of_seq(&mut self) -> bool
-        ensures end { events_of self.old ≡ (if result then seq_ends ∷ events_of self.new else events_of self.new) }
+        ensures end { notes_events self.old ≡ (if result then seq_ends
+            ∷ notes_events self.new else notes_events self.new) }
         ensures shorter { (if result then notes_left self.new + 1 else notes_left self.new) ≡ notes_left self.old }
     {
         self.begin_block();

@@ -1,7 +1,7 @@
 // The serializer: it writes down what serde's data send, and refuses at once what no value can hold.
 ghost use Rattle.std.specs.Prelude.{◌≡◌, ◌<◌, [], ◌∷◌, ◌++◌, Some, OnOk, IfOk, vec_len, vec_capacity, string_bytes};
 ghost use Rattle.serde.specs.Event as event;
-ghost use Rattle.upon_serde.specs.Notes.{noted, events_of, notes_of, begun, sent};
+ghost use Rattle.upon_serde.specs.Notes.{noted, notes_events, notes_of, begun, sent};
 
 use crate::entries::LARGE;
 use crate::fault::{Refused, Result, integer};
@@ -53,7 +53,7 @@ impl Recorder {
 
     /// Returns what it was sent.
     pub fn into_notes(mut self) -> Result<Notes>
-        ensures { IfOk result (λ notes. events_of notes ≡ sent self) }
+        ensures { IfOk result (λ notes. notes_events notes ≡ sent self) }
     {
         self.settle()?;
         let Recorder {

@@ -3,18 +3,18 @@ use Rattle.std.proofs.Common.{◌≡◌, ℕ, ◌+◌, ◌<◌, ◌≤◌, List,
 use Rattle.std.proofs.lemmas.List.{drop_all}
 use Rattle.upon_shape_spec.specs.Join.{opened, opened_keys}
 use Rattle.upon_shape_spec.specs.Shape.{Shape as SpecShape, Keys as SpecKeys, any_shape, other_keys, key_then}
-use Rattle.upon_shape.specs.View.{view, ahead}
+use Rattle.upon_shape.specs.View.{shape_view, ahead}
 use Rattle.upon_shape.specs.declared.shape.Key.{Key}
 use Rattle.upon_shape.specs.declared.shape.Shape.{Shape}
 use Rattle.upon_shape.proofs.Steps.{cut_before, pushed}
 
 pub open_pushed : (ys : List (Key Shape)) (i : ℕ) (x : Key Shape) (s : SpecShape) (named : List (Key Shape)) (k : Key Shape) (whole : SpecKeys)
     → i < length ys → x ≡ get_or ys i x
-    → string_bytes k.name ≡ string_bytes x.name → k.required ≡ x.required → view k.shape ≡ opened (view x.shape)
+    → string_bytes k.name ≡ string_bytes x.name → k.required ≡ x.required → shape_view k.shape ≡ opened (shape_view x.shape)
     → ahead named (opened_keys (ahead (drop i ys) (other_keys s))) ≡ whole
     → ahead (named ++ k ∷ []) (opened_keys (ahead (drop (i + 1) ys) (other_keys s))) ≡ whole
 open_pushed ys i x s named k whole h is name required shape inv =
-    pushed named k (string_bytes x.name) x.required (opened (view x.shape)) (opened_keys (ahead (drop (i + 1) ys) (other_keys s))) (opened_keys (ahead (drop i ys) (other_keys s)))
+    pushed named k (string_bytes x.name) x.required (opened (shape_view x.shape)) (opened_keys (ahead (drop (i + 1) ys) (other_keys s))) (opened_keys (ahead (drop i ys) (other_keys s)))
     name required shape (ap (λ (d : List (Key Shape)). opened_keys (ahead d (other_keys s))) (cut_before ys i x h is))
     ∙ inv
 
@@ -26,4 +26,4 @@ open_done ys i s named whole h inv =
 -- whatever other keys have
 pub opened-others : (ks : List (Key Shape)) (s t : SpecShape) → opened_keys (ahead ks (other_keys s)) ≡ opened_keys (ahead ks (other_keys t))
 opened-others [] s t = refl
-opened-others (k ∷ ks) s t = ap (key_then (string_bytes k.name) k.required (opened (view k.shape))) (opened-others ks s t)
+opened-others (k ∷ ks) s t = ap (key_then (string_bytes k.name) k.required (opened (shape_view k.shape))) (opened-others ks s t)

@@ -4,7 +4,7 @@ use Rattle.upon_types.specs.Val.{Val}
 use Rattle.upon_types.specs.View.{vals_of}
 use Rattle.upon_meaning_spec.specs.MapOrder.{IsAmong}
 use Rattle.upon_shape_spec.specs.Fits.{Fits, MapsRise, AllRise}
-use Rattle.upon_shape_spec.specs.Join.{join, shape_of, items_shape, samples_shape}
+use Rattle.upon_shape_spec.specs.Join.{join_shapes, shape_of, items_shape, samples_shape}
 use Rattle.upon_shape_spec.specs.Shape.{Shape as SpecShape}
 use Rattle.upon_shape_spec.proofs.Joins.{own_fits, sample_fits}
 
@@ -22,7 +22,7 @@ own s v e rise = subst (λ (x : SpecShape). Fits x v) (sym e) (own_fits v rise)
 
 pub items_shape-samples : (vs : List Val) → items_shape (vals_of vs) ≡ samples_shape vs
 items_shape-samples [] = refl
-items_shape-samples (v ∷ vs) = ap (join (shape_of v)) (items_shape-samples vs)
+items_shape-samples (v ∷ vs) = ap (join_shapes (shape_of v)) (items_shape-samples vs)
 
 among_rise : (vs : List Val) (v : Val) → AllRise (vals_of vs) → IsAmong v vs → MapsRise v
 among_rise [] v h is = absurd is

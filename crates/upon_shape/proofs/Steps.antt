@@ -1,11 +1,11 @@
 -- A step over keys, one at a time.
 use Rattle.std.proofs.Common.{◌≡◌, ℕ, ◌+◌, ◌<◌, ◌≤◌, List, [], ◌∷◌, ◌++◌, Bool, true, false, not, ◌||◌, ◌&&◌, length, take, drop, get_or, refl, sym, ap, subst, ◌∙◌, string_bytes}
 use Rattle.std.proofs.lemmas.List.{take_more, drop_more, take_all, drop_all}
-use Rattle.upon_shape_spec.specs.Join.{joined_others, join, join_keys}
+use Rattle.upon_shape_spec.specs.Join.{joined_others, join_shapes, join_keys}
 use Rattle.upon_shape_spec.specs.Shape.{Shape as SpecShape, Keys as SpecKeys, other_keys, key_then, KeyShape, at_key}
 use Rattle.upon_shape_spec.specs.Wider.{implies, is_listed, each_beside, wider, keys_wider}
 use Rattle.upon_shape.specs.Keys.{is_among, without_each, seen_after}
-use Rattle.upon_shape.specs.View.{view, ahead}
+use Rattle.upon_shape.specs.View.{shape_view, ahead}
 use Rattle.upon_shape.specs.declared.shape.Key.{Key}
 use Rattle.upon_shape.specs.declared.shape.Shape.{Shape}
 use Rattle.upon_shape.proofs.KeysAhead.{ahead-push, without_each-push, seen_after-push, is_listed-seen_after, seen_out, unseen_in, joined_rest}
@@ -33,7 +33,7 @@ stopped false k w e h = sym h
 -- ---- whether keys are as wide
 -- what is asked of one key
 abbrev pub is_wider_at : Key Shape → SpecKeys → Bool
-is_wider_at x ns = implies x.required (at_key (string_bytes x.name) ns).required && wider (view x.shape) (at_key (string_bytes x.name) ns).shape
+is_wider_at x ns = implies x.required (at_key (string_bytes x.name) ns).required && wider (shape_view x.shape) (at_key (string_bytes x.name) ns).shape
 
 is_listed-seen : (name : List ℕ) (front : List (Key Shape)) → is_listed name (seen_after front []) ≡ is_among name front
 is_listed-seen name front = is_listed-seen_after name front [] ∙ or_false (is_among name front)
@@ -58,30 +58,30 @@ is_listed-both name front seen = is_listed-seen_after name front (seen_after see
 
 pub beside_step : (seen xs : List (Key Shape)) (i : ℕ) (x : Key Shape) (test : SpecShape → Bool) (s : SpecShape) → i < length xs → x ≡ get_or xs i x
     → each_beside (seen_after (take i xs) (seen_after seen [])) test (ahead (drop i xs) (other_keys s))
-    ≡ (((is_among (string_bytes x.name) (take i xs) || is_among (string_bytes x.name) seen) || test (view x.shape)) && each_beside (seen_after (take (i + 1) xs) (seen_after seen [])) test (ahead (drop (i + 1) xs) (other_keys s)))
+    ≡ (((is_among (string_bytes x.name) (take i xs) || is_among (string_bytes x.name) seen) || test (shape_view x.shape)) && each_beside (seen_after (take (i + 1) xs) (seen_after seen [])) test (ahead (drop (i + 1) xs) (other_keys s)))
 beside_step seen xs i x test s h is =
     let name = string_bytes x.name in
     let at = λ (t : List (Key Shape)). seen_after t (seen_after seen []) in
     let rest = ahead (drop (i + 1) xs) (other_keys s) in
     ap (λ (d : List (Key Shape)). each_beside (at (take i xs)) test (ahead d (other_keys s))) (cut_before xs i x h is)
-    ∙ (λ j. (is_listed-both name (take i xs) seen j || test (view x.shape)) && each_beside (sym (seen_after-push (take i xs) x (seen_after seen [])) j) test rest)
-    ∙ ap (λ (t : List (Key Shape)). ((is_among name (take i xs) || is_among name seen) || test (view x.shape)) && each_beside (at t) test rest) (sym (cut_behind xs i x h is))
+    ∙ (λ j. (is_listed-both name (take i xs) seen j || test (shape_view x.shape)) && each_beside (sym (seen_after-push (take i xs) x (seen_after seen [])) j) test rest)
+    ∙ ap (λ (t : List (Key Shape)). ((is_among name (take i xs) || is_among name seen) || test (shape_view x.shape)) && each_beside (at t) test rest) (sym (cut_behind xs i x h is))
 
 -- ---- keys that are joined
 pub join_step : (xs : List (Key Shape)) (i : ℕ) (x : Key Shape) (s : SpecShape) (ns : SpecKeys) (known : KeyShape) → i < length xs → x ≡ get_or xs i x
     → known ≡ at_key (string_bytes x.name) (without_each (take i xs) ns)
     → join_keys (ahead (drop i xs) (other_keys s)) (without_each (take i xs) ns)
-    ≡ key_then (string_bytes x.name) (x.required && known.required) (join (view x.shape) known.shape) (join_keys (ahead (drop (i + 1) xs) (other_keys s)) (without_each (take (i + 1) xs) ns))
+    ≡ key_then (string_bytes x.name) (x.required && known.required) (join_shapes (shape_view x.shape) known.shape) (join_keys (ahead (drop (i + 1) xs) (other_keys s)) (without_each (take (i + 1) xs) ns))
 join_step xs i x s ns known h is e =
     let name = string_bytes x.name in
     let rest = λ (w : SpecKeys). join_keys (ahead (drop (i + 1) xs) (other_keys s)) w in
     ap (λ (d : List (Key Shape)). join_keys (ahead d (other_keys s)) (without_each (take i xs) ns)) (cut_before xs i x h is)
-    ∙ (λ j. key_then name (x.required && (sym e j).required) (join (view x.shape) (sym e j).shape) (rest (sym (without_each-push (take i xs) x ns) j)))
-    ∙ ap (λ (t : List (Key Shape)). key_then name (x.required && known.required) (join (view x.shape) known.shape) (rest (without_each t ns))) (sym (cut_behind xs i x h is))
+    ∙ (λ j. key_then name (x.required && (sym e j).required) (join_shapes (shape_view x.shape) (sym e j).shape) (rest (sym (without_each-push (take i xs) x ns) j)))
+    ∙ ap (λ (t : List (Key Shape)). key_then name (x.required && known.required) (join_shapes (shape_view x.shape) known.shape) (rest (without_each t ns))) (sym (cut_behind xs i x h is))
 
 -- one more key, ahead of what it was the first of
 pub pushed : (named : List (Key Shape)) (k : Key Shape) (name : List ℕ) (required : Bool) (s : SpecShape) (rest all : SpecKeys)
-    → string_bytes k.name ≡ name → k.required ≡ required → view k.shape ≡ s → all ≡ key_then name required s rest → ahead (named ++ k ∷ []) rest ≡ ahead named all
+    → string_bytes k.name ≡ name → k.required ≡ required → shape_view k.shape ≡ s → all ≡ key_then name required s rest → ahead (named ++ k ∷ []) rest ≡ ahead named all
 pushed named k name required s rest all e f g h = ahead-push named k rest ∙ ap (ahead named) ((λ i. key_then (e i) (f i) (g i) rest) ∙ sym h)
 
 -- ---- what a step of a loop keeps, over keys that are read from a list of the same items
@@ -108,9 +108,9 @@ wider_stopped xs ys i x s ns whole e h is test inv =
 
 -- what was read of a key is what is asked
 pub wider_known : (x : Key Shape) (ns : SpecKeys) (name : List ℕ) (known : KeyShape) → name ≡ string_bytes x.name → known ≡ at_key name ns
-    → is_wider_at x ns ≡ (implies x.required known.required && wider (view x.shape) known.shape)
+    → is_wider_at x ns ≡ (implies x.required known.required && wider (shape_view x.shape) known.shape)
 wider_known x ns name known same e =
-    ap (λ (k : KeyShape). implies x.required k.required && wider (view x.shape) k.shape) (sym (e ∙ ap (λ (n : List ℕ). at_key n ns) same))
+    ap (λ (k : KeyShape). implies x.required k.required && wider (shape_view x.shape) k.shape) (sym (e ∙ ap (λ (n : List ℕ). at_key n ns) same))
 
 pub is_lacking : (required known rest : Bool) → (required && not known) ≡ true → (implies required known && rest) ≡ false
 is_lacking true true rest h = absurd (cc)
@@ -123,18 +123,18 @@ is_held true false h = absurd (cc)
 is_held false known h = refl
 
 pub beside_passed : (seen xs ys : List (Key Shape)) (i : ℕ) (x : Key Shape) (test : SpecShape → Bool) (s : SpecShape) (whole : Bool) → ys ≡ xs → i < length ys → x ≡ get_or ys i x
-    → ((is_among (string_bytes x.name) (take i xs) || is_among (string_bytes x.name) seen) || test (view x.shape)) ≡ true
+    → ((is_among (string_bytes x.name) (take i xs) || is_among (string_bytes x.name) seen) || test (shape_view x.shape)) ≡ true
     → each_beside (seen_after (take i xs) (seen_after seen [])) test (ahead (drop i xs) (other_keys s)) ≡ whole
     → each_beside (seen_after (take (i + 1) xs) (seen_after seen [])) test (ahead (drop (i + 1) xs) (other_keys s)) ≡ whole
 beside_passed seen xs ys i x test s whole e h is said inv =
-    passed ((is_among (string_bytes x.name) (take i xs) || is_among (string_bytes x.name) seen) || test (view x.shape)) (each_beside (seen_after (take (i + 1) xs) (seen_after seen [])) test (ahead (drop (i + 1) xs) (other_keys s))) (each_beside (seen_after (take i xs) (seen_after seen [])) test (ahead (drop i xs) (other_keys s)))
+    passed ((is_among (string_bytes x.name) (take i xs) || is_among (string_bytes x.name) seen) || test (shape_view x.shape)) (each_beside (seen_after (take (i + 1) xs) (seen_after seen [])) test (ahead (drop (i + 1) xs) (other_keys s))) (each_beside (seen_after (take i xs) (seen_after seen [])) test (ahead (drop i xs) (other_keys s)))
     said (beside_step seen xs i x test s (same_length ys xs i e h) (same_item ys xs i x e is)) ∙ inv
 
 pub beside_stopped : (seen xs ys : List (Key Shape)) (i : ℕ) (x : Key Shape) (test : SpecShape → Bool) (s : SpecShape) (whole : Bool) → ys ≡ xs → i < length ys → x ≡ get_or ys i x
-    → ((is_among (string_bytes x.name) (take i xs) || is_among (string_bytes x.name) seen) || test (view x.shape)) ≡ false
+    → ((is_among (string_bytes x.name) (take i xs) || is_among (string_bytes x.name) seen) || test (shape_view x.shape)) ≡ false
     → each_beside (seen_after (take i xs) (seen_after seen [])) test (ahead (drop i xs) (other_keys s)) ≡ whole → false ≡ whole
 beside_stopped seen xs ys i x test s whole e h is said inv =
-    stopped ((is_among (string_bytes x.name) (take i xs) || is_among (string_bytes x.name) seen) || test (view x.shape)) (each_beside (seen_after (take (i + 1) xs) (seen_after seen [])) test (ahead (drop (i + 1) xs) (other_keys s))) (each_beside (seen_after (take i xs) (seen_after seen [])) test (ahead (drop i xs) (other_keys s)))
+    stopped ((is_among (string_bytes x.name) (take i xs) || is_among (string_bytes x.name) seen) || test (shape_view x.shape)) (each_beside (seen_after (take (i + 1) xs) (seen_after seen [])) test (ahead (drop (i + 1) xs) (other_keys s))) (each_beside (seen_after (take i xs) (seen_after seen [])) test (ahead (drop i xs) (other_keys s)))
     said (beside_step seen xs i x test s (same_length ys xs i e h) (same_item ys xs i x e is)) ∙ inv
 
 -- ---- keys that are added beside others
@@ -148,11 +148,11 @@ add_skipped f seen ys i x s named whole h is test inv =
 
 pub add_pushed : (f : SpecShape → SpecShape) (seen ys : List (Key Shape)) (i : ℕ) (x : Key Shape) (s : SpecShape) (named : List (Key Shape)) (k : Key Shape) (whole : SpecKeys)
     → i < length ys → x ≡ get_or ys i x → is_among (string_bytes x.name) seen ≡ false
-    → string_bytes k.name ≡ string_bytes x.name → k.required ≡ false → view k.shape ≡ f (view x.shape)
+    → string_bytes k.name ≡ string_bytes x.name → k.required ≡ false → shape_view k.shape ≡ f (shape_view x.shape)
     → ahead named (joined_others f (without_each seen (ahead (drop i ys) (other_keys s)))) ≡ whole
     → ahead (named ++ k ∷ []) (joined_others f (without_each seen (ahead (drop (i + 1) ys) (other_keys s)))) ≡ whole
 add_pushed f seen ys i x s named k whole h is test name required shape inv =
-    pushed named k (string_bytes x.name) false (f (view x.shape)) (joined_others f (without_each seen (ahead (drop (i + 1) ys) (other_keys s)))) (joined_others f (without_each seen (ahead (drop i ys) (other_keys s))))
+    pushed named k (string_bytes x.name) false (f (shape_view x.shape)) (joined_others f (without_each seen (ahead (drop (i + 1) ys) (other_keys s)))) (joined_others f (without_each seen (ahead (drop i ys) (other_keys s))))
     name required shape
     (ap (λ (d : List (Key Shape)). joined_others f (without_each seen (ahead d (other_keys s)))) (cut_before ys i x h is) ∙ unseen_in f seen x (ahead (drop (i + 1) ys) (other_keys s)) test)
     ∙ inv
@@ -167,18 +167,18 @@ add_done f seen ys i s named whole h inv =
 -- ---- keys that are joined
 pub join_pushed : (xs ys : List (Key Shape)) (i : ℕ) (x : Key Shape) (s : SpecShape) (ns : SpecKeys) (known : KeyShape) (named : List (Key Shape)) (k : Key Shape) (whole : SpecKeys)
     → ys ≡ xs → i < length ys → x ≡ get_or ys i x → known ≡ at_key (string_bytes x.name) (without_each (take i xs) ns)
-    → string_bytes k.name ≡ string_bytes x.name → k.required ≡ (x.required && known.required) → view k.shape ≡ join (view x.shape) known.shape
+    → string_bytes k.name ≡ string_bytes x.name → k.required ≡ (x.required && known.required) → shape_view k.shape ≡ join_shapes (shape_view x.shape) known.shape
     → ahead named (join_keys (ahead (drop i xs) (other_keys s)) (without_each (take i xs) ns)) ≡ whole
     → ahead (named ++ k ∷ []) (join_keys (ahead (drop (i + 1) xs) (other_keys s)) (without_each (take (i + 1) xs) ns)) ≡ whole
 join_pushed xs ys i x s ns known named k whole e h is at name required shape inv =
-    pushed named k (string_bytes x.name) (x.required && known.required) (join (view x.shape) known.shape)
+    pushed named k (string_bytes x.name) (x.required && known.required) (join_shapes (shape_view x.shape) known.shape)
     (join_keys (ahead (drop (i + 1) xs) (other_keys s)) (without_each (take (i + 1) xs) ns)) (join_keys (ahead (drop i xs) (other_keys s)) (without_each (take i xs) ns))
     name required shape (join_step xs i x s ns known (same_length ys xs i e h) (same_item ys xs i x e is) at)
     ∙ inv
 
 pub join_done : (xs ys : List (Key Shape)) (i : ℕ) (s : SpecShape) (ns : SpecKeys) (named : List (Key Shape)) (whole : SpecKeys) → ys ≡ xs → length ys ≤ i
     → ahead named (join_keys (ahead (drop i xs) (other_keys s)) (without_each (take i xs) ns)) ≡ whole
-    → ahead named (joined_others (join s) (without_each xs ns)) ≡ whole
+    → ahead named (joined_others (join_shapes s) (without_each xs ns)) ≡ whole
 join_done xs ys i s ns named whole e h inv =
     let le = subst (λ (zs : List (Key Shape)). length zs ≤ i) e h in
     ap (ahead named) (sym (λ j. join_keys (ahead (drop_all i xs le j) (other_keys s)) (without_each (take_all i xs le j) ns)))

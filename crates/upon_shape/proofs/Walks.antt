@@ -3,7 +3,7 @@ use Rattle.std.proofs.Common.{◌≡◌, List, [], ◌∷◌, Option, Some, None
 use Rattle.std.specs.Option.{is_some}
 use Rattle.upon_types.specs.declared.types.ast.path.AccessOp.{AccessOp}
 use Rattle.upon_types.specs.Path.{Access, by_index, by_key, Member}
-use Rattle.upon_shape_spec.specs.Paths.{finds, takes_lists, takes_maps, member_shape, after_member, walk_shape}
+use Rattle.upon_shape_spec.specs.Paths.{finds, takes_lists, takes_maps, member_shape, after_member_shape, walk_shape}
 use Rattle.upon_shape_spec.specs.Shape.{never}
 use Rattle.upon_shape.specs.View.{lists_view, maps_view}
 use Rattle.upon_shape.specs.declared.shape.Keys.{Keys}
@@ -23,4 +23,4 @@ member-never op (by_key word) = refl
 
 pub walk-never : (members : List Member) → walk_shape members never ≡ Some never
 walk-never [] = refl
-walk-never (m ∷ ms) = ap (λ f. after_member f (walk_shape ms)) (member-never m.op m.access) ∙ walk-never ms
+walk-never (m ∷ ms) = ap (λ f. after_member_shape f (walk_shape ms)) (member-never m.op m.access) ∙ walk-never ms

@@ -1,6 +1,6 @@
 -- Keys in the order in which a program goes over them.
 use Rattle.std.specs.Prelude.{ℕ, List, [], ◌∷◌, Bool, false, ◌||◌, bytes_eq, Option, Some, None, string_bytes}
-use Rattle.upon_shape_spec.specs.Shape.{Shape as SpecShape, any_shape, one_of, no_list, lists_of, no_map, maps_of, Keys as SpecKeys, other_keys, key_then, without}
+use Rattle.upon_shape_spec.specs.Shape.{Shape as SpecShape, any_shape, one_of, no_list, lists_of, no_map, maps_of, Keys as SpecKeys, other_keys, key_then, keys_without}
 use Rattle.upon_shape.specs.declared.shape.Key.{Key}
 use Rattle.upon_shape.specs.declared.shape.Shape.{Shape}
 
@@ -29,7 +29,7 @@ is_among name (k ∷ ks) = bytes_eq name (string_bytes k.name) || is_among name 
 -- keys beside each of these
 abbrev pub without_each : List (Key Shape) → SpecKeys → SpecKeys
 without_each [] ns = ns
-without_each (k ∷ ks) ns = without_each ks (without (string_bytes k.name) ns)
+without_each (k ∷ ks) ns = without_each ks (keys_without (string_bytes k.name) ns)
 
 -- the names that were seen, the last of them first
 abbrev pub seen_after : List (Key Shape) → List (List ℕ) → List (List ℕ)

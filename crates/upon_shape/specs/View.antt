@@ -29,13 +29,13 @@ level_maps None = spec.no_map
 level_maps (Some ks) = spec.maps_of (level_keys ks.named.items (spec.other_keys ks.others.value))
 
 -- the outermost level, where the shapes inside have been seen already
-abbrev pub level : Shape-F spec.Shape → spec.Shape
-level Shape-F.Any = spec.any_shape
-level (Shape-F.OneOf p l m) = spec.one_of (plain_view p) (level_lists l) (level_maps m)
+abbrev pub shape_level : Shape-F spec.Shape → spec.Shape
+shape_level Shape-F.Any = spec.any_shape
+shape_level (Shape-F.OneOf p l m) = spec.one_of (plain_view p) (level_lists l) (level_maps m)
 
 -- the shape that a `Shape` denotes
-abbrev pub view : Shape → spec.Shape
-view = fold-Shape spec.Shape level
+abbrev pub shape_view : Shape → spec.Shape
+shape_view = fold-Shape spec.Shape shape_level
 
 -- a key, whether it is required, and the shape of what is there
 pub record Named : Type 0 where
@@ -45,7 +45,7 @@ pub record Named : Type 0 where
 
 -- what a key denotes
 abbrev pub named_view : Key Shape → Named
-named_view k = record { name = string_bytes k.name; required = k.required; shape = view k.shape }
+named_view k = record { name = string_bytes k.name; required = k.required; shape = shape_view k.shape }
 
 -- keys that are named ahead of others
 abbrev pub named_ahead : List Named → spec.Keys → spec.Keys
@@ -58,12 +58,12 @@ ahead ks others = named_ahead (map named_view ks) others
 
 -- what keys denote
 abbrev pub keys_view : Keys Shape → spec.Keys
-keys_view ks = ahead ks.named.items (spec.other_keys (view ks.others.value))
+keys_view ks = ahead ks.named.items (spec.other_keys (shape_view ks.others.value))
 
 -- what the shape of items denotes
 abbrev pub lists_view : Option (Box Shape Global) → spec.Lists
 lists_view None = spec.no_list
-lists_view (Some s) = spec.lists_of (view s.value)
+lists_view (Some s) = spec.lists_of (shape_view s.value)
 
 -- what the keys of maps denote
 abbrev pub maps_view : Option (Keys Shape) → spec.Maps
@@ -71,5 +71,5 @@ maps_view None = spec.no_map
 maps_view (Some ks) = spec.maps_of (keys_view ks)
 
 -- what is known of a key
-abbrev pub known_view : KeyShape → spec.KeyShape
-known_view k = spec.key_shape k.required (view k.shape.now)
+abbrev pub known_key_view : KeyShape → spec.KeyShape
+known_key_view k = spec.key_shape k.required (shape_view k.shape.now)

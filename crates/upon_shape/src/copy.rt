@@ -1,6 +1,6 @@
 // Copies of shapes.
 ghost use Rattle.std.specs.Prelude.{◌≡◌, IfOk};
-ghost use Rattle.upon_shape.specs.View.{view, keys_view, lists_view, maps_view};
+ghost use Rattle.upon_shape.specs.View.{shape_view, keys_view, lists_view, maps_view};
 
 use crate::shape::{Key, Keys, Shape};
 use std::alloc::{AllocError, Global};
@@ -9,7 +9,7 @@ impl Shape {
     /// Returns a copy that shares nothing with this shape. It fails if there is no memory for the copy.
     #[cycle(copy)]
     pub fn try_clone(&self, alloc: Global) -> Result<Shape, AllocError>
-        ensures { IfOk result (λ s. view s ≡ view self.now) }
+        ensures { IfOk result (λ s. shape_view s ≡ shape_view self.now) }
     {
         match self {
             Shape::Any => Ok(Shape::Any),

@@ -1,7 +1,7 @@
 // How deep shapes are nested.
 ghost use Rattle.std.specs.Prelude.{◌≡◌};
 ghost use Rattle.upon_shape_spec.specs.Depth.{is_deeper, lists_deeper, maps_deeper};
-ghost use Rattle.upon_shape.specs.View.{lists_view, maps_view, view};
+ghost use Rattle.upon_shape.specs.View.{lists_view, maps_view, shape_view};
 
 use crate::shape::{Keys, Shape};
 
@@ -9,7 +9,7 @@ impl Shape {
     /// Returns whether there are more levels than this of lists and maps, one inside another.
     #[cycle(depth)]
     pub fn is_deeper_than(&self, levels: usize) -> bool
-        ensures { result ≡ is_deeper levels (view self.now) }
+        ensures { result ≡ is_deeper levels (shape_view self.now) }
     {
         match self {
             Shape::Any => false,

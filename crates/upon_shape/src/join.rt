@@ -2,8 +2,8 @@
 ghost use Rattle.std.specs.Prelude.{◌≡◌, IfOk, OnOk};
 ghost use Rattle.upon_shape_spec.specs.Added.{with_item_shape};
 ghost use Rattle.upon_shape_spec.specs.Shape.{other_keys};
-ghost use Rattle.upon_shape_spec.specs.Join.{joined_others, join, join_lists, join_maps};
-ghost use Rattle.upon_shape.specs.View.{view, keys_view, lists_view, maps_view, ahead};
+ghost use Rattle.upon_shape_spec.specs.Join.{joined_others, join_shapes, join_lists, join_maps};
+ghost use Rattle.upon_shape.specs.View.{shape_view, keys_view, lists_view, maps_view, ahead};
 ghost use Rattle.upon_shape.specs.Keys.{without_each};
 
 use crate::copy::{copy_of_items, copy_of_maps};
@@ -15,7 +15,7 @@ impl Shape {
     /// Returns the shape of what has this shape or another. It fails if there is no memory for it.
     #[cycle(join)]
     pub fn join(&self, alloc: Global, other: &Shape) -> Result<Shape, AllocError>
-        ensures { IfOk result (λ s. view s ≡ join (view self.now) (view other.now)) }
+        ensures { IfOk result (λ s. shape_view s ≡ join_shapes (shape_view self.now) (shape_view other.now)) }
     {
         match (self, other) {
             (
@@ -37,7 +37,7 @@ impl Shape {
     /// Returns the shape of its values, where lists have one more item at their ends, of another shape. It fails if
     /// there is no memory for it.
     pub fn with_item(self, alloc: Global, item: &Shape) -> Result<Shape, AllocError>
-        ensures { IfOk result (λ s. view s ≡ with_item_shape (view self) (view item.now)) }
+        ensures { IfOk result (λ s. shape_view s ≡ with_item_shape (shape_view self) (shape_view item.now)) }
     {
         let Shape::OneOf { plain, items, keys } = self else {
             return Ok(Shape::Any);
@@ -114,9 +114,9 @@ fn add_beside(
     named: &mut Vec<Key<Shape>>,
 ) -> Result<(), AllocError>
     ensures { OnOk result
-        (ahead named.new.items (other_keys (join (view shape.now) (view others.now.others.value)))
+        (ahead named.new.items (other_keys (join_shapes (shape_view shape.now) (shape_view others.now.others.value)))
         ≡ ahead named.old.items
-        (joined_others (join (view shape.now)) (without_each seen.now (keys_view others.now)))) }
+        (joined_others (join_shapes (shape_view shape.now)) (without_each seen.now (keys_view others.now)))) }
 {
     for key in &others.named {
         if is_named(seen, &key.name) {

@@ -5,7 +5,7 @@ ghost use Rattle.upon_shape_spec.specs.Fits.{Fits, MapsRise, AllRise};
 ghost use Rattle.upon_shape_spec.specs.Join.{shape_of, items_shape, keys_shape, samples_shape};
 ghost use Rattle.upon_types.specs.Val.{Val, map_val};
 ghost use Rattle.upon_meaning_spec.specs.MapOrder.{IsAmong};
-ghost use Rattle.upon_shape.specs.View.{view, keys_view};
+ghost use Rattle.upon_shape.specs.View.{shape_view, keys_view};
 
 use crate::shape::{Key, Keys, Shape};
 use std::alloc::{AllocError, Global};
@@ -15,8 +15,8 @@ use upon_types::value::Value;
 impl Shape {
     /// Returns the shape of a value, which the value fits. It fails if there is no memory for the shape.
     pub fn of(alloc: Global, value: &Value) -> Result<Shape, AllocError>
-        ensures shape { IfOk result (λ s. view s ≡ shape_of (value_view value.now)) }
-        ensures fits { IfOk result (λ s. Fits (view s) (value_view value.now)) }
+        ensures shape { IfOk result (λ s. shape_view s ≡ shape_of (value_view value.now)) }
+        ensures fits { IfOk result (λ s. Fits (shape_view s) (value_view value.now)) }
     {
         value_shape(alloc, value)
     }
@@ -24,9 +24,9 @@ impl Shape {
     /// Returns the shape of samples, which each sample fits: their shapes joined. It fails if there is no memory for
     /// the shape.
     pub fn of_samples(alloc: Global, samples: &[Value]) -> Result<Shape, AllocError>
-        ensures shape { IfOk result (λ s. view s ≡ samples_shape (map value_view samples.now)) }
+        ensures shape { IfOk result (λ s. shape_view s ≡ samples_shape (map value_view samples.now)) }
         ensures fits { IfOk result
-            (λ s. (v : Val) → IsAmong v (map value_view samples.now) → Fits (view s) v) }
+            (λ s. (v : Val) → IsAmong v (map value_view samples.now) → Fits (shape_view s) v) }
     {
         joined_shape(alloc, samples)
     }
@@ -34,7 +34,7 @@ impl Shape {
 
 #[cycle(of)]
 fn value_shape(alloc: Global, value: &Value) -> Result<Shape, AllocError>
-    ensures shape { IfOk result (λ s. view s ≡ shape_of (value_view value.now)) }
+    ensures shape { IfOk result (λ s. shape_view s ≡ shape_of (value_view value.now)) }
     ensures rises { IfOk result (λ s. MapsRise (value_view value.now)) }
 {
     match value {
@@ -50,7 +50,7 @@ fn value_shape(alloc: Global, value: &Value) -> Result<Shape, AllocError>
 // Returns the shapes of the values, joined.
 #[cycle(of)]
 fn joined_shape(alloc: Global, values: &[Value]) -> Result<Shape, AllocError>
-    ensures shape { IfOk result (λ s. view s ≡ items_shape (vals_view values.now)) }
+    ensures shape { IfOk result (λ s. shape_view s ≡ items_shape (vals_view values.now)) }
     ensures rises { IfOk result (λ s. AllRise (vals_view values.now)) }
 {
     let mut shape = Shape::never();

@@ -1,7 +1,7 @@
 // Shapes of data that have more than the samples.
 ghost use Rattle.std.specs.Prelude.{◌≡◌, IfOk};
 ghost use Rattle.upon_shape_spec.specs.Join.{opened, opened_lists, opened_maps};
-ghost use Rattle.upon_shape.specs.View.{view, lists_view, maps_view};
+ghost use Rattle.upon_shape.specs.View.{shape_view, lists_view, maps_view};
 
 use crate::shape::{Key, Keys, Shape};
 use std::alloc::{AllocError, Global};
@@ -11,7 +11,7 @@ impl Shape {
     /// if there is no memory for the shape.
     #[cycle(open)]
     pub fn opened(&self, alloc: Global) -> Result<Shape, AllocError>
-        ensures { IfOk result (λ s. view s ≡ opened (view self.now)) }
+        ensures { IfOk result (λ s. shape_view s ≡ opened (shape_view self.now)) }
     {
         match self {
             Shape::Any => Ok(Shape::Any),

@@ -6,7 +6,7 @@ ghost use Rattle.upon_shape_spec.specs.Narrowed.{narrowed};
 ghost use Rattle.upon_shape_spec.specs.Paths.{if_there, key_in_map, index_in_list, member_shape, walk_shape};
 ghost use Rattle.upon_shape_spec.specs.Shape.{optional};
 ghost use Rattle.upon_shape.specs.Found.{found_view};
-ghost use Rattle.upon_shape.specs.View.{view, lists_view, maps_view};
+ghost use Rattle.upon_shape.specs.View.{shape_view, lists_view, maps_view};
 
 use crate::shape::{Keys, Shape};
 use std::alloc::{AllocError, Global};
@@ -28,7 +28,7 @@ pub enum MemberShape<'a> {
 impl Shape {
     /// Returns what a member of a path finds in a value of this shape.
     pub fn member(&self, op: AccessOp, access: &Access) -> MemberShape<'_>
-        ensures { found_view result ≡ member_shape op (access_of access.now) (view self.now) }
+        ensures { found_view result ≡ member_shape op (access_of access.now) (shape_view self.now) }
     {
         match self {
             Shape::Any => MemberShape::MayFail,
@@ -52,7 +52,8 @@ impl Shape {
     /// Returns the shape of what a path finds in a value of this shape, or `None` where that may be a fault. It fails
     /// if there is no memory for the shape.
     pub fn walk(&self, alloc: Global, path: &[Member]) -> Result<Option<Shape>, AllocError>
-        ensures { IfOk result (λ o. option_map view o ≡ walk_shape (map member_of path.now) (view self.now)) }
+        ensures { IfOk result (λ o. option_map shape_view o
+            ≡ walk_shape (map member_of path.now) (shape_view self.now)) }
     {
         match path {
             [] => Ok(Some(self.try_clone(alloc)?)),
@@ -68,7 +69,7 @@ impl Shape {
     /// Returns the shape of those of its values in which a path finds what is true. It fails if there is no memory for
     /// the shape.
     pub fn narrowed(&self, alloc: Global, path: &[Member]) -> Result<Shape, AllocError>
-        ensures { IfOk result (λ s. view s ≡ narrowed (map member_of path.now) (view self.now)) }
+        ensures { IfOk result (λ s. shape_view s ≡ narrowed (map member_of path.now) (shape_view self.now)) }
     {
         let [member, rest @ ..] = path else {
             return Ok(self.try_clone(alloc)?.not_none());
@@ -88,7 +89,7 @@ impl Shape {
 }
 
 fn if_there(op: AccessOp, shape: &Shape) -> MemberShape<'_>
-    ensures { found_view result ≡ if_there op (view shape.now) }
+    ensures { found_view result ≡ if_there op (shape_view shape.now) }
 {
     match op {
         AccessOp::Direct => MemberShape::MayFail,
@@ -119,7 +120,7 @@ fn index_in_list(op: AccessOp, items: &Option<Box<Shape>>) -> MemberShape<'_>
 }
 
 fn or_none(found: Option<Shape>) -> Option<Shape>
-    ensures { option_map view result ≡ option_map optional (option_map view found) }
+    ensures { option_map shape_view result ≡ option_map optional (option_map shape_view found) }
 {
     match found {
         None => None,

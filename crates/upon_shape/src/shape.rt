@@ -5,7 +5,7 @@ ghost use Rattle.upon_shape_spec.specs.Join.{join_plain};
 ghost use Rattle.upon_shape_spec.specs.Narrowed.{not_none};
 ghost use Rattle.upon_shape_spec.specs.Paths.{takes_plain};
 ghost use Rattle.upon_shape_spec.specs.Wider.{plain_wider};
-ghost use Rattle.upon_shape.specs.View.{plain_view, view, keys_view};
+ghost use Rattle.upon_shape.specs.View.{plain_view, shape_view, keys_view};
 ghost use Rattle.upon_shape.specs.Keys.{keys_and};
 
 use std::alloc::{AllocError, Global};
@@ -93,14 +93,14 @@ impl Plain {
 impl Shape {
     /// Returns the shape of any value.
     pub fn any() -> Shape
-        ensures { view result ≡ spec.any_shape }
+        ensures { shape_view result ≡ spec.any_shape }
     {
         Self::Any
     }
 
     /// Returns the shape of values without parts.
     pub fn plain(plain: Plain) -> Shape
-        ensures { view result ≡ spec.plain_shape (plain_view plain) }
+        ensures { shape_view result ≡ spec.plain_shape (plain_view plain) }
     {
         Shape::OneOf {
             plain,
@@ -111,49 +111,49 @@ impl Shape {
 
     /// Returns the shape of no value at all.
     pub fn never() -> Shape
-        ensures { view result ≡ spec.never }
+        ensures { shape_view result ≡ spec.never }
     {
         Shape::plain(kinds(false, false, false, false))
     }
 
     /// Returns the shape of no value where there may be one.
     pub fn none() -> Shape
-        ensures { view result ≡ spec.none_shape }
+        ensures { shape_view result ≡ spec.none_shape }
     {
         Shape::plain(kinds(true, false, false, false))
     }
 
     /// Returns the shape of the truth values.
     pub fn truth() -> Shape
-        ensures { view result ≡ spec.truth_shape }
+        ensures { shape_view result ≡ spec.truth_shape }
     {
         Shape::plain(kinds(false, true, false, false))
     }
 
     /// Returns the shape of the integers.
     pub fn integer() -> Shape
-        ensures { view result ≡ spec.integer_shape }
+        ensures { shape_view result ≡ spec.integer_shape }
     {
         Shape::plain(kinds(false, false, true, false))
     }
 
     /// Returns the shape of the texts.
     pub fn text() -> Shape
-        ensures { view result ≡ spec.text_shape }
+        ensures { shape_view result ≡ spec.text_shape }
     {
         Shape::plain(kinds(false, false, false, true))
     }
 
     /// Returns the shape of all values without parts: those that the default formatter has a text for, if none is set.
     pub fn shown() -> Shape
-        ensures { view result ≡ spec.shown }
+        ensures { shape_view result ≡ spec.shown_values }
     {
         Shape::plain(kinds(true, true, true, true))
     }
 
     /// Returns the shape of its values, and of none.
     pub fn optional(self) -> Shape
-        ensures { view result ≡ spec.optional (view self) }
+        ensures { shape_view result ≡ spec.optional (shape_view self) }
     {
         match self {
             Shape::Any => Shape::Any,
@@ -170,7 +170,7 @@ impl Shape {
 
     /// Returns the shape of those of its values that are not none.
     pub fn not_none(self) -> Shape
-        ensures { view result ≡ not_none (view self) }
+        ensures { shape_view result ≡ not_none (shape_view self) }
     {
         match self {
             Shape::Any => Shape::Any,
@@ -187,7 +187,7 @@ impl Shape {
 
     /// Returns the shape of lists whose items have this shape.
     pub fn list_of(alloc: Global, shape: Shape) -> Result<Shape, AllocError>
-        ensures { IfOk result (λ s. view s ≡ spec.list_of (view shape)) }
+        ensures { IfOk result (λ s. shape_view s ≡ spec.list_of (shape_view shape)) }
     {
         Ok(Shape::OneOf {
             plain: kinds(false, false, false, false),
@@ -198,7 +198,7 @@ impl Shape {
 
     /// Returns the shape of maps that have these keys.
     pub fn map_of(keys: Keys<Shape>) -> Shape
-        ensures { view result ≡ spec.map_of (keys_view keys) }
+        ensures { shape_view result ≡ spec.map_of (keys_view keys) }
     {
         Shape::OneOf {
             plain: kinds(false, false, false, false),
@@ -222,7 +222,7 @@ fn kinds(none: bool, truth: bool, integer: bool, text: bool) -> Plain
 impl Keys<Shape> {
     /// Returns no named keys: each key may be there, with what has this shape.
     pub fn each(alloc: Global, shape: Shape) -> Result<Keys<Shape>, AllocError>
-        ensures { IfOk result (λ ks. keys_view ks ≡ spec.other_keys (view shape)) }
+        ensures { IfOk result (λ ks. keys_view ks ≡ spec.other_keys (shape_view shape)) }
     {
         Ok(Keys {
             named: Vec::new(alloc),
@@ -252,7 +252,7 @@ impl Keys<Shape> {
         shape: Shape,
     ) -> Result<Keys<Shape>, AllocError>
         ensures { IfOk result
-            (λ ks. keys_view ks ≡ keys_and (string_bytes name) required (view shape) (keys_view self)) }
+            (λ ks. keys_view ks ≡ keys_and (string_bytes name) required (shape_view shape) (keys_view self)) }
     {
         let Keys { mut named, others } = self;
         named.push(Key {

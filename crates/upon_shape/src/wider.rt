@@ -1,7 +1,7 @@
 // Which shapes are at least as wide as others.
 ghost use Rattle.std.specs.Prelude.{◌≡◌, []};
 ghost use Rattle.upon_shape_spec.specs.Wider.{each_beside, wider, lists_wider, maps_wider};
-ghost use Rattle.upon_shape.specs.View.{view, keys_view, lists_view, maps_view};
+ghost use Rattle.upon_shape.specs.View.{shape_view, keys_view, lists_view, maps_view};
 ghost use Rattle.upon_shape.specs.Keys.{seen_after};
 
 use crate::keys::is_named;
@@ -11,7 +11,7 @@ impl Shape {
     /// Returns whether it is at least as wide as another shape: of each value that the other is of.
     #[cycle(wider)]
     pub fn is_as_wide_as(&self, other: &Shape) -> bool
-        ensures { result ≡ wider (view self.now) (view other.now) }
+        ensures { result ≡ wider (shape_view self.now) (shape_view other.now) }
     {
         match (self, other) {
             (Shape::Any, _) => true,
@@ -71,7 +71,7 @@ fn maps_are_as_wide(maps: &Option<Keys<Shape>>, other_maps: &Option<Keys<Shape>>
 // Returns whether a shape is as wide as what each key has that is not among some.
 #[cycle(wider)]
 fn is_as_wide_beside(shape: &Shape, seen: &[Key<Shape>], others: &Keys<Shape>) -> bool
-    ensures { result ≡ each_beside (seen_after seen.now []) (wider (view shape.now)) (keys_view others.now) }
+    ensures { result ≡ each_beside (seen_after seen.now []) (wider (shape_view shape.now)) (keys_view others.now) }
 {
     for (index, key) in others.named.iter().enumerate() {
         if is_named(&others.named[..index], &key.name) | is_named(seen, &key.name) {

@@ -17,9 +17,9 @@ use Rattle.upon_shape_spec.specs.Declared.{DeclaredCallable, gives_by, formats, 
 use Rattle.upon_shape_spec.specs.ExpressionShapes.{literal_shape, join_onto, join_all, shape_then, value_given, call_shape, expression_shape, base_shape, bases_shapes, items_keys, arguments_shapes}
 use Rattle.upon_shape_spec.specs.Fits.{EachValue, Fits, KeyFits, AllFit}
 use Rattle.upon_shape_spec.specs.Found.{Finds, FindsShape, ComesTo}
-use Rattle.upon_shape_spec.specs.Join.{join}
+use Rattle.upon_shape_spec.specs.Join.{join_shapes}
 use Rattle.upon_shape_spec.specs.Scope.{Scope, ScopeFits, path_shape}
-use Rattle.upon_shape_spec.specs.Shape.{Shape, never, Keys, key_then, list_of, map_of, no_others, without}
+use Rattle.upon_shape_spec.specs.Shape.{Shape, never, Keys, key_then, list_of, map_of, no_others, keys_without}
 use Rattle.upon_shape_spec.specs.Wider.{all_wider}
 use Rattle.upon_shape_spec.proofs.Joins.{first_fits, second_fits, entry_here}
 use Rattle.upon_shape_spec.proofs.PathsFit.{path_finds}
@@ -51,17 +51,17 @@ literal_fits (map_val es) = tt
 -- what fits a shape fits it with others joined to it, and so does what fits one of those
 onto_fits : (joined : Shape) (shapes : List Shape) (v : Val) → Fits joined v → Fits (join_onto joined shapes) v
 onto_fits joined [] v h = h
-onto_fits joined (s ∷ ss) v h = onto_fits (join joined s) ss v (first_fits joined s v h)
+onto_fits joined (s ∷ ss) v h = onto_fits (join_shapes joined s) ss v (first_fits joined s v h)
 
 items_joined : (joined : Shape) (shapes : List Shape) (os : List Operand) → AllFit shapes (values_of os) → EachValue (Fits (join_onto joined shapes)) (vals_of (values_of os))
 items_joined joined [] [] h = tt
 items_joined joined [] (o ∷ os) h = absurd h
 items_joined joined (s ∷ ss) [] h = absurd h
-items_joined joined (s ∷ ss) (o ∷ os) h = (onto_fits (join joined s) ss o.value (second_fits joined s o.value h.0), items_joined (join joined s) ss os h.1)
+items_joined joined (s ∷ ss) (o ∷ os) h = (onto_fits (join_shapes joined s) ss o.value (second_fits joined s o.value h.0), items_joined (join_shapes joined s) ss os h.1)
 
-more_entries : (ks : Keys) (es : Entries) (key : List ℕ) (s : Shape) (v : Val) → EntriesFit ks es → Fits s v → EntriesFit (key_then key true s (without key ks)) (with_entry key v es)
+more_entries : (ks : Keys) (es : Entries) (key : List ℕ) (s : Shape) (v : Val) → EntriesFit ks es → Fits s v → EntriesFit (key_then key true s (keys_without key ks)) (with_entry key v es)
 more_entries ks es key s v h k =
-    let left = without key ks in (
+    let left = keys_without key ks in (
       rises_more key v es h.0,
       λ other. subst (λ (o : Option Val). KeyFits other (key_then key true s left) o) (sym (entry_more key other v es)) (entry_here (bytes_eq other key) s v (entry_at other es) (KeyFits other left) k (λ no. beside other key ks (entry_at other es) no (h.1 other))),
     )
@@ -159,8 +159,8 @@ module _ {V : Type 0} (calls : Calls V) (declared : Declared) (keeps : KeepsDecl
       items_come : (items : Items) (ks : Keys) (es : Entries) (q : V) → EntriesFit ks es → ItemsCome (items_keys declared scope items ks) (evaluate_items calls items es env q).answer
       items_come no_items ks es q h = h
       items_come (item_then key b items) ks es q h =
-          item_comes (base_shape declared scope b) (evaluate_base calls b env q) (λ s. items_keys declared scope items (key_then key.text true s (without key.text ks))) (λ o q'. evaluate_items calls items (with_entry key.text o.value es) env q') (base_comes b q)
-          (λ s o q' x. items_come items (key_then key.text true s (without key.text ks)) (with_entry key.text o.value es) q' (more_entries ks es key.text s o.value h x))
+          item_comes (base_shape declared scope b) (evaluate_base calls b env q) (λ s. items_keys declared scope items (key_then key.text true s (keys_without key.text ks))) (λ o q'. evaluate_items calls items (with_entry key.text o.value es) env q') (base_comes b q)
+          (λ s o q' x. items_come items (key_then key.text true s (keys_without key.text ks)) (with_entry key.text o.value es) q' (more_entries ks es key.text s o.value h x))
 
       pub arguments_come : (args : Arguments) (q : V) → AllCome (arguments_shapes declared scope args) (evaluate_arguments calls args env q).answer
       arguments_come no_arguments q = tt

@@ -1,8 +1,8 @@
 -- Two shapes joined are as wide as each, and no wider than what is.
 use Rattle.std.proofs.Common.{◌≡◌, ℕ, List, [], Bool, true, false, ◌&&◌, ◌||◌, refl, sym, ap, ◌∙◌, subst, bytes_eq, if◌then◌else◌}
 use Rattle.std.proofs.lemmas.Slice.Eq.{bytes_eq-Decides}
-use Rattle.upon_shape_spec.specs.Join.{join_plain, joined_others, join, join_lists, join_maps, join_keys}
-use Rattle.upon_shape_spec.specs.Shape.{Plain, Shape, any_shape, one_of, Lists, no_list, lists_of, Maps, no_map, maps_of, Keys, other_keys, key_then, KeyShape, key_shape, at_key, without}
+use Rattle.upon_shape_spec.specs.Join.{join_plain, joined_others, join_shapes, join_lists, join_maps, join_keys}
+use Rattle.upon_shape_spec.specs.Shape.{Plain, Shape, any_shape, one_of, Lists, no_list, lists_of, Maps, no_map, maps_of, Keys, other_keys, key_then, KeyShape, key_shape, at_key, keys_without}
 use Rattle.upon_shape_spec.specs.Wider.{implies, plain_wider, wider, lists_wider, maps_wider}
 use Rattle.upon_shape_spec.proofs.KeyByKey.{both, chosen, AtWider, others_of, keys_at, keys_other, keys_from}
 use Rattle.upon_shape_spec.proofs.Order.{itself, map_itself}
@@ -11,7 +11,7 @@ use Rattle.upon_shape_spec.proofs.Tests.{and_first, and_second}
 -- ---- what is known of a key in keys that are joined
 -- of both
 abbrev joined_at : KeyShape → KeyShape → KeyShape
-joined_at a b = key_shape (a.required && b.required) (join a.shape b.shape)
+joined_at a b = key_shape (a.required && b.required) (join_shapes a.shape b.shape)
 
 if_joined : (b : Bool) (x y x' y' : KeyShape) (F : KeyShape → KeyShape) → (b ≡ true → x ≡ F x') → (b ≡ false → y ≡ F y') → (if b then x else y) ≡ F (if b then x' else y')
 if_joined true x y x' y' F f g = f refl
@@ -21,42 +21,42 @@ other_at : (b : Bool) (x y : KeyShape) → b ≡ false → (if b then x else y) 
 other_at true x y e = absurd (cc)
 other_at false x y e = refl
 
-at_one_less : (key k l : List ℕ) (required : Bool) (s : Shape) (ns : Keys) → bytes_eq key k ≡ false → at_key key (without k ns) ≡ at_key key ns → (b : Bool) → bytes_eq k l ≡ b → at_key key (if b then without k ns else key_then l required s (without k ns)) ≡ (if bytes_eq key l then key_shape required s else at_key key ns)
+at_one_less : (key k l : List ℕ) (required : Bool) (s : Shape) (ns : Keys) → bytes_eq key k ≡ false → at_key key (keys_without k ns) ≡ at_key key ns → (b : Bool) → bytes_eq k l ≡ b → at_key key (if b then keys_without k ns else key_then l required s (keys_without k ns)) ≡ (if bytes_eq key l then key_shape required s else at_key key ns)
 at_one_less key k l required s ns other e true same =
     let differs : bytes_eq key l ≡ false = ap (bytes_eq key) (sym ((bytes_eq-Decides k l).0 same)) ∙ other in
     e ∙ sym (other_at (bytes_eq key l) (key_shape required s) (at_key key ns) differs)
 at_one_less key k l required s ns other e false same = ap (λ x. if bytes_eq key l then key_shape required s else x) e
 
-at_without : (key k : List ℕ) (ns : Keys) → bytes_eq key k ≡ false → at_key key (without k ns) ≡ at_key key ns
+at_without : (key k : List ℕ) (ns : Keys) → bytes_eq key k ≡ false → at_key key (keys_without k ns) ≡ at_key key ns
 at_without key k (other_keys s) other = refl
 at_without key k (key_then l required s ns) other = at_one_less key k l required s ns other (at_without key k ns other) (bytes_eq k l) refl
 
-at_others : (s : Shape) (ns : Keys) (key : List ℕ) → at_key key (joined_others (join s) ns) ≡ joined_at (key_shape false s) (at_key key ns)
+at_others : (s : Shape) (ns : Keys) (key : List ℕ) → at_key key (joined_others (join_shapes s) ns) ≡ joined_at (key_shape false s) (at_key key ns)
 at_others s (other_keys t) key = refl
-at_others s (key_then k required t ns) key = if_joined (bytes_eq key k) (key_shape false (join s t)) (at_key key (joined_others (join s) ns)) (key_shape required t) (at_key key ns) (joined_at (key_shape false s)) (λ same. refl) (λ other. at_others s ns key)
+at_others s (key_then k required t ns) key = if_joined (bytes_eq key k) (key_shape false (join_shapes s t)) (at_key key (joined_others (join_shapes s) ns)) (key_shape required t) (at_key key ns) (joined_at (key_shape false s)) (λ same. refl) (λ other. at_others s ns key)
 
 at_join : (ks ns : Keys) (key : List ℕ) → at_key key (join_keys ks ns) ≡ joined_at (at_key key ks) (at_key key ns)
 at_join (other_keys s) ns key = at_others s ns key
 at_join (key_then k required s ks) ns key =
-    if_joined (bytes_eq key k) (key_shape (required && (at_key k ns).required) (join s (at_key k ns).shape)) (at_key key (join_keys ks (without k ns))) (key_shape required s) (at_key key ks) (λ x. joined_at x (at_key key ns))
+    if_joined (bytes_eq key k) (key_shape (required && (at_key k ns).required) (join_shapes s (at_key k ns).shape)) (at_key key (join_keys ks (keys_without k ns))) (key_shape required s) (at_key key ks) (λ x. joined_at x (at_key key ns))
     (λ same. ap (λ (x : List ℕ). joined_at (key_shape required s) (at_key x ns)) (sym ((bytes_eq-Decides key k).0 same)))
-    (λ other. at_join ks (without k ns) key ∙ ap (joined_at (at_key key ks)) (at_without key k ns other))
+    (λ other. at_join ks (keys_without k ns) key ∙ ap (joined_at (at_key key ks)) (at_without key k ns other))
 
-others_others : (s : Shape) (ns : Keys) → others_of (joined_others (join s) ns) ≡ join s (others_of ns)
+others_others : (s : Shape) (ns : Keys) → others_of (joined_others (join_shapes s) ns) ≡ join_shapes s (others_of ns)
 others_others s (other_keys t) = refl
 others_others s (key_then k required t ns) = others_others s ns
 
-others_without : (k : List ℕ) (ns : Keys) → others_of (without k ns) ≡ others_of ns
+others_without : (k : List ℕ) (ns : Keys) → others_of (keys_without k ns) ≡ others_of ns
 others_without k (other_keys s) = refl
-others_without k (key_then l required s ns) = if_others (bytes_eq k l) (without k ns) (key_then l required s (without k ns)) (others_of ns) (others_without k ns) (others_without k ns)
+others_without k (key_then l required s ns) = if_others (bytes_eq k l) (keys_without k ns) (key_then l required s (keys_without k ns)) (others_of ns) (others_without k ns) (others_without k ns)
   where
     if_others : (b : Bool) (x y : Keys) (s : Shape) → others_of x ≡ s → others_of y ≡ s → others_of (if b then x else y) ≡ s
     if_others true x y s e f = e
     if_others false x y s e f = f
 
-others_join : (ks ns : Keys) → others_of (join_keys ks ns) ≡ join (others_of ks) (others_of ns)
+others_join : (ks ns : Keys) → others_of (join_keys ks ns) ≡ join_shapes (others_of ks) (others_of ns)
 others_join (other_keys s) ns = others_others s ns
-others_join (key_then k required s ks) ns = others_join ks (without k ns) ∙ ap (join (others_of ks)) (others_without k ns)
+others_join (key_then k required s ks) ns = others_join ks (keys_without k ns) ∙ ap (join_shapes (others_of ks)) (others_without k ns)
 
 -- ---- as wide as the first
 implies_first : (a b : Bool) → implies a (a || b) ≡ true
@@ -80,7 +80,7 @@ maps_none no_map = refl
 maps_none (maps_of ks) = refl
 
 abbrev First : Shape → Type 0
-First s = (t : Shape) → wider (join s t) s ≡ true
+First s = (t : Shape) → wider (join_shapes s t) s ≡ true
 
 mutual
   pub wider_first : (s : Shape) → First s
@@ -125,7 +125,7 @@ plain_second : (p q : Plain) → plain_wider (join_plain p q) q ≡ true
 plain_second p q = both (implies q.none (p.none || q.none)) _ (implies_second p.none q.none) (both (implies q.truth (p.truth || q.truth)) _ (implies_second p.truth q.truth) (both (implies q.integer (p.integer || q.integer)) _ (implies_second p.integer q.integer) (implies_second p.text q.text)))
 
 abbrev Second : Shape → Type 0
-Second s = (t : Shape) → wider (join s t) t ≡ true
+Second s = (t : Shape) → wider (join_shapes s t) t ≡ true
 
 mutual
   pub wider_second : (s : Shape) → Second s
@@ -176,7 +176,7 @@ plain_least p q r e f =
     (implies_or q.text r.text p.text (and_second (implies q.integer p.integer) _ e2) (and_second (implies r.integer p.integer) _ f2))))
 
 abbrev Least : Shape → Type 0
-Least s = (t u : Shape) → wider s t ≡ true → wider s u ≡ true → wider s (join t u) ≡ true
+Least s = (t u : Shape) → wider s t ≡ true → wider s u ≡ true → wider s (join_shapes t u) ≡ true
 
 mutual
   pub least : (s : Shape) → Least s

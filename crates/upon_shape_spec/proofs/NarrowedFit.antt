@@ -21,7 +21,7 @@ use Rattle.upon_shape_spec.specs.Fits.{Held, Fits, MapFits}
 use Rattle.upon_shape_spec.specs.Found.{Finds}
 use Rattle.upon_shape_spec.specs.Narrowed.{narrowed_at, not_none, narrowed, narrowed_bound, narrowed_names, narrowed_bindings, narrowed_root, narrowed_scope, true_scope, base_true_scope}
 use Rattle.upon_shape_spec.specs.Scope.{BoundShape, value_of, loop_key, a_loop, NameShape, Scope, name_shape, BothFit, NamesFit, RootFits, ScopeFits, first_bound_shape, bound_shape_of}
-use Rattle.upon_shape_spec.specs.Shape.{Shape, any_shape, one_of, no_map, maps_of, Keys, key_then, at_key, without}
+use Rattle.upon_shape_spec.specs.Shape.{Shape, any_shape, one_of, no_map, maps_of, Keys, key_then, at_key, keys_without}
 use Rattle.upon_shape_spec.proofs.PathsFit.{access_both}
 use Rattle.upon_shape_spec.proofs.Tests.{beside, by_test, key_held}
 
@@ -44,7 +44,7 @@ there op required s t (Some v) fault go more h found_true = more v h found_true
 there Direct required s t None fault go more h found_true = absurd found_true
 there Optional required s t None fault go more h found_true = absurd (cc)
 
-at_map : (op : AccessOp) (key : List ℕ) (at : Span) (ks : Keys) (es : Entries) (t : Shape) (go : Val → Finding Val) → MapFits (maps_of ks) es → ((v : Val) → Fits (at_key key ks).shape v → FindsTrue (go v) → Fits t v) → FindsTrue (after_member (found_or_missed (entry_at key es) op (not_in_map at)) go) → MapFits (maps_of (key_then key true t (without key ks))) es
+at_map : (op : AccessOp) (key : List ℕ) (at : Span) (ks : Keys) (es : Entries) (t : Shape) (go : Val → Finding Val) → MapFits (maps_of ks) es → ((v : Val) → Fits (at_key key ks).shape v → FindsTrue (go v) → Fits t v) → FindsTrue (after_member (found_or_missed (entry_at key es) op (not_in_map at)) go) → MapFits (maps_of (key_then key true t (keys_without key ks))) es
 at_map op key at ks es t go h more found_true =
     let here = there op (at_key key ks).required (at_key key ks).shape t (entry_at key es) (not_in_map at) go more (key_held key ks (entry_at key es) (h.1 key)) found_true in
     (h.0, λ other. by_test (bytes_eq other key) (λ same. subst (λ (k : List ℕ). Held true (Fits t) (entry_at k es)) (sym ((bytes_eq-Decides other key).0 same)) here) (λ no. beside other key ks (entry_at other es) no (h.1 other)))

@@ -9,9 +9,9 @@ use Rattle.upon_shape_spec.specs.Declared.{DeclaredCallable, gives_by, formats, 
 use Rattle.upon_shape_spec.specs.Doubts.{Unsure, Doubt, doubt, has_items, unless, if_none, if_some, after_found, walk_doubts, bound_doubts, bound_or_root_doubts, given_doubts, expression_doubts, base_doubts, bases_doubts, items_doubts, arguments_doubts, shown_value_doubts, shown_call_doubts, text_doubts, shown_doubts, base_shown_doubts, items_in_doubt, or_never, or_names, bound_names, statement_doubts, statements_doubts, else_doubts}
 use Rattle.upon_shape_spec.specs.ExpressionShapes.{join_all, value_given, call_shape, is_taken, is_formatted, shows_given, shows_call, shape_then, expression_shape, base_shape, arguments_shapes, bases_shapes, items_keys, is_shown, base_is_shown}
 use Rattle.upon_shape_spec.specs.Narrowed.{tested_scope}
-use Rattle.upon_shape_spec.specs.Paths.{MemberShape, may_fail, finds, may_miss, member_shape, after_member, walk_shape}
+use Rattle.upon_shape_spec.specs.Paths.{MemberShape, may_fail, finds, may_miss, member_shape, after_member_shape, walk_shape}
 use Rattle.upon_shape_spec.specs.Scope.{BoundShape, value_of, loop_key, a_loop, NameShape, Scope, name_shape, scope_over, with_names, bound_shape_of, state_shape, bound_walk_shape, bound_or_root_shape}
-use Rattle.upon_shape_spec.specs.Shape.{Shape, never, Keys, key_then, optional, list_of, map_of, no_others, without}
+use Rattle.upon_shape_spec.specs.Shape.{Shape, never, Keys, key_then, optional, list_of, map_of, no_others, keys_without}
 use Rattle.upon_shape_spec.specs.Wider.{wider}
 
 -- there is no doubt
@@ -71,7 +71,7 @@ map_has f (Some a) = same
 through : {A B C : Type 0} → (A ↔ B) → (B ↔ C) → (A ↔ C)
 through f g = (λ x. g.0 (f.0 x), λ x. f.1 (g.1 x))
 
-found_same : (member : Member) (s : Shape) (m : MemberShape) (go : Shape → List Doubt) (shape : Shape → Option Shape) → ((t : Shape) → Sure (go t) ↔ Has (shape t)) → Sure (after_found member s m go) ↔ Has (after_member m shape)
+found_same : (member : Member) (s : Shape) (m : MemberShape) (go : Shape → List Doubt) (shape : Shape → Option Shape) → ((t : Shape) → Sure (go t) ↔ Has (shape t)) → Sure (after_found member s m go) ↔ Has (after_member_shape m shape)
 found_same member s may_fail go shape f = same
 found_same member s (finds t) go shape f = f t
 found_same member s (may_miss t) go shape f = through (f t) (map_has optional (shape t))
@@ -156,7 +156,7 @@ module _ (declared : Declared) (scope : Scope) where
     items_same no_items ks = same
     items_same (item_then key b items) ks =
         through (both_same (base_doubts declared scope b) (items_doubts declared scope items) (base_same b) same)
-        (next_item (base_shape declared scope b) (λ s. items_keys declared scope items (key_then key.text true s (without key.text ks))) (items_doubts declared scope items) (λ s. items_same items (key_then key.text true s (without key.text ks))))
+        (next_item (base_shape declared scope b) (λ s. items_keys declared scope items (key_then key.text true s (keys_without key.text ks))) (items_doubts declared scope items) (λ s. items_same items (key_then key.text true s (keys_without key.text ks))))
 
     arguments_same : (args : Arguments) → Sure (arguments_doubts declared scope args) ↔ Has (arguments_shapes declared scope args)
     arguments_same no_arguments = same

@@ -18,7 +18,7 @@ use Rattle.upon_render.specs.Walk.{after_member as go_after_member}
 use Rattle.upon_shape_spec.specs.Fits.{EachValue, Held, Fits, ListFits, MapFits}
 use Rattle.upon_shape_spec.specs.Found.{Finds, FindsShape}
 use Rattle.upon_shape_spec.specs.Join.{shape_of}
-use Rattle.upon_shape_spec.specs.Paths.{MemberShape, may_fail, finds, may_miss, takes_plain, takes_lists, takes_maps, if_there, by_known_key, key_in_map, index_in_list, member_shape, after_member, walk_shape}
+use Rattle.upon_shape_spec.specs.Paths.{MemberShape, may_fail, finds, may_miss, takes_plain, takes_lists, takes_maps, if_there, by_known_key, key_in_map, index_in_list, member_shape, after_member_shape, walk_shape}
 use Rattle.upon_shape_spec.specs.Scope.{BoundShape, value_of, loop_key, a_loop, NameShape, Scope, BoundFits, BothFit, NamesFit, RootFits, ScopeFits, bound_shape_of, no_state_shape, state_shape, bound_walk_shape, bound_or_root_shape, path_shape}
 use Rattle.upon_shape_spec.specs.Shape.{Plain, Shape, any_shape, one_of, Lists, no_list, lists_of, Maps, no_map, maps_of, truth_shape, integer_shape, optional, at_key}
 use Rattle.upon_shape_spec.proofs.Joins.{own_fits}
@@ -141,7 +141,7 @@ not_missed : (o : Option Shape) (x : Finding Val) → FindsShape o x → FindsSh
 not_missed None x h = tt
 not_missed (Some s) x h = optional_found s x h
 
-on_member : (m : MemberShape) (x : Finding (Option Val)) (go_shape : Shape → Option Shape) (go : Val → Finding Val) → MemberFinds m x → ((s : Shape) (v : Val) → Fits s v → FindsShape (go_shape s) (go v)) → FindsShape (after_member m go_shape) (go_after_member x go)
+on_member : (m : MemberShape) (x : Finding (Option Val)) (go_shape : Shape → Option Shape) (go : Val → Finding Val) → MemberFinds m x → ((s : Shape) (v : Val) → Fits s v → FindsShape (go_shape s) (go v)) → FindsShape (after_member_shape m go_shape) (go_after_member x go)
 on_member may_fail x go_shape go h k = tt
 on_member (finds s) (found (Some v)) go_shape go h k = k s v h
 on_member (finds s) (found None) go_shape go h k = absurd h

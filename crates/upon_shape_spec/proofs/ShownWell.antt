@@ -17,7 +17,7 @@ use Rattle.upon_shape_spec.specs.ExpressionShapes.{shape_then, is_taken, is_form
 use Rattle.upon_shape_spec.specs.Fits.{Fits, AllFit}
 use Rattle.upon_shape_spec.specs.Found.{Finds, FindsShape, ComesTo}
 use Rattle.upon_shape_spec.specs.Scope.{Scope, ScopeFits}
-use Rattle.upon_shape_spec.specs.Shape.{Shape, shown}
+use Rattle.upon_shape_spec.specs.Shape.{Shape, shown_values}
 use Rattle.upon_shape_spec.specs.Wider.{wider}
 use Rattle.upon_shape_spec.proofs.ExpressionsFit.{AllCome, answer_finds, then_come, expression_comes, base_comes, arguments_come}
 use Rattle.upon_shape_spec.proofs.Widths.{wider_fits}
@@ -78,7 +78,7 @@ module _ {V : Type 0} (calls : Calls V) (declared : Declared) (keeps : KeepsDecl
       base_well (mapping items span) q h = value_well (base_shape declared scope (mapping items span)) (evaluate_base calls (mapping items span) env q) h (base_comes calls declared keeps scope env fits (mapping items span) q)
 
 -- the default formatter, where none is set
-pub default_each : FormatsEach default_format shown
+pub default_each : FormatsEach default_format shown_values
 default_each none_val h = refl
 default_each (bool_val b) h = refl
 default_each (int_val n) h = refl

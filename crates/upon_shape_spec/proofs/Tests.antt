@@ -2,7 +2,7 @@
 use Rattle.std.proofs.Common.{◌≡◌, ℕ, List, Bool, true, false, ◌&&◌, ◌||◌, Option, Some, None, refl, sym, ap, ◌∙◌, subst, bytes_eq, if◌then◌else◌}
 use Rattle.std.proofs.lemmas.Slice.Eq.{bytes_eq-Decides}
 use Rattle.upon_types.specs.Val.{Val, Vals, no_vals, val_then}
-use Rattle.upon_shape_spec.specs.Shape.{Shape, Keys, other_keys, key_then, KeyShape, key_shape, at_key, without}
+use Rattle.upon_shape_spec.specs.Shape.{Shape, Keys, other_keys, key_then, KeyShape, key_shape, at_key, keys_without}
 use Rattle.upon_shape_spec.specs.Fits.{EachValue, ByTest, Held, Fits, KeyFits}
 
 pub or_first : (a b : Bool) → a ≡ true → (a || b) ≡ true
@@ -79,12 +79,12 @@ other_test A B true e h = absurd (cc)
 other_test A B false e h = h
 
 -- ---- the keys beside one say the same of another
-beside_one : (key k l : List ℕ) (required : Bool) (s : Shape) (ns : Keys) (o : Option Val) → bytes_eq key k ≡ false → (KeyFits key ns o → KeyFits key (without k ns) o) → (b : Bool) → bytes_eq k l ≡ b → ByTest (bytes_eq key l) (Held required (Fits s) o) (KeyFits key ns o) → KeyFits key (if b then without k ns else key_then l required s (without k ns)) o
+beside_one : (key k l : List ℕ) (required : Bool) (s : Shape) (ns : Keys) (o : Option Val) → bytes_eq key k ≡ false → (KeyFits key ns o → KeyFits key (keys_without k ns) o) → (b : Bool) → bytes_eq k l ≡ b → ByTest (bytes_eq key l) (Held required (Fits s) o) (KeyFits key ns o) → KeyFits key (if b then keys_without k ns else key_then l required s (keys_without k ns)) o
 beside_one key k l required s ns o other more true same h =
     let one : k ≡ l = (bytes_eq-Decides k l).0 same in
     more (other_test (Held required (Fits s) o) (KeyFits key ns o) (bytes_eq key l) (ap (bytes_eq key) (sym one) ∙ other) h)
 beside_one key k l required s ns o other more false same h = test_map (bytes_eq key l) (λ x. x) more h
 
-pub beside : (key k : List ℕ) (ns : Keys) (o : Option Val) → bytes_eq key k ≡ false → KeyFits key ns o → KeyFits key (without k ns) o
+pub beside : (key k : List ℕ) (ns : Keys) (o : Option Val) → bytes_eq key k ≡ false → KeyFits key ns o → KeyFits key (keys_without k ns) o
 beside key k (other_keys s) o other h = h
 beside key k (key_then l required s ns) o other h = beside_one key k l required s ns o other (beside key k ns o other) (bytes_eq k l) refl h

@@ -12,7 +12,7 @@ use Rattle.upon_meaning_spec.specs.Engine.{Template}
 use Rattle.upon_shape_spec.specs.Accepted.{AcceptedWithin, Planned}
 use Rattle.upon_shape_spec.specs.Declared.{gives_by, formats, Declared, given_by}
 use Rattle.upon_shape_spec.specs.Scope.{Scope}
-use Rattle.upon_shape_spec.specs.Shape.{Shape, any_shape, Keys, key_then, text_shape, shown}
+use Rattle.upon_shape_spec.specs.Shape.{Shape, any_shape, Keys, key_then, text_shape, shown_values}
 
 -- ---- paths and expressions
 abbrev pub nowhere : Span
@@ -133,7 +133,7 @@ declared = record {
   callables = held
       ((codes "upper", gives_by (given_by (record { takes = text_shape ∷ []; gives = text_shape } ∷ [])))
       ∷ (codes "debug", formats any_shape) ∷ []);
-  default_formats = shown;
+  default_formats = shown_values;
 }
 
 -- a template alone, and with others that it includes, at most so deep

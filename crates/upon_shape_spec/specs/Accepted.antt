@@ -5,7 +5,7 @@ use Rattle.upon_types.specs.Tree.{Statement, raw, inline_expr, include, if_else,
 use Rattle.upon_meaning_spec.specs.Engine.{Template, Table}
 use Rattle.upon_shape_spec.specs.Declared.{Declared}
 use Rattle.upon_shape_spec.specs.ExpressionShapes.{expression_shape, is_shown}
-use Rattle.upon_shape_spec.specs.Join.{join}
+use Rattle.upon_shape_spec.specs.Join.{join_shapes}
 use Rattle.upon_shape_spec.specs.Narrowed.{tested_scope}
 use Rattle.upon_shape_spec.specs.Paths.{takes_plain, takes_lists, takes_maps}
 use Rattle.upon_shape_spec.specs.Scope.{value_of, loop_key, a_loop, NameShape, Scope, name_shape, scope_over, with_names, scope_wider}
@@ -24,7 +24,7 @@ item_shape (lists_of s) = s
 -- the shape of what any key has
 abbrev pub keys_joined : Keys → Shape
 keys_joined (other_keys s) = s
-keys_joined (key_then k required s ks) = join s (keys_joined ks)
+keys_joined (key_then k required s ks) = join_shapes s (keys_joined ks)
 
 -- the shape of what a key of a map has
 abbrev pub value_shape : Maps → Shape

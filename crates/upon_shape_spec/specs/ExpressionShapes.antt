@@ -3,9 +3,9 @@ use Rattle.std.specs.Prelude.{List, [], ◌∷◌, Bool, true, false, Option, So
 use Rattle.upon_types.specs.Expression.{Expression, base, filtered, Base, var, literal, list, mapping, paren, call, Bases, no_bases, base_then, Items, no_items, item_then, Arguments, no_arguments, arguments}
 use Rattle.upon_types.specs.Val.{Val, none_val, bool_val, int_val, text_val, list_val, map_val}
 use Rattle.upon_shape_spec.specs.Declared.{DeclaredCallable, gives_by, formats, Declared}
-use Rattle.upon_shape_spec.specs.Join.{join}
+use Rattle.upon_shape_spec.specs.Join.{join_shapes}
 use Rattle.upon_shape_spec.specs.Scope.{Scope, path_shape}
-use Rattle.upon_shape_spec.specs.Shape.{Shape, any_shape, Keys, key_then, never, none_shape, truth_shape, integer_shape, text_shape, list_of, map_of, no_others, without}
+use Rattle.upon_shape_spec.specs.Shape.{Shape, any_shape, Keys, key_then, never, none_shape, truth_shape, integer_shape, text_shape, list_of, map_of, no_others, keys_without}
 use Rattle.upon_shape_spec.specs.Wider.{wider}
 
 -- of a literal, which is no list and no map in a text
@@ -20,7 +20,7 @@ literal_shape (map_val es) = any_shape
 -- a shape with others joined to it, one after another
 abbrev pub join_onto : Shape → List Shape → Shape
 join_onto joined [] = joined
-join_onto joined (s ∷ ss) = join_onto (join joined s) ss
+join_onto joined (s ∷ ss) = join_onto (join_shapes joined s) ss
 
 -- shapes joined
 abbrev pub join_all : List Shape → Shape
@@ -91,7 +91,7 @@ module _ (declared : Declared) (scope : Scope) where
     pub items_keys : Items → Keys → Option Keys
     items_keys no_items ks = Some ks
     items_keys (item_then key b items) ks =
-        option_and_then (λ s. items_keys items (key_then key.text true s (without key.text ks))) (base_shape b)
+        option_and_then (λ s. items_keys items (key_then key.text true s (keys_without key.text ks))) (base_shape b)
 
     -- of each argument
     pub arguments_shapes : Arguments → Option (List Shape)

@@ -1,7 +1,7 @@
 -- The shape of what has one of two shapes, and shapes of samples.
 use Rattle.std.specs.Prelude.{List, [], ◌∷◌, true, false, ◌&&◌, ◌||◌}
 use Rattle.upon_types.specs.Val.{Val, none_val, bool_val, int_val, text_val, list_val, map_val, Vals, no_vals, val_then, Entries, no_entries, entry_then}
-use Rattle.upon_shape_spec.specs.Shape.{Plain, Shape, any_shape, one_of, Lists, no_list, lists_of, Maps, no_map, maps_of, Keys, other_keys, key_then, plain, never, none_shape, truth_shape, integer_shape, text_shape, list_of, map_of, no_others, at_key, without}
+use Rattle.upon_shape_spec.specs.Shape.{Plain, Shape, any_shape, one_of, Lists, no_list, lists_of, Maps, no_map, maps_of, Keys, other_keys, key_then, plain, never, none_shape, truth_shape, integer_shape, text_shape, list_of, map_of, no_others, at_key, keys_without}
 
 -- what either takes
 abbrev pub join_plain : Plain → Plain → Plain
@@ -14,16 +14,16 @@ joined_others joined (key_then k required s ks) = key_then k false (joined s) (j
 
 abbrev mutual
   -- of the values of either
-  pub join : Shape → Shape → Shape
-  join any_shape t = any_shape
-  join (one_of p l m) any_shape = any_shape
-  join (one_of p l m) (one_of q k n) = one_of (join_plain p q) (join_lists l k) (join_maps m n)
+  pub join_shapes : Shape → Shape → Shape
+  join_shapes any_shape t = any_shape
+  join_shapes (one_of p l m) any_shape = any_shape
+  join_shapes (one_of p l m) (one_of q k n) = one_of (join_plain p q) (join_lists l k) (join_maps m n)
 
   -- of the items of either
   pub join_lists : Lists → Lists → Lists
   join_lists no_list k = k
   join_lists (lists_of s) no_list = lists_of s
-  join_lists (lists_of s) (lists_of t) = lists_of (join s t)
+  join_lists (lists_of s) (lists_of t) = lists_of (join_shapes s t)
 
   -- of the keys of either
   pub join_maps : Maps → Maps → Maps
@@ -33,9 +33,10 @@ abbrev mutual
 
   -- a key that both require is required; one that the first does not name is joined with what its other keys have
   pub join_keys : Keys → Keys → Keys
-  join_keys (other_keys s) ns = joined_others (join s) ns
+  join_keys (other_keys s) ns = joined_others (join_shapes s) ns
   join_keys (key_then k required s ks) ns =
-      key_then k (required && (at_key k ns).required) (join s (at_key k ns).shape) (join_keys ks (without k ns))
+      key_then k (required && (at_key k ns).required) (join_shapes s (at_key k ns).shape)
+      (join_keys ks (keys_without k ns))
 
 abbrev mutual
   -- the shape of a value: its kind; of a list the items' shapes joined, of a map its keys and no others
@@ -50,7 +51,7 @@ abbrev mutual
   -- the shapes of values joined
   pub items_shape : Vals → Shape
   items_shape no_vals = never
-  items_shape (val_then v vs) = join (shape_of v) (items_shape vs)
+  items_shape (val_then v vs) = join_shapes (shape_of v) (items_shape vs)
 
   -- each key with the shape of what it has
   pub keys_shape : Entries → Keys
@@ -60,7 +61,7 @@ abbrev mutual
 -- the shape of samples: their shapes joined
 abbrev pub samples_shape : List Val → Shape
 samples_shape [] = never
-samples_shape (v ∷ vs) = join (shape_of v) (samples_shape vs)
+samples_shape (v ∷ vs) = join_shapes (shape_of v) (samples_shape vs)
 
 abbrev mutual
   -- the same, but that maps may have any other keys: of data that have more than the samples

@@ -3,12 +3,12 @@ use Rattle.std.specs.Prelude.{ℕ, List, [], ◌∷◌, Bool, true, false, Optio
 use Rattle.upon_types.specs.Expression.{Expression, base, filtered, Base, var, literal, list, mapping, paren, call}
 use Rattle.upon_types.specs.Path.{Access, by_index, by_key, Member}
 use Rattle.upon_shape_spec.specs.Scope.{BoundShape, value_of, loop_key, a_loop, NameShape, Scope, name_shape, bound_shape_of}
-use Rattle.upon_shape_spec.specs.Shape.{Shape, any_shape, one_of, Maps, no_map, maps_of, key_then, map_of, at_key, without}
+use Rattle.upon_shape_spec.specs.Shape.{Shape, any_shape, one_of, Maps, no_map, maps_of, key_then, map_of, at_key, keys_without}
 
 -- a map in which the key is, with something of a shape made of what is known of it
 abbrev pub map_with : List ℕ → (Shape → Shape) → Shape → Maps → Shape
 map_with key narrowed s no_map = s
-map_with key narrowed s (maps_of ks) = map_of (key_then key true (narrowed (at_key key ks).shape) (without key ks))
+map_with key narrowed s (maps_of ks) = map_of (key_then key true (narrowed (at_key key ks).shape) (keys_without key ks))
 
 -- on at a key; of an index nothing more is known
 abbrev pub narrowed_at : Access → (Shape → Shape) → Shape → Shape

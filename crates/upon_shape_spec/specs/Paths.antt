@@ -54,13 +54,13 @@ member_shape op (by_index n span) (one_of p l m) =
     if takes_plain p || takes_maps m then may_fail else index_in_list op l
 
 -- on with what a member finds
-abbrev pub after_member : MemberShape → (Shape → Option Shape) → Option Shape
-after_member may_fail go = None
-after_member (finds s) go = go s
-after_member (may_miss s) go = option_map optional (go s)
+abbrev pub after_member_shape : MemberShape → (Shape → Option Shape) → Option Shape
+after_member_shape may_fail go = None
+after_member_shape (finds s) go = go s
+after_member_shape (may_miss s) go = option_map optional (go s)
 
 -- from member to member
 abbrev pub walk_shape : List Member → Shape → Option Shape
 walk_shape [] s = Some s
 walk_shape (member ∷ members) s =
-    after_member (member_shape member.op member.access s) (walk_shape members)
+    after_member_shape (member_shape member.op member.access s) (walk_shape members)

@@ -68,8 +68,8 @@ abbrev pub text_shape : Shape
 text_shape = plain_shape (plain false false false true)
 
 -- all values without parts: those that the default formatter has a text for, if none is set
-abbrev pub shown : Shape
-shown = plain_shape (plain true true true true)
+abbrev pub shown_values : Shape
+shown_values = plain_shape (plain true true true true)
 
 -- the values of a shape, and none
 abbrev pub optional : Shape → Shape
@@ -106,7 +106,7 @@ at_key key (other_keys s) = key_shape false s
 at_key key (key_then k required s ks) = if bytes_eq key k then key_shape required s else at_key key ks
 
 -- the keys beside one
-abbrev pub without : List ℕ → Keys → Keys
-without key (other_keys s) = other_keys s
-without key (key_then k required s ks) =
-    if bytes_eq key k then without key ks else key_then k required s (without key ks)
+abbrev pub keys_without : List ℕ → Keys → Keys
+keys_without key (other_keys s) = other_keys s
+keys_without key (key_then k required s ks) =
+    if bytes_eq key k then keys_without key ks else key_then k required s (keys_without key ks)

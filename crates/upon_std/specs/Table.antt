@@ -11,14 +11,14 @@ use Rattle.upon_std.specs.declared.table.StandardFunction.TheVariants.{Basic, Or
 
 -- what a function answers
 abbrev pub standard_answer : StandardFunction → List Val → Answer
-standard_answer (Basic f) = basic.standard_answer f
+standard_answer (Basic f) = basic.basic_answer f
 standard_answer (Orders f) = orders_answer f
 standard_answer (Parts f) = parts_answer f
 standard_answer (Writing f) = writing_answer f
 
 -- the name under which templates call it
 abbrev pub standard_name : StandardFunction → List ℕ
-standard_name (Basic f) = basic.standard_name f
+standard_name (Basic f) = basic.basic_name f
 standard_name (Orders f) = orders_name f
 standard_name (Parts f) = parts_name f
 standard_name (Writing f) = writing_name f

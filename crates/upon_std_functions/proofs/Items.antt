@@ -6,15 +6,15 @@ use Rattle.std.proofs.lemmas.Option.{slice_get-map}
 use Rattle.upon_types.specs.Val.{Val, Vals, no_vals, val_then, none_val, text_val, entry_list}
 use Rattle.upon_types.specs.View.{view, vals_of, vals_view, entries_view}
 use Rattle.upon_types.specs.declared.value.Value.{Value}
-use Rattle.upon_std_functions.specs.Items.{val_list, reversed, last_val}
+use Rattle.upon_std_functions.specs.Items.{vals_in_list, reversed, last_val}
 
 -- the values that were put into a list
-pub val_list-vals_of : (vs : List Val) → val_list (vals_of vs) ≡ vs
+pub val_list-vals_of : (vs : List Val) → vals_in_list (vals_of vs) ≡ vs
 val_list-vals_of [] = refl
 val_list-vals_of (v ∷ vs) = ap (λ ws. v ∷ ws) (val_list-vals_of vs)
 
 -- how many there are
-pub length-val_list : (vs : List Value) → length (val_list (vals_view vs)) ≡ length vs
+pub length-val_list : (vs : List Value) → length (vals_in_list (vals_view vs)) ≡ length vs
 length-val_list vs = ap length (val_list-vals_of (map view vs)) ∙ length-map vs view
 
 abbrev pub Entry : Type 0
@@ -43,15 +43,15 @@ pub vals_view-reverse : (vs : List Value) → vals_view (reverse vs) ≡ reverse
 vals_view-reverse vs = ap vals_of (map-reverse view vs ∙ ap reverse (sym (val_list-vals_of (map view vs))))
 
 -- the list of what was put there
-vals_of-val_list : (vs : Vals) → vals_of (val_list vs) ≡ vs
+vals_of-val_list : (vs : Vals) → vals_of (vals_in_list vs) ≡ vs
 vals_of-val_list no_vals = refl
 vals_of-val_list (val_then v vs) = ap (val_then v) (vals_of-val_list vs)
 
 -- reversed twice, a list is as it was
 pub reversed-reversed : (vs : Vals) → reversed (reversed vs) ≡ vs
 reversed-reversed vs =
-    ap (λ x. vals_of (reverse x)) (val_list-vals_of (reverse (val_list vs)))
-    ∙ ap vals_of (reverse-reverse (val_list vs)) ∙ vals_of-val_list vs
+    ap (λ x. vals_of (reverse x)) (val_list-vals_of (reverse (vals_in_list vs)))
+    ∙ ap vals_of (reverse-reverse (vals_in_list vs)) ∙ vals_of-val_list vs
 
 -- where none is left, all are copied
 pub copied_all : {A : Type 0} (f : A → Val) (copies : List Value) (left : List A) (whole : List Val) → left ≡ [] → map view copies ++ map f left ≡ whole → map view copies ≡ whole

@@ -6,7 +6,7 @@ use Rattle.upon_functions.specs.Outcome.{value, Gives, result_outcome}
 use Rattle.upon_types.specs.Val.{Val, text_val}
 use Rattle.upon_types.specs.View.{view, vals_view}
 use Rattle.upon_types.specs.declared.value.Value.{Value}
-use Rattle.upon_std_functions.specs.Items.{val_list}
+use Rattle.upon_std_functions.specs.Items.{vals_in_list}
 use Rattle.upon_std_functions.specs.Joined.{text_in, prefixed, piece_then, joined_from, joined_result, IsJoined}
 use Rattle.upon_std_functions.proofs.Items.{val_list-vals_of}
 
@@ -61,7 +61,7 @@ all_joined items i done before separator whole past so_far =
 pub gives_joined : {E : Type 0} (made : Result (Result (String Global) (String Global)) E) (items : List Value) (separator : List ℕ)
     → IfOk made (λ r. IsJoined r (joined_from [] separator (map view items)))
     → Gives (result_outcome (result_outcome (λ t. Some (value (text_val (string_bytes t)))) (λ t. Some (string_bytes t))) (λ e. None) made)
-    (joined_result (joined_from [] separator (val_list (vals_view items))))
+    (joined_result (joined_from [] separator (vals_in_list (vals_view items))))
 gives_joined (Ok (Ok text)) items separator h =
     sym (ap (λ vs. joined_result (joined_from [] separator vs)) (val_list-vals_of (map view items)) ∙ ap joined_result h)
 gives_joined (Ok (Err text)) items separator h =

@@ -2,9 +2,9 @@
 use Rattle.std.specs.Prelude.{ℕ, List, [], ◌∷◌, ◌++◌, Option, Some, None, Result, Ok, Err, String, string_bytes, codes, Bool, if◌then◌else◌}
 use Rattle.std.specs.Prelude.{◌≡◌}
 use Rattle.std.specs.declared.alloc.Global.{Global}
-use Rattle.upon_functions.specs.Outcome.{Outcome, value, refusal}
+use Rattle.upon_functions.specs.Outcome.{Returned, value, refusal}
 use Rattle.upon_types.specs.Val.{Val, text_val, list_val, kind_word}
-use Rattle.upon_std_functions.specs.Items.{val_list}
+use Rattle.upon_std_functions.specs.Items.{vals_in_list}
 
 -- the bytes of a value that is a text
 abbrev pub text_in : Val → Option (List ℕ)
@@ -32,13 +32,13 @@ joined_from before separator [] = Ok []
 joined_from before separator (v ∷ vs) = piece_then before (text_in v) v (joined_from separator separator vs)
 
 -- the joined texts, or the refusal, which names the kind of the value that is no text
-abbrev pub joined_result : Result (List ℕ) Val → Outcome
+abbrev pub joined_result : Result (List ℕ) Val → Returned
 joined_result (Ok text) = value (text_val text)
 joined_result (Err v) = refusal (codes "cannot join " ++ kind_word v)
 
 -- the outcome of `join`: the texts of a list with the separator between them
-abbrev pub join_outcome : List Val → Outcome
-join_outcome ((list_val vs) ∷ (text_val separator) ∷ ws) = joined_result (joined_from [] separator (val_list vs))
+abbrev pub join_outcome : List Val → Returned
+join_outcome ((list_val vs) ∷ (text_val separator) ∷ ws) = joined_result (joined_from [] separator (vals_in_list vs))
 join_outcome ws = refusal []
 
 -- what was made of a list is its texts joined, or the refusal to join them

@@ -11,15 +11,15 @@ use Rattle.upon_std_functions.specs.declared.table.StandardFunction.{StandardFun
 use Rattle.upon_std_functions.specs.declared.table.StandardFunction.TheVariants.{Comparing, Integers, Texts, Lists}
 
 -- what a function answers
-abbrev pub standard_answer : StandardFunction → List Val → Answer
-standard_answer (Comparing f) = comparing_answer f
-standard_answer (Integers f) = integers_answer f
-standard_answer (Texts f) = texts_answer f
-standard_answer (Lists f) = lists_answer f
+abbrev pub basic_answer : StandardFunction → List Val → Answer
+basic_answer (Comparing f) = comparing_answer f
+basic_answer (Integers f) = integers_answer f
+basic_answer (Texts f) = texts_answer f
+basic_answer (Lists f) = lists_answer f
 
 -- the name under which templates call it
-abbrev pub standard_name : StandardFunction → List ℕ
-standard_name (Comparing f) = comparing_name f
-standard_name (Integers f) = integers_name f
-standard_name (Texts f) = texts_name f
-standard_name (Lists f) = lists_name f
+abbrev pub basic_name : StandardFunction → List ℕ
+basic_name (Comparing f) = comparing_name f
+basic_name (Integers f) = integers_name f
+basic_name (Texts f) = texts_name f
+basic_name (Lists f) = lists_name f

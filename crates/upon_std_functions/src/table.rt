@@ -24,9 +24,9 @@ pub enum StandardFunction {
 }
 
 impl Function for StandardFunction {
-    ghost use Rattle.upon_std_functions.specs.Table.{standard_answer};
+    ghost use Rattle.upon_std_functions.specs.Table.{basic_answer};
 
-    ghost answers = { standard_answer };
+    ghost answers = { basic_answer };
 
     fn call(&self, alloc: Global, args: &[ValueCow]) -> Result<Value, CallError> {
         match self {
@@ -39,11 +39,11 @@ impl Function for StandardFunction {
 }
 
 impl StandardFunction {
-    ghost use Rattle.upon_std_functions.specs.Table.{standard_name};
+    ghost use Rattle.upon_std_functions.specs.Table.{basic_name};
 
     /// Returns the name under which templates call the function.
     pub fn name(self) -> &'static str
-        ensures { result.now ≡ standard_name self }
+        ensures { result.now ≡ basic_name self }
     {
         match self {
             StandardFunction::Comparing(function) => comparing_name(function),

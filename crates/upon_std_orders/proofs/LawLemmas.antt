@@ -11,13 +11,13 @@ use Rattle.upon_types.specs.Val.{Val, int_val, text_val}
 use Rattle.upon_std_orders.specs.Distinct.{distinct}
 use Rattle.upon_std_orders.specs.Grouping.{members}
 use Rattle.upon_std_orders.specs.Ranks.{rank_cmp}
-use Rattle.upon_std_orders.specs.Sorting.{ascending, is_below, keys_refusal, unless_refused, sorted_by}
+use Rattle.upon_std_orders.specs.Sorting.{ascending, is_below, keys_refusal, values_or_refusal, sorted_by}
 use Rattle.upon_std_orders.proofs.Ranks.{rank_weak, ranked_is_sorted, then_equal}
 use Rattle.upon_std_orders.proofs.Repeats.{val_eq-Decides}
 use Rattle.upon_std_orders.proofs.Rising.{permuted_ascending, ascending_sorted, stays_ascending}
 
 -- what is sorted was not refused
-not_refused : (refusal : Option (List ℕ)) (vs ws : List Val) → unless_refused refusal vs ≡ Ok ws → (refusal ≡ None) × (vs ≡ ws)
+not_refused : (refusal : Option (List ℕ)) (vs ws : List Val) → values_or_refusal refusal vs ≡ Ok ws → (refusal ≡ None) × (vs ≡ ws)
 not_refused None vs ws e = let is : vs ≡ ws = cc in (refl, is)
 not_refused (Some text) vs ws e = absurd (cc)
 

@@ -8,7 +8,7 @@ use Rattle.std.proofs.lemmas.List.Sorted.{ranks_by}
 use Rattle.upon_types.specs.Val.{Val, int_val, text_val}
 use Rattle.upon_std_functions.specs.Order.{order_of, unordered}
 use Rattle.upon_std_orders.specs.Ranks.{kind_rank, integer_in, bytes_in, rank_cmp}
-use Rattle.upon_std_orders.specs.Sorting.{ascending, is_below, unless_ordered, first_unlike, keys_refusal, unless_refused, sorted_by}
+use Rattle.upon_std_orders.specs.Sorting.{ascending, is_below, unless_ordered, first_unlike, keys_refusal, values_or_refusal, sorted_by}
 use Rattle.upon_std_orders.proofs.Rising.{ascending_agree}
 
 pub rank_total : IsTotalOrder rank_cmp
@@ -80,5 +80,5 @@ pub made_sorted : (key : Val → Val) (vs copies made : List Val) (refused : Opt
     → copies ≡ vs → made ≡ ascending (λ v w. is_lt (rank_cmp (key v) (key w))) copies → sorted_by key vs ≡ Ok made
 made_sorted key vs copies made refused is none copied sorted =
     let kept = sym is ∙ none in
-    ap (λ o. unless_refused o (ascending (λ v w. is_below (key v) (key w)) vs)) kept
+    ap (λ o. values_or_refusal o (ascending (λ v w. is_below (key v) (key w)) vs)) kept
     ∙ ap Ok (sym (ranked_is_sorted key vs kept) ∙ sym (ap (ascending (λ v w. is_lt (rank_cmp (key v) (key w)))) copied) ∙ sym sorted)

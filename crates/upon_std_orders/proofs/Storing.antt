@@ -14,7 +14,7 @@ use Rattle.upon_types.specs.Same.{val_eq}
 use Rattle.upon_types.specs.Val.{Val}
 use Rattle.upon_types.specs.View.{view}
 use Rattle.upon_types.specs.declared.value.Value.{Value}
-use Rattle.upon_std_orders.specs.Buckets.{numbers_cmp, lent_vals, stored, HoldsMembers, IsBucketOf}
+use Rattle.upon_std_orders.specs.Buckets.{numbers_cmp, lent_vals, stored_values, HoldsMembers, IsBucketOf}
 use Rattle.upon_std_orders.specs.Grouping.{members}
 use Rattle.upon_std_orders.specs.Spelling.{spelling}
 use Rattle.upon_std_orders.proofs.Seen.{at_spelling}
@@ -32,22 +32,22 @@ Buckets = BTreeMap Numbers Bucket
 abbrev pub vals_of_bucket : Option Bucket → List Val
 vals_of_bucket found = unwrap_or (option_map (λ bucket. lent_vals bucket.items) found) []
 
-pub bucket_there : (m : Buckets) (n : Numbers) (r : Option Bucket) (b kept : Bucket) → r ≡ get numbers_cmp m n → r ≡ Some b → kept ≡ b → lent_vals kept.items ≡ stored m n
+pub bucket_there : (m : Buckets) (n : Numbers) (r : Option Bucket) (b kept : Bucket) → r ≡ get numbers_cmp m n → r ≡ Some b → kept ≡ b → lent_vals kept.items ≡ stored_values m n
 bucket_there m n r b kept is some same = ap (λ v. lent_vals v.items) same ∙ ap vals_of_bucket (sym some ∙ is)
 
-pub bucket_absent : (m : Buckets) (n : Numbers) (r : Option Bucket) (b kept : Bucket) → r ≡ get numbers_cmp m n → r ≡ None → kept ≡ b → b.items ≡ [] → lent_vals kept.items ≡ stored m n
+pub bucket_absent : (m : Buckets) (n : Numbers) (r : Option Bucket) (b kept : Bucket) → r ≡ get numbers_cmp m n → r ≡ None → kept ≡ b → b.items ≡ [] → lent_vals kept.items ≡ stored_values m n
 bucket_absent m n r b kept is none same empty = ap (λ v. lent_vals v.items) same ∙ ap lent_vals empty ∙ ap vals_of_bucket (sym none ∙ is)
 
 -- what is stored at numbers that compare as equal
-stored_same : (m : Buckets) (n others : Numbers) → is_eq (numbers_cmp n others) ≡ true → stored m n ≡ stored m others
+stored_same : (m : Buckets) (n others : Numbers) → is_eq (numbers_cmp n others) ≡ true → stored_values m n ≡ stored_values m others
 stored_same m n others e =
     let same : n.items ≡ others.items = (bytes_eq-Decides n.items others.items).0 (sym (is_eq-slice_cmp n.items others.items) ∙ e) in
     ap (λ xs. vals_of_bucket (get_by (λ k. slice_cmp nat_cmp xs k.items) m)) same
 
-store_by : (m left new : Buckets) (n others : Numbers) (x : Bor Value) (b full : Bucket) (t : Bool) → lent_vals b.items ≡ stored m n → full.items ≡ b.items ++ x ∷ []
+store_by : (m left new : Buckets) (n others : Numbers) (x : Bor Value) (b full : Bucket) (t : Bool) → lent_vals b.items ≡ stored_values m n → full.items ≡ b.items ++ x ∷ []
     → get numbers_cmp new others ≡ cond (is_at (numbers_cmp n) others) (Some full) (get numbers_cmp left others)
     → get numbers_cmp left others ≡ cond (is_at (numbers_cmp n) others) None (get numbers_cmp m others)
-    → is_eq (numbers_cmp n others) ≡ t → stored new others ≡ cond t (stored m others ++ view x.now ∷ []) (stored m others)
+    → is_eq (numbers_cmp n others) ≡ t → stored_values new others ≡ cond t (stored_values m others ++ view x.now ∷ []) (stored_values m others)
 store_by m left new n others x b full true of_b of_full inserted removed e =
     ap vals_of_bucket (inserted ∙ ap (λ t. cond t (Some full) (get numbers_cmp left others)) e)
     ∙ ap lent_vals of_full ∙ map-append (λ (item : Bor Value). view item.now) b.items (x ∷ [])
@@ -56,10 +56,10 @@ store_by m left new n others x b full false of_b of_full inserted removed e =
     ap vals_of_bucket (inserted ∙ ap (λ t. cond t (Some full) (get numbers_cmp left others)) e
     ∙ removed ∙ ap (λ t. cond t None (get numbers_cmp m others)) e)
 
-pub store_is : (m left new : Buckets) (n : Numbers) (x : Bor Value) (b full : Bucket) → lent_vals b.items ≡ stored m n → full.items ≡ b.items ++ x ∷ []
+pub store_is : (m left new : Buckets) (n : Numbers) (x : Bor Value) (b full : Bucket) → lent_vals b.items ≡ stored_values m n → full.items ≡ b.items ++ x ∷ []
     → ((q : Numbers) → get numbers_cmp new q ≡ cond (is_at (numbers_cmp n) q) (Some full) (get numbers_cmp left q))
     → ((q : Numbers) → get numbers_cmp left q ≡ cond (is_at (numbers_cmp n) q) None (get numbers_cmp m q))
-    → (others : Numbers) → stored new others ≡ cond (is_eq (numbers_cmp n others)) (stored m others ++ view x.now ∷ []) (stored m others)
+    → (others : Numbers) → stored_values new others ≡ cond (is_eq (numbers_cmp n others)) (stored_values m others ++ view x.now ∷ []) (stored_values m others)
 store_is m left new n x b full of_b of_full inserted removed others =
     store_by m left new n others x b full (is_eq (numbers_cmp n others)) of_b of_full (inserted others) (removed others) refl
 
@@ -79,15 +79,15 @@ pushed true x s = refl
 pushed false x s = sym (append-nil s)
 
 store_more : (m new : Buckets) (key : Val → Val) (n : Numbers) (x : Val) (vs : List Val) → n.items ≡ spelling (key x)
-    → ((q : Numbers) → stored new q ≡ cond (is_eq (numbers_cmp n q)) (stored m q ++ x ∷ []) (stored m q)) → HoldsMembers m key vs → HoldsMembers new key (vs ++ x ∷ [])
+    → ((q : Numbers) → stored_values new q ≡ cond (is_eq (numbers_cmp n q)) (stored_values m q ++ x ∷ []) (stored_values m q)) → HoldsMembers m key vs → HoldsMembers new key (vs ++ x ∷ [])
 store_more m new key n x vs of_x updates has = λ q k of_k.
-    updates q ∙ ap (λ b. cond b (stored m q ++ x ∷ []) (stored m q)) (at_spelling n.items q.items (key x) k of_x of_k)
+    updates q ∙ ap (λ b. cond b (stored_values m q ++ x ∷ []) (stored_values m q)) (at_spelling n.items q.items (key x) k of_x of_k)
     ∙ ap (λ s. cond (val_eq (key x) k) (s ++ x ∷ []) s) (has q k of_k) ∙ pushed (val_eq (key x) k) x (members key k vs)
     ∙ sym (filter-append (λ v. val_eq (key v) k) vs (x ∷ []))
 
 pub one_more_stored : (items : List Value) (i : ℕ) (x : Value) (m new : Buckets) (key : Val → Val) (n : Numbers) → i < length items → x ≡ get_or items i x
     → n.items ≡ spelling (key (view x))
-    → ((q : Numbers) → stored new q ≡ cond (is_eq (numbers_cmp n q)) (stored m q ++ view x ∷ []) (stored m q)) → HoldsMembers m key (map view (take i items))
+    → ((q : Numbers) → stored_values new q ≡ cond (is_eq (numbers_cmp n q)) (stored_values m q ++ view x ∷ []) (stored_values m q)) → HoldsMembers m key (map view (take i items))
     → HoldsMembers new key (map view (take (i + 1) items))
 one_more_stored items i x m new key n within is of_x updates has =
     subst (HoldsMembers new key)

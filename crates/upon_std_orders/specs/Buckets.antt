@@ -21,14 +21,15 @@ abbrev pub lent_vals : List (Bor Value) → List Val
 lent_vals items = map (λ item. view item.now) items
 
 -- the values that are stored at numbers
-abbrev pub stored : BTreeMap (Vec ℕ Global) (Vec (Bor Value) Global) → Vec ℕ Global → List Val
-stored buckets numbers = unwrap_or (option_map (λ bucket. lent_vals bucket.items) (get numbers_cmp buckets numbers)) []
+abbrev pub stored_values : BTreeMap (Vec ℕ Global) (Vec (Bor Value) Global) → Vec ℕ Global → List Val
+stored_values buckets numbers = unwrap_or (option_map (λ bucket. lent_vals bucket.items)
+    (get numbers_cmp buckets numbers)) []
 
 -- at the spelling of each value the values are stored of which it is the key
 abbrev pub HoldsMembers : BTreeMap (Vec ℕ Global) (Vec (Bor Value) Global) → (Val → Val) → List Val → Type 0
 HoldsMembers buckets key vs =
-    (numbers : Vec ℕ Global) (k : Val) → numbers.items ≡ spelling k → stored buckets numbers ≡ members key k vs
+    (numbers : Vec ℕ Global) (k : Val) → numbers.items ≡ spelling k → stored_values buckets numbers ≡ members key k vs
 
 -- values are those that are stored at the spelling of a key
 abbrev pub IsBucketOf : BTreeMap (Vec ℕ Global) (Vec (Bor Value) Global) → Val → List Val → Type 0
-IsBucketOf buckets k vs = (numbers : Vec ℕ Global) × (numbers.items ≡ spelling k) × (vs ≡ stored buckets numbers)
+IsBucketOf buckets k vs = (numbers : Vec ℕ Global) × (numbers.items ≡ spelling k) × (vs ≡ stored_values buckets numbers)

@@ -4,7 +4,7 @@ use Rattle.std.specs.List.{filter}
 use Rattle.upon_types.specs.Same.{val_eq}
 use Rattle.upon_types.specs.Val.{Val, list_val, map_val, key_of, no_entries, entry_then}
 use Rattle.upon_types.specs.View.{vals_of}
-use Rattle.upon_std_functions.specs.Items.{val_list}
+use Rattle.upon_std_functions.specs.Items.{vals_in_list}
 use Rattle.upon_std_orders.specs.Distinct.{distinct}
 
 -- the values with this key, in their order
@@ -17,7 +17,7 @@ group_val k vs = map_val (entry_then (codes "items") (list_val (vals_of vs)) (en
 
 -- the values of a list that is there
 abbrev pub values_in : Option Val → List Val
-values_in (Some (list_val vs)) = val_list vs
+values_in (Some (list_val vs)) = vals_in_list vs
 values_in found = []
 
 -- the items of a group

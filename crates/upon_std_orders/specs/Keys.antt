@@ -4,14 +4,14 @@ use denote.Ref.{Bor}
 use Rattle.upon_types.specs.Val.{Val, none_val}
 use Rattle.upon_types.specs.View.{view}
 use Rattle.upon_types.specs.declared.value.Value.{Value}
-use Rattle.upon_std_functions.specs.Items.{at_key}
+use Rattle.upon_std_functions.specs.Items.{value_at_key}
 use Rattle.upon_std_orders.specs.declared.keys.Key.{Key}
 use Rattle.upon_std_orders.specs.declared.keys.Key.TheVariants.{Item, At}
 
 -- what a value is sorted or grouped by
 abbrev pub key_val : Key → Val → Val
 key_val Item v = v
-key_val (At name) v = at_key name.now v
+key_val (At name) v = value_at_key name.now v
 
 -- what a value that is lent denotes, or none if there is none
 abbrev pub lent_val : Option (Bor Value) → Val

@@ -38,13 +38,13 @@ keys_refusal [] = None
 keys_refusal (k ∷ ks) = option_map (unordered k) (first_unlike k ks)
 
 -- values, unless there is a refusal
-abbrev pub unless_refused : Option (List ℕ) → List Val → Result (List Val) (List ℕ)
-unless_refused None vs = Ok vs
-unless_refused (Some text) vs = Err text
+abbrev pub values_or_refusal : Option (List ℕ) → List Val → Result (List Val) (List ℕ)
+values_or_refusal None vs = Ok vs
+values_or_refusal (Some text) vs = Err text
 
 -- the values in ascending order of their keys, or the refusal of their keys
 abbrev pub sorted_by : (Val → Val) → List Val → Result (List Val) (List ℕ)
-sorted_by key vs = unless_refused (keys_refusal (map key vs)) (ascending (λ v w. is_below (key v) (key w)) vs)
+sorted_by key vs = values_or_refusal (keys_refusal (map key vs)) (ascending (λ v w. is_below (key v) (key w)) vs)
 
 -- what was made of a list is its values in order, or the refusal to sort them
 abbrev pub IsSortedList : Result (Vec Value Global) (String Global) → Result (List Val) (List ℕ) → Type 0

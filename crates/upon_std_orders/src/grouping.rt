@@ -3,9 +3,9 @@ ghost use Rattle.std.specs.Prelude.{◌≡◌, ◌++◌, ◌∷◌, [], IfOk, On
 ghost use Rattle.std.specs.Ordering.{is_eq};
 ghost use Rattle.std.specs.declared.alloc.Global.{Global};
 ghost use Rattle.upon_types.specs.View.{view};
-ghost use Rattle.upon_std_orders.specs.Buckets.{HoldsMembers, IsBucketOf, lent_vals, numbers_cmp, stored};
+ghost use Rattle.upon_std_orders.specs.Buckets.{HoldsMembers, IsBucketOf, lent_vals, numbers_cmp, stored_values};
 ghost use Rattle.upon_std_orders.specs.Grouping.{group_val, grouped};
-ghost use Rattle.upon_std_functions.specs.Items.{at_key};
+ghost use Rattle.upon_std_functions.specs.Items.{value_at_key};
 ghost use Rattle.upon_std_orders.specs.Spelling.{spelling};
 
 use crate::distinct::distinct;
@@ -17,7 +17,7 @@ use upon_types::value::{Value, look};
 
 // A group for each value that items have at a key, in the order in which these first come.
 pub(crate) fn grouped(alloc: Global, items: &[Value], name: &str) -> Result<Vec<Value>, AllocError>
-    ensures { IfOk result (λ groups. map view groups.items ≡ grouped (at_key name.now) (map view items.now)) }
+    ensures { IfOk result (λ groups. map view groups.items ≡ grouped (value_at_key name.now) (map view items.now)) }
 {
     let keys = distinct(alloc, &keys(alloc, items, name)?)?;
     let buckets = buckets(alloc, items, name)?;
@@ -31,7 +31,7 @@ pub(crate) fn grouped(alloc: Global, items: &[Value], name: &str) -> Result<Vec<
 
 // What each item has at a key.
 fn keys(alloc: Global, items: &[Value], name: &str) -> Result<Vec<Value>, AllocError>
-    ensures { IfOk result (λ keys. map view keys.items ≡ map (at_key name.now) (map view items.now)) }
+    ensures { IfOk result (λ keys. map view keys.items ≡ map (value_at_key name.now) (map view items.now)) }
 {
     let mut keys = Vec::with_capacity(alloc, items.len())?;
     for item in items {
@@ -46,7 +46,7 @@ fn buckets<'a>(
     items: &'a [Value],
     name: &str,
 ) -> Result<BTreeMap<Vec<u64>, Vec<&'a Value>>, AllocError>
-    ensures { IfOk result (λ buckets. HoldsMembers buckets (at_key name.now) (map view items.now)) }
+    ensures { IfOk result (λ buckets. HoldsMembers buckets (value_at_key name.now) (map view items.now)) }
 {
     let mut buckets = BTreeMap::new(alloc);
     for item in items {
@@ -58,7 +58,7 @@ fn buckets<'a>(
 
 // The spelling of what an item has at a key, or of none.
 fn spelling_at(alloc: Global, item: &Value, name: &str) -> Result<Vec<u64>, AllocError>
-    ensures { IfOk result (λ numbers. numbers.items ≡ spelling (at_key name.now (view item.now))) }
+    ensures { IfOk result (λ numbers. numbers.items ≡ spelling (value_at_key name.now (view item.now))) }
 {
     match look::entry(item, name) {
         Some(found) => spelling(alloc, found),
@@ -74,9 +74,9 @@ fn store<'a>(
     item: &'a Value,
 ) -> Result<(), AllocError>
     ensures { OnOk result ((others : Vec ℕ Global)
-        → stored buckets.new others
-        ≡ (if is_eq (numbers_cmp numbers others) then stored buckets.old others ++ (view item.now ∷ [])
-        else stored buckets.old others)) }
+        → stored_values buckets.new others
+        ≡ (if is_eq (numbers_cmp numbers others) then stored_values buckets.old others ++ (view item.now ∷ [])
+        else stored_values buckets.old others)) }
 {
     let mut bucket = match buckets.remove(&numbers) {
         Some(bucket) => bucket,

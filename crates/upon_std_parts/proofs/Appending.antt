@@ -3,7 +3,8 @@ use Rattle.std.proofs.Common.{◌≡◌, ℕ, ◌<◌, ◌≤◌, Bool, true, fa
 use Rattle.std.specs.Prelude.{nat_le}
 use Rattle.std.proofs.lemmas.Bool.Decides.{nat_tests}
 use Rattle.std.proofs.lemmas.List.{append-nil, length-append}
-use Rattle.upon_std_parts.specs.Pieces.{most_bytes, limited, Appends, put_together, line_after, indented_lines}
+use Rattle.upon_std_functions.specs.Parts.{most_bytes}
+use Rattle.upon_std_parts.specs.Pieces.{limited, Appends, put_together, line_after, indented_lines}
 
 -- a text with no more bytes is not refused
 pub limited_some : (made whole : List ℕ) → length made ≤ most_bytes → made ≡ whole → Some made ≡ limited whole

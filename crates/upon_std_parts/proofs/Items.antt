@@ -9,16 +9,16 @@ use Rattle.upon_types.specs.Same.{val_eq}
 use Rattle.upon_types.specs.Val.{Val, text_val, Vals, no_vals, val_then}
 use Rattle.upon_types.specs.View.{view, vals_of, vals_view}
 use Rattle.upon_types.specs.declared.value.Value.{Value}
-use Rattle.upon_std_functions.specs.Items.{at_key, val_list}
+use Rattle.upon_std_functions.specs.Items.{vals_in_list, value_at_key}
 use Rattle.upon_std_parts.specs.Items.{concatenated, sliced, plucked, having}
 
 -- the values that were put into a list
-pub val_list-vals_of : (vs : List Val) → val_list (vals_of vs) ≡ vs
+pub val_list-vals_of : (vs : List Val) → vals_in_list (vals_of vs) ≡ vs
 val_list-vals_of [] = refl
 val_list-vals_of (v ∷ vs) = ap (λ ws. v ∷ ws) (val_list-vals_of vs)
 
 -- the list of what was put there
-pub vals_of-val_list : (vs : Vals) → vals_of (val_list vs) ≡ vs
+pub vals_of-val_list : (vs : Vals) → vals_of (vals_in_list vs) ≡ vs
 vals_of-val_list no_vals = refl
 vals_of-val_list (val_then v vs) = ap (val_then v) (vals_of-val_list vs)
 
@@ -42,8 +42,8 @@ pushed_more f xs i x made new v within is of_new of_v so_far = pushed_at f xs i 
 pub all_pushed : {X : Type 0} (f : X → Val) (xs : List X) (i : ℕ) (made : List Value) → length xs ≤ i → map view made ≡ map f (take i xs) → map view made ≡ map f xs
 all_pushed f xs i made past so_far = so_far ∙ ap (map f) (take_all i xs past)
 
-pub plucked_view : (key : List ℕ) (xs : List Value) → plucked key (vals_view xs) ≡ vals_of (map (λ x. at_key key (view x)) xs)
-plucked_view key xs = ap (λ vs. vals_of (map (at_key key) vs)) (val_list-vals_of (map view xs)) ∙ ap vals_of (map-map (at_key key) view xs)
+pub plucked_view : (key : List ℕ) (xs : List Value) → plucked key (vals_view xs) ≡ vals_of (map (λ x. value_at_key key (view x)) xs)
+plucked_view key xs = ap (λ vs. vals_of (map (value_at_key key) vs)) (val_list-vals_of (map view xs)) ∙ ap vals_of (map-map (value_at_key key) view xs)
 
 -- where a list is cut to an end, and to its length, it is the same
 cut_to : (to : ℕ) (xs : List Value) → take (min to (length xs)) xs ≡ take to xs
@@ -83,10 +83,10 @@ filter-map : (p : Val → Bool) (xs : List Value) → filter p (map view xs) ≡
 filter-map p [] = refl
 filter-map p (x ∷ xs) = by_test x (p (view x)) (filter p (map view xs)) (filter (λ y. p (view y)) xs) (filter-map p xs)
 
-pub having_view : (key : List ℕ) (wanted : Val) (xs : List Value) → having key wanted (vals_view xs) ≡ vals_of (map view (filter (λ x. val_eq (at_key key (view x)) wanted) xs))
+pub having_view : (key : List ℕ) (wanted : Val) (xs : List Value) → having key wanted (vals_view xs) ≡ vals_of (map view (filter (λ x. val_eq (value_at_key key (view x)) wanted) xs))
 having_view key wanted xs =
-    ap (λ vs. vals_of (filter (λ v. val_eq (at_key key v) wanted) vs)) (val_list-vals_of (map view xs))
-    ∙ ap vals_of (filter-map (λ v. val_eq (at_key key v) wanted) xs)
+    ap (λ vs. vals_of (filter (λ v. val_eq (value_at_key key v) wanted) vs)) (val_list-vals_of (map view xs))
+    ∙ ap vals_of (filter-map (λ v. val_eq (value_at_key key v) wanted) xs)
 
 -- one more item, which is kept
 pub kept_more : (p : Value → Bool) (xs : List Value) (i : ℕ) (x : Value) (made new : List Value) (v : Value) → i < length xs → x ≡ get_or xs i x

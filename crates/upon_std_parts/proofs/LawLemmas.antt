@@ -5,7 +5,7 @@ use Rattle.std.specs.List.{starts_with, onto_first}
 use Rattle.std.proofs.lemmas.List.{take_all, length-append}
 use Rattle.upon_types.specs.Val.{text_val, Vals}
 use Rattle.upon_types.specs.View.{vals_of}
-use Rattle.upon_std_functions.specs.Items.{val_list}
+use Rattle.upon_std_functions.specs.Items.{vals_in_list}
 use Rattle.upon_std_functions.specs.Joined.{joined_from, prefixed}
 use Rattle.upon_std_parts.specs.Items.{concatenated, sliced}
 use Rattle.upon_std_parts.specs.Pieces.{pieces_after, pieces, put_together, replaced}
@@ -71,9 +71,9 @@ pub joined-split : (separator text : List ℕ) → 0 < length separator → join
 joined-split separator text some = joined_pieces [] separator (pieces separator text) ∙ ap Ok (given_back 0 separator text some)
 
 -- a list has as many items as both that it is made of
-pub length-concatenated : (vs ws : Vals) → length (val_list (concatenated vs ws)) ≡ length (val_list vs) + length (val_list ws)
-length-concatenated vs ws = ap length (val_list-vals_of (val_list vs ++ val_list ws)) ∙ length-append (val_list vs) (val_list ws)
+pub length-concatenated : (vs ws : Vals) → length (vals_in_list (concatenated vs ws)) ≡ length (vals_in_list vs) + length (vals_in_list ws)
+length-concatenated vs ws = ap length (val_list-vals_of (vals_in_list vs ++ vals_in_list ws)) ∙ length-append (vals_in_list vs) (vals_in_list ws)
 
 -- cut at its ends a list is as it was
-pub sliced-all : (vs : Vals) → sliced 0 (length (val_list vs)) vs ≡ vs
-sliced-all vs = ap vals_of (take_all (length (val_list vs)) (val_list vs) (omega arith)) ∙ vals_of-val_list vs
+pub sliced-all : (vs : Vals) → sliced 0 (length (vals_in_list vs)) vs ≡ vs
+sliced-all vs = ap vals_of (take_all (length (vals_in_list vs)) (vals_in_list vs) (omega arith)) ∙ vals_of-val_list vs

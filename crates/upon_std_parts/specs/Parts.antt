@@ -1,7 +1,8 @@
 -- What the functions of this crate answer, and their names.
 use Rattle.std.specs.Prelude.{ℕ, List, [], ◌∷◌, codes}
-use Rattle.upon_functions.specs.Integers.{i64_range, usize_range}
+use Rattle.upon_functions.specs.Integers.{usize_range}
 use Rattle.upon_function_adapters.specs.Adapters.{adapter_answer}
+use Rattle.upon_std_functions.specs.Integers.{long_misfit}
 use Rattle.upon_types.specs.Answers.{Answer}
 use Rattle.upon_types.specs.Misfits.{Test, any_misfit, str_misfit, list_misfit, integer_misfit}
 use Rattle.upon_types.specs.Val.{Val}
@@ -9,10 +10,7 @@ use Rattle.upon_std_parts.specs.Outcomes.{range_outcome, slice_outcome, concat_o
 use Rattle.upon_std_parts.specs.declared.parts.Parts.{Parts}
 use Rattle.upon_std_parts.specs.declared.parts.Parts.TheVariants.{Range, Slice, Concat, Pluck, Where, Sum, Split, Lines, Replace, Indent}
 
--- an argument that is an integer of 64 bits, and one that is no less than 0
-abbrev pub long_misfit : Test
-long_misfit = integer_misfit i64_range
-
+-- an argument that is an integer that is no less than 0
 abbrev pub size_misfit : Test
 size_misfit = integer_misfit usize_range
 

@@ -1,6 +1,7 @@
 -- How texts are taken apart and put together. A text is its bytes.
 use Rattle.std.specs.Prelude.{◌≡◌, ℕ, zero, suc, ◌-◌, ◌≤◌, ◌<◌, Bool, true, false, ◌||◌, List, [], ◌∷◌, ◌++◌, Option, Some, None, length, replicate, nat_eq, nat_le, ◌==◌, codes, if◌then◌else◌}
 use Rattle.std.specs.List.{starts_with, onto_first}
+use Rattle.upon_std_functions.specs.Parts.{most_bytes}
 
 -- the parts of a text between the places where the separator stands, found from the left; while some bytes are left
 -- of one that was found, these are passed
@@ -39,10 +40,6 @@ indented_lines is_first width (line ∷ lines) = line_after is_first width line 
 -- a text whose lines but the first have blanks before them, unless they are empty: `indent`
 abbrev pub indented : ℕ → List ℕ → List ℕ
 indented width text = indented_lines true width (pieces (codes "\n") text)
-
--- the most bytes that `replace` and `indent` make
-abbrev pub most_bytes : ℕ
-most_bytes = 1000000
 
 -- a text, unless it has more bytes
 abbrev pub limited : List ℕ → Option (List ℕ)

@@ -1,7 +1,7 @@
 // Laws of the functions. Nothing runs here: the clauses say what holds of their answers.
 ghost use Rattle.std.specs.Prelude.{◌≡◌, ◌+◌, ◌<◌, ℕ, List, [], Ok, length, map};
 ghost use Rattle.upon_types.specs.Val.{Vals, text_val};
-ghost use Rattle.upon_std_functions.specs.Items.{val_list};
+ghost use Rattle.upon_std_functions.specs.Items.{vals_in_list};
 ghost use Rattle.upon_std_functions.specs.Joined.{joined_from};
 ghost use Rattle.upon_std_parts.specs.Items.{concatenated, sliced};
 ghost use Rattle.upon_std_parts.specs.Pieces.{pieces, replaced};
@@ -21,10 +21,10 @@ pub fn replaced_by_itself()
 /// States that two lists in one have the items of both.
 pub fn length_of_both()
     ensures { (vs ws : Vals)
-        → length (val_list (concatenated vs ws)) ≡ length (val_list vs) + length (val_list ws) }
+        → length (vals_in_list (concatenated vs ws)) ≡ length (vals_in_list vs) + length (vals_in_list ws) }
 {}
 
 /// States that the slice of a list from 0 to its length is the list.
 pub fn sliced_whole()
-    ensures { (vs : Vals) → sliced 0 (length (val_list vs)) vs ≡ vs }
+    ensures { (vs : Vals) → sliced 0 (length (vals_in_list vs)) vs ≡ vs }
 {}

@@ -2,7 +2,7 @@
 ghost use Rattle.std.specs.Prelude.{◌≡◌, IfOk};
 ghost use Rattle.upon_types.specs.Same.{val_eq};
 ghost use Rattle.upon_types.specs.View.{view, vals_view};
-ghost use Rattle.upon_std_functions.specs.Items.{at_key};
+ghost use Rattle.upon_std_functions.specs.Items.{value_at_key};
 ghost use Rattle.upon_std_parts.specs.Items.{concatenated, sliced, plucked, having};
 
 use std::alloc::{AllocError, Global};
@@ -65,7 +65,7 @@ pub(crate) fn having(
 }
 
 fn has_at(item: &Value, key: &str, wanted: &Value) -> bool
-    ensures { result ≡ val_eq (at_key key.now (view item.now)) (view wanted.now) }
+    ensures { result ≡ val_eq (value_at_key key.now (view item.now)) (view wanted.now) }
 {
     match look::entry(item, key) {
         Some(found) => found == wanted,

@@ -5,13 +5,13 @@ use Rattle.std.specs.List.{AllByRecursion}
 use Rattle.std.proofs.lemmas.List.{reverse-append}
 use Rattle.upon_types.specs.Val.{Val, Vals, no_vals, val_then}
 use Rattle.upon_types.specs.View.{vals_of}
-use Rattle.upon_std_functions.specs.Items.{val_list}
+use Rattle.upon_std_functions.specs.Items.{vals_in_list}
 use Rattle.upon_std_orders.specs.Distinct.{distinct}
 use Rattle.upon_shape_spec.specs.Fits.{EachValue, Held}
 use Rattle.upon_std_shapes.proofs.OneKind.{chosen}
 
 -- ---- lists of values
-pub in_list : (P : Val → Type 0) (vs : Vals) → EachValue P vs → AllByRecursion P (val_list vs)
+pub in_list : (P : Val → Type 0) (vs : Vals) → EachValue P vs → AllByRecursion P (vals_in_list vs)
 in_list P no_vals h = tt
 in_list P (val_then v vs) h = (h.0, in_list P vs h.1)
 

@@ -9,7 +9,7 @@ use Rattle.std.specs.List.{AllByRecursion}
 use Rattle.std.specs.Ordering.{is_eq, is_lt}
 use Rattle.upon_types.specs.Val.{Val, Entries, no_entries, entry_then, entry_at, entry_list, rises}
 use Rattle.upon_types.proofs.Copies.{is_less}
-use Rattle.upon_std_functions.specs.Items.{at_key}
+use Rattle.upon_std_functions.specs.Items.{value_at_key}
 use Rattle.upon_shape_spec.specs.Fits.{Held, Fits}
 use Rattle.upon_shape_spec.specs.Shape.{Shape, map_each, optional}
 use Rattle.upon_std_shapes.proofs.OneKind.{of_map, held_or_none}
@@ -38,5 +38,5 @@ values_fit P (entry_then k v es) rise h =
     )
 
 -- what is at a key of a map, or none
-pub at_key_fits : (s : Shape) (key : List ℕ) (v : Val) → Fits (map_each s) v → Fits (optional s) (at_key key v)
-at_key_fits s key = of_map s (λ v. Fits (optional s) (at_key key v)) (λ es rise h. held_or_none s (entry_at key es) (h key))
+pub at_key_fits : (s : Shape) (key : List ℕ) (v : Val) → Fits (map_each s) v → Fits (optional s) (value_at_key key v)
+at_key_fits s key = of_map s (λ v. Fits (optional s) (value_at_key key v)) (λ es rise h. held_or_none s (entry_at key es) (h key))

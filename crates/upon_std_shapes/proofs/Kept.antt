@@ -7,7 +7,7 @@ use Rattle.upon_types.specs.Truth.{truth}
 use Rattle.upon_types.specs.Same.{val_eq}
 use Rattle.upon_types.specs.Val.{Val, int_val, text_val, list_val, map_val, entry_at, entry_list}
 use Rattle.upon_std_functions.specs.Comparing.{comparing_answer}
-use Rattle.upon_std_functions.specs.Items.{at_key, val_list}
+use Rattle.upon_std_functions.specs.Items.{vals_in_list, value_at_key}
 use Rattle.upon_std_functions.specs.Lists.{lists_answer}
 use Rattle.upon_std_functions.specs.Table as basic_table
 use Rattle.upon_std_functions.specs.Texts.{texts_answer}
@@ -95,20 +95,20 @@ texts_kept Repeat = tt
 
 -- ---- lists and maps
 first_kept : (s : Shape) → KeepsSignature (lists_answer First) (takes_gives (list_of s ∷ []) (optional s))
-first_kept s = a_list (lists_answer First) s (optional s) (λ vs h. held_or_none s (slice_get (val_list vs) 0) (all_at (Fits s) (val_list vs) 0 (in_list (Fits s) vs h)))
+first_kept s = a_list (lists_answer First) s (optional s) (λ vs h. held_or_none s (slice_get (vals_in_list vs) 0) (all_at (Fits s) (vals_in_list vs) 0 (in_list (Fits s) vs h)))
 
 last_kept : (s : Shape) → KeepsSignature (lists_answer Last) (takes_gives (list_of s ∷ []) (optional s))
 last_kept s =
     a_list (lists_answer Last) s (optional s)
-    (λ vs h. let i = length (val_list vs) - 1 in held_or_none s (slice_get (val_list vs) i) (all_at (Fits s) (val_list vs) i (in_list (Fits s) vs h)))
+    (λ vs h. let i = length (vals_in_list vs) - 1 in held_or_none s (slice_get (vals_in_list vs) i) (all_at (Fits s) (vals_in_list vs) i (in_list (Fits s) vs h)))
 
 reverse_kept : (s : Shape) → KeepsSignature (lists_answer Reverse) (takes_gives (list_of s ∷ []) (list_of s))
 reverse_kept s =
     a_list (lists_answer Reverse) s (list_of s)
-    (λ vs h. as_vals (Fits s) (reverse (val_list vs)) (all_reverse (Fits s) (val_list vs) (in_list (Fits s) vs h)))
+    (λ vs h. as_vals (Fits s) (reverse (vals_in_list vs)) (all_reverse (Fits s) (vals_in_list vs) (in_list (Fits s) vs h)))
 
 join_kept : KeepsSignature (lists_answer Join) (takes_gives (list_of text_shape ∷ text_shape ∷ []) text_shape)
-join_kept = a_list_and_text (lists_answer Join) text_shape text_shape (λ vs t h. texts_joined [] t (val_list vs) (in_list (Fits text_shape) vs h))
+join_kept = a_list_and_text (lists_answer Join) text_shape text_shape (λ vs t h. texts_joined [] t (vals_in_list vs) (in_list (Fits text_shape) vs h))
 
 keys_kept : KeepsSignature (lists_answer Keys) (takes_gives (map_each any_shape ∷ []) (list_of text_shape))
 keys_kept =
@@ -137,7 +137,7 @@ lists_kept Keys = (keys_kept, tt)
 lists_kept Values = each_kept (lists_answer Values) (λ s. takes_gives (map_each s ∷ []) (list_of s)) values_kept item_shapes
 lists_kept Get = each_kept (lists_answer Get) (λ s. takes_gives (map_each s ∷ text_shape ∷ s ∷ []) s) get_kept item_shapes
 
-basic_kept : (f : BasicFunction) → KeepsSignatures (basic_table.standard_answer f) (basic_signatures f)
+basic_kept : (f : BasicFunction) → KeepsSignatures (basic_table.basic_answer f) (basic_signatures f)
 basic_kept (basic.Comparing f) = comparing_kept f
 basic_kept (basic.Integers f) = tt
 basic_kept (basic.Texts f) = texts_kept f
@@ -147,12 +147,12 @@ basic_kept (basic.Lists f) = lists_kept f
 unique_kept : (s : Shape) → KeepsSignature (orders_answer Unique) (takes_gives (list_of s ∷ []) (list_of s))
 unique_kept s =
     a_list (orders_answer Unique) s (list_of s)
-    (λ vs h. as_vals (Fits s) (distinct val_eq (val_list vs)) (all_distinct (Fits s) val_eq (val_list vs) (in_list (Fits s) vs h)))
+    (λ vs h. as_vals (Fits s) (distinct val_eq (vals_in_list vs)) (all_distinct (Fits s) val_eq (vals_in_list vs) (in_list (Fits s) vs h)))
 
-group_kept : (s t : Shape) → ((key : List ℕ) (v : Val) → Fits s v → Fits t (at_key key v)) → KeepsSignature (orders_answer GroupBy) (takes_gives (list_of s ∷ text_shape ∷ []) (list_of (group_shape s t)))
+group_kept : (s t : Shape) → ((key : List ℕ) (v : Val) → Fits s v → Fits t (value_at_key key v)) → KeepsSignature (orders_answer GroupBy) (takes_gives (list_of s ∷ text_shape ∷ []) (list_of (group_shape s t)))
 group_kept s t fits =
     a_list_and_text (orders_answer GroupBy) s (list_of (group_shape s t))
-    (λ vs key h. as_vals (Fits (group_shape s t)) (grouped (at_key key) (val_list vs)) (groups_fit s t (at_key key) (fits key) (val_list vs) (in_list (Fits s) vs h)))
+    (λ vs key h. as_vals (Fits (group_shape s t)) (grouped (value_at_key key) (vals_in_list vs)) (groups_fit s t (value_at_key key) (fits key) (vals_in_list vs) (in_list (Fits s) vs h)))
 
 orders_kept : (f : Orders) → KeepsSignatures (orders_answer f) (orders_signatures f)
 orders_kept Sort = (
@@ -174,12 +174,12 @@ concat_kept s =
     two_arguments f (list_of s) (list_of s) (list_of s)
     (λ v w h k. of_list s (λ v. GivesOf (Some (list_of s)) (f (v ∷ w ∷ [])))
     (λ vs x. of_list s (λ w. GivesOf (Some (list_of s)) (f (list_val vs ∷ w ∷ [])))
-    (λ ws y. as_vals (Fits s) (val_list vs ++ val_list ws) (all_append (Fits s) (val_list vs) (val_list ws) (in_list (Fits s) vs x) (in_list (Fits s) ws y))) w k) v h)
+    (λ ws y. as_vals (Fits s) (vals_in_list vs ++ vals_in_list ws) (all_append (Fits s) (vals_in_list vs) (vals_in_list ws) (in_list (Fits s) vs x) (in_list (Fits s) ws y))) w k) v h)
 
-pluck_kept : (s t : Shape) → ((key : List ℕ) (v : Val) → Fits s v → Fits t (at_key key v)) → KeepsSignature (parts_answer Pluck) (takes_gives (list_of s ∷ text_shape ∷ []) (list_of t))
+pluck_kept : (s t : Shape) → ((key : List ℕ) (v : Val) → Fits s v → Fits t (value_at_key key v)) → KeepsSignature (parts_answer Pluck) (takes_gives (list_of s ∷ text_shape ∷ []) (list_of t))
 pluck_kept s t fits =
     a_list_and_text (parts_answer Pluck) s (list_of t)
-    (λ vs key h. as_vals (Fits t) (map (at_key key) (val_list vs)) (all_map (Fits s) (Fits t) (at_key key) (fits key) (val_list vs) (in_list (Fits s) vs h)))
+    (λ vs key h. as_vals (Fits t) (map (value_at_key key) (vals_in_list vs)) (all_map (Fits s) (Fits t) (value_at_key key) (fits key) (vals_in_list vs) (in_list (Fits s) vs h)))
 
 where_kept : (s : Shape) → KeepsSignature (parts_answer Where) (takes_gives (list_of s ∷ text_shape ∷ any_shape ∷ []) (list_of s))
 where_kept s =
@@ -187,7 +187,7 @@ where_kept s =
     three_arguments f (list_of s) text_shape any_shape (list_of s)
     (λ v w u h k x. of_list s (λ v. GivesOf (Some (list_of s)) (f (v ∷ w ∷ u ∷ [])))
     (λ vs y. of_text (λ w. GivesOf (Some (list_of s)) (f (list_val vs ∷ w ∷ u ∷ [])))
-    (λ key. as_vals (Fits s) (filter (λ v. val_eq (at_key key v) u) (val_list vs)) (all_filter (Fits s) (λ v. val_eq (at_key key v) u) (val_list vs) (in_list (Fits s) vs y))) w k) v h)
+    (λ key. as_vals (Fits s) (filter (λ v. val_eq (value_at_key key v) u) (vals_in_list vs)) (all_filter (Fits s) (λ v. val_eq (value_at_key key v) u) (vals_in_list vs) (in_list (Fits s) vs y))) w k) v h)
 
 lines_kept : KeepsSignature (parts_answer Lines) (takes_gives (text_shape ∷ []) (list_of text_shape))
 lines_kept = a_text (parts_answer Lines) (list_of text_shape) (λ t. as_vals (Fits text_shape) (map text_val (lines t)) (all_made (Fits text_shape) text_val (λ x. refl) (lines t)))

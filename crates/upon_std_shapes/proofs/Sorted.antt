@@ -7,10 +7,10 @@ use Rattle.std.specs.Ordering.{nat_cmp, int_cmp}
 use Rattle.std.specs.declared.cmp.Ordering.{Ordering}
 use Rattle.upon_functions.specs.Outcome.{answer_of}
 use Rattle.upon_types.specs.Val.{Val, int_val, text_val, Vals}
-use Rattle.upon_std_functions.specs.Items.{val_list}
+use Rattle.upon_std_functions.specs.Items.{vals_in_list}
 use Rattle.upon_std_functions.specs.Order.{order_of, unordered}
 use Rattle.upon_std_orders.specs.Outcomes.{listed}
-use Rattle.upon_std_orders.specs.Sorting.{inserted, ascending, is_below, unless_ordered, first_unlike, keys_refusal, unless_refused, sorted_by}
+use Rattle.upon_std_orders.specs.Sorting.{inserted, ascending, is_below, unless_ordered, first_unlike, keys_refusal, values_or_refusal, sorted_by}
 use Rattle.upon_shape_spec.specs.Declared.{GivesOf}
 use Rattle.upon_shape_spec.specs.Fits.{EachValue, Fits}
 use Rattle.upon_shape_spec.specs.Shape.{Shape, integer_shape, list_of, text_shape}
@@ -52,10 +52,10 @@ not_refused s ordered [] h = refl
 not_refused s ordered (v ∷ vs) h = ap (option_map (unordered v)) (none_unlike s ordered v vs h.0 h.1)
 
 -- so none is refused
-pub sorted_fits : (s : Shape) → AreOrdered s → (vs : Vals) → EachValue (Fits s) vs → GivesOf (Some (list_of s)) (answer_of (listed (sorted_by (λ v. v) (val_list vs))))
+pub sorted_fits : (s : Shape) → AreOrdered s → (vs : Vals) → EachValue (Fits s) vs → GivesOf (Some (list_of s)) (answer_of (listed (sorted_by (λ v. v) (vals_in_list vs))))
 sorted_fits s ordered vs h =
     let each = in_list (Fits s) vs h in
-    let made = ascending is_below (val_list vs) in
-    subst (λ (refused : Option (List ℕ)). GivesOf (Some (list_of s)) (answer_of (listed (unless_refused refused made))))
-    (sym (not_refused s ordered (map (λ v. v) (val_list vs)) (all_map (Fits s) (Fits s) (λ v. v) (λ v x. x) (val_list vs) each)))
-    (as_vals (Fits s) made (all_ascending (Fits s) is_below (val_list vs) each))
+    let made = ascending is_below (vals_in_list vs) in
+    subst (λ (refused : Option (List ℕ)). GivesOf (Some (list_of s)) (answer_of (listed (values_or_refusal refused made))))
+    (sym (not_refused s ordered (map (λ v. v) (vals_in_list vs)) (all_map (Fits s) (Fits s) (λ v. v) (λ v x. x) (vals_in_list vs) each)))
+    (as_vals (Fits s) made (all_ascending (Fits s) is_below (vals_in_list vs) each))

@@ -1,7 +1,7 @@
 -- How the program names shapes: those of items, and those that are made of one.
 use Rattle.std.specs.Prelude.{List, map}
 use Rattle.upon_shape_spec.specs.Declared.{Signature}
-use Rattle.upon_shape_spec.specs.Shape.{Shape, any_shape, integer_shape, list_of, map_each, optional, shown, text_shape, truth_shape}
+use Rattle.upon_shape_spec.specs.Shape.{Shape, any_shape, integer_shape, list_of, map_each, optional, shown_values, text_shape, truth_shape}
 use Rattle.upon_std_shapes.specs.Items.{takes_gives, group_shape}
 use Rattle.upon_std_shapes.specs.declared.form.Form.{Form}
 use Rattle.upon_std_shapes.specs.declared.form.Form.TheVariants as form
@@ -13,12 +13,12 @@ abbrev pub shape_of_item : Item → Shape
 shape_of_item item.Text = text_shape
 shape_of_item item.Integer = integer_shape
 shape_of_item item.Truth = truth_shape
-shape_of_item item.Shown = shown
+shape_of_item item.Shown = shown_values
 shape_of_item item.ListOfText = list_of text_shape
-shape_of_item item.ListOfShown = list_of shown
+shape_of_item item.ListOfShown = list_of shown_values
 shape_of_item item.ListOfAny = list_of any_shape
 shape_of_item item.MapOfText = map_each text_shape
-shape_of_item item.MapOfShown = map_each shown
+shape_of_item item.MapOfShown = map_each shown_values
 shape_of_item item.MapOfAny = map_each any_shape
 shape_of_item item.Any = any_shape
 

@@ -2,7 +2,7 @@
 -- function that gives what it takes, as `first` does, has a signature for each of these.
 use Rattle.std.specs.Prelude.{List, [], ◌∷◌, ◌++◌, true, map, codes}
 use Rattle.upon_shape_spec.specs.Declared.{Signature}
-use Rattle.upon_shape_spec.specs.Shape.{Shape, any_shape, key_then, no_others, integer_shape, list_of, map_each, map_of, shown, text_shape, truth_shape}
+use Rattle.upon_shape_spec.specs.Shape.{Shape, any_shape, key_then, no_others, integer_shape, list_of, map_each, map_of, shown_values, text_shape, truth_shape}
 
 -- what a function takes, argument by argument, and what it gives to that
 abbrev pub takes_gives : List Shape → Shape → Signature
@@ -15,9 +15,9 @@ ordered_shapes = integer_shape ∷ text_shape ∷ []
 -- the shapes of items, the narrower before the wider: the first signature that takes the arguments says what is given
 abbrev pub item_shapes : List Shape
 item_shapes =
-    text_shape ∷ integer_shape ∷ truth_shape ∷ shown
-    ∷ list_of text_shape ∷ list_of shown ∷ list_of any_shape
-    ∷ map_each text_shape ∷ map_each shown ∷ map_each any_shape
+    text_shape ∷ integer_shape ∷ truth_shape ∷ shown_values
+    ∷ list_of text_shape ∷ list_of shown_values ∷ list_of any_shape
+    ∷ map_each text_shape ∷ map_each shown_values ∷ map_each any_shape
     ∷ any_shape ∷ []
 
 -- a signature for each shape of items

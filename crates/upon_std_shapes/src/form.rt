@@ -1,7 +1,7 @@
 // The shapes that signatures of standard functions are made of.
 ghost use Rattle.std.specs.Prelude.{◌≡◌, IfOk};
 ghost use Rattle.upon_shape_spec.specs.Shape.{map_each, list_of};
-ghost use Rattle.upon_shape.specs.View.{view};
+ghost use Rattle.upon_shape.specs.View.{shape_view};
 ghost use Rattle.upon_std_shapes.specs.Forms.{shape_of_item, shape_of_form};
 ghost use Rattle.upon_std_shapes.specs.Items.{group_shape};
 
@@ -85,7 +85,7 @@ pub(crate) const ORDERED: [Item; 2] = [Item::Integer, Item::Text];
 impl Item {
     // Returns the shape.
     pub(crate) fn shape(self, alloc: Global) -> Result<Shape, AllocError>
-        ensures { IfOk result (λ s. view s ≡ shape_of_item self) }
+        ensures { IfOk result (λ s. shape_view s ≡ shape_of_item self) }
     {
         match self {
             Item::Text => Ok(Shape::text()),
@@ -106,7 +106,7 @@ impl Item {
 impl Form {
     // Returns the shape, where items have this one.
     pub(crate) fn shape(self, alloc: Global, item: Item) -> Result<Shape, AllocError>
-        ensures { IfOk result (λ s. view s ≡ shape_of_form self (shape_of_item item)) }
+        ensures { IfOk result (λ s. shape_view s ≡ shape_of_form self (shape_of_item item)) }
     {
         let one = item.shape(alloc)?;
         match self {
@@ -132,14 +132,14 @@ impl Form {
 
 // Returns the shape of maps each key of which has this shape.
 fn maps_of(alloc: Global, shape: Shape) -> Result<Shape, AllocError>
-    ensures { IfOk result (λ s. view s ≡ map_each (view shape)) }
+    ensures { IfOk result (λ s. shape_view s ≡ map_each (shape_view shape)) }
 {
     Ok(Shape::map_of(Keys::each(alloc, shape)?))
 }
 
 // Returns the shape of lists of groups.
 fn groups_of(alloc: Global, item: Shape, key: Shape) -> Result<Shape, AllocError>
-    ensures { IfOk result (λ s. view s ≡ list_of (group_shape (view item) (view key))) }
+    ensures { IfOk result (λ s. shape_view s ≡ list_of (group_shape (shape_view item) (shape_view key))) }
 {
     let items = Shape::list_of(alloc, item)?;
     let keys = Keys::no_others(alloc)?

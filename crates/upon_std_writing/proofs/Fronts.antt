@@ -6,17 +6,17 @@ use Rattle.std.proofs.lemmas.Bool.Decides.{nat_tests}
 use Rattle.std.proofs.lemmas.Str.{chars_past_char, chars-encodes, encodes-append, encodes-chars, scalars-chars}
 use Rattle.std.specs.Str.{IsUtf8}
 use Rattle.unicode_width.proofs.Computing.{unicode_width}
-use Rattle.upon_std_writing.specs.Columns.{columns, width}
+use Rattle.upon_std_writing.specs.Columns.{columns_of, width}
 use Rattle.upon_std_writing.specs.Truncating.{cut, ellipsis, front, truncated}
 use Rattle.upon_std_writing.proofs.Blanks.{columns-append}
 use Rattle.upon_std_writing.proofs.Characters.{no_chars}
 
 -- the first character is in the front where it fits
-chosen-within : (b : Bool) (c n : ℕ) (cs : List ℕ) → nat_le (width c) n ≡ b → columns cs ≤ n - width c → columns (cond b (c ∷ cs) []) ≤ n
+chosen-within : (b : Bool) (c n : ℕ) (cs : List ℕ) → nat_le (width c) n ≡ b → columns_of cs ≤ n - width c → columns_of (cond b (c ∷ cs) []) ≤ n
 chosen-within true c n cs fits below = omega (arith, leb-true (width c) n fits, below)
 chosen-within false c n cs fits below = omega arith
 
-pub front-within : (n : ℕ) (cs : List ℕ) → columns (front n cs) ≤ n
+pub front-within : (n : ℕ) (cs : List ℕ) → columns_of (front n cs) ≤ n
 front-within n [] = omega arith
 front-within n (c ∷ cs) = chosen-within (nat_le (width c) n) c n (front (n - width c) cs) refl (front-within (n - width c) cs)
 
@@ -24,19 +24,19 @@ width-ellipsis : width 0x2026 ≡ 1
 unfolding unicode_width
 width-ellipsis = refl
 
-cut-within : (n : ℕ) (cs : List ℕ) → columns (cut n cs) ≤ n
+cut-within : (n : ℕ) (cs : List ℕ) → columns_of (cut n cs) ≤ n
 cut-within zero cs = omega arith
 cut-within (suc n) cs = omega (arith, front-within n cs, columns-append (front n cs) (ellipsis ∷ []), width-ellipsis)
 
-either-within : (b : Bool) (n : ℕ) (cs : List ℕ) → nat_le (columns cs) n ≡ b → columns (cond b cs (cut n cs)) ≤ n
-either-within true n cs fits = leb-true (columns cs) n fits
+either-within : (b : Bool) (n : ℕ) (cs : List ℕ) → nat_le (columns_of cs) n ≡ b → columns_of (cond b cs (cut n cs)) ≤ n
+either-within true n cs fits = leb-true (columns_of cs) n fits
 either-within false n cs fits = cut-within n cs
 
-pub truncated-within : (n : ℕ) (cs : List ℕ) → columns (truncated n cs) ≤ n
-truncated-within n cs = either-within (nat_le (columns cs) n) n cs refl
+pub truncated-within : (n : ℕ) (cs : List ℕ) → columns_of (truncated n cs) ≤ n
+truncated-within n cs = either-within (nat_le (columns_of cs) n) n cs refl
 
-pub truncated-whole : (n : ℕ) (cs : List ℕ) → columns cs ≤ n → truncated n cs ≡ cs
-truncated-whole n cs fits = ap (λ b. cond b cs (cut n cs)) (le-leb (columns cs) n fits)
+pub truncated-whole : (n : ℕ) (cs : List ℕ) → columns_of cs ≤ n → truncated n cs ≡ cs
+truncated-whole n cs fits = ap (λ b. cond b cs (cut n cs)) (le-leb (columns_of cs) n fits)
 
 -- a character that fits is the first of the front
 pub front-fits : (c n : ℕ) (cs : List ℕ) → width c ≤ n → front n (c ∷ cs) ≡ c ∷ front (n - width c) cs
@@ -48,10 +48,10 @@ past w n h = grind (arith, nat_tests)
 pub front-past : (c n : ℕ) (cs : List ℕ) → n < width c → front n (c ∷ cs) ≡ []
 front-past c n cs h = ap (λ b. cond b (c ∷ front (n - width c) cs) []) (past (width c) n h)
 
-pub front-longest : (n : ℕ) (start rest : List ℕ) → columns start ≤ n → length start ≤ length (front n (start ++ rest))
+pub front-longest : (n : ℕ) (start rest : List ℕ) → columns_of start ≤ n → length start ≤ length (front n (start ++ rest))
 front-longest n [] rest fits = omega arith
 front-longest n (c ∷ start) rest fits =
-    let more : columns start ≤ n - width c = omega (arith, fits) in
+    let more : columns_of start ≤ n - width c = omega (arith, fits) in
     let first : width c ≤ n = omega (arith, fits) in
     omega (arith, front-longest (n - width c) start rest more, ap length (front-fits c n (start ++ rest) first))
 
@@ -83,7 +83,7 @@ either-scalars false n cs h = cut-scalars n cs h
 
 pub truncated-chars : (n : ℕ) (text : List ℕ) → IsUtf8 text → chars (encode_utf8_all (truncated n (chars text))) ≡ truncated n (chars text)
 truncated-chars n text utf8 =
-    chars-encodes (truncated n (chars text)) (either-scalars (nat_le (columns (chars text)) n) n (chars text) (scalars-chars text utf8))
+    chars-encodes (truncated n (chars text)) (either-scalars (nat_le (columns_of (chars text)) n) n (chars text) (scalars-chars text utf8))
 
 -- one more character of the front is written
 pub front-more : (bs rest old new added : List ℕ) (c left taken left' : ℕ) (whole : List ℕ) → IsUtf8 bs → bs ≡ encode_utf8 c ++ rest → taken ≡ width c
@@ -112,13 +112,13 @@ front-whole bs old left whole none so_far =
     sym (append-nil old) ∙ ap (λ cs. old ++ encode_utf8_all (front left cs)) (sym (no_chars bs none)) ∙ so_far
 
 -- a text that fits is written as it is
-pub truncated-text : (b : Bool) (n : ℕ) (text : List ℕ) → IsUtf8 text → b ≡ nat_le (columns (chars text)) n → b ≡ true
+pub truncated-text : (b : Bool) (n : ℕ) (text : List ℕ) → IsUtf8 text → b ≡ nat_le (columns_of (chars text)) n → b ≡ true
     → text ≡ encode_utf8_all (truncated n (chars text))
 truncated-text b n text utf8 test fits =
     sym (ap (λ t. encode_utf8_all (cond t (chars text) (cut n (chars text)))) (sym test ∙ fits) ∙ encodes-chars text utf8)
 
 -- a front and `…` are written of one that does not fit
-pub truncated-cut : (b : Bool) (n n' : ℕ) (cs written new : List ℕ) → b ≡ nat_le (columns cs) n → b ≡ false → n ≡ suc n'
+pub truncated-cut : (b : Bool) (n n' : ℕ) (cs written new : List ℕ) → b ≡ nat_le (columns_of cs) n → b ≡ false → n ≡ suc n'
     → written ≡ encode_utf8_all (front n' cs) → new ≡ written ++ encode_utf8 ellipsis → new ≡ encode_utf8_all (truncated n cs)
 truncated-cut b n n' cs written new test wide one_less of_written of_new =
     of_new ∙ ap (λ t. t ++ encode_utf8 ellipsis) of_written

@@ -13,10 +13,10 @@ use Rattle.json.proofs.Printed.Strings.{content-escape, lex-escape}
 use Rattle.json.proofs.Printed.Trees.{document-print}
 use Rattle.upon_json.specs.Context.{text_value, without_mark}
 use Rattle.upon_json.specs.Reads.{reads_whole}
-use Rattle.upon_json.specs.Value.{value_of}
+use Rattle.upon_json.specs.Value.{value_of_json}
 use Rattle.upon_types.specs.Val.{Val, none_val, bool_val, int_val, text_val, list_val, map_val, Vals, no_vals, val_then, Entries, no_entries, entry_then}
 use Rattle.upon_std_writing.specs.Held.{IsHeld, AreHeld, HasHeld, nesting}
-use Rattle.upon_std_writing.specs.JsonText.{json_entries, json_items, json_string, json_text, key_text}
+use Rattle.upon_std_writing.specs.JsonText.{entry_name_text, json_entries, json_items, json_string, json_text}
 use Rattle.upon_std_writing.proofs.JsonNumbers.{IsNumber-signed, without_mark-signed}
 use Rattle.upon_std_writing.proofs.JsonStrings.{string_lexed}
 use Rattle.upon_std_writing.proofs.JsonTrees.{depth-json_of, HasNumbers-json_of, items_of, json_of, members_of, value_of-json_of}
@@ -69,7 +69,7 @@ quoted_lexed s r =
     ∙ ap₂ (λ o l. token (string_token o) ∷ l) (content-escape s r) (lex-escape s r)
 
 -- the name of an entry, and the colon after it
-key_lexed : (s r : List ℕ) → IsUtf8 s → lex between (key_text s ++ r) ≡ token (string s) ∷ colon ∷ lex between r
+key_lexed : (s r : List ℕ) → IsUtf8 s → lex between (entry_name_text s ++ r) ≡ token (string s) ∷ colon ∷ lex between r
 unfolding lex
 key_lexed s r utf8 = ap (lex between) (append_assoc (json_string s) (58 ∷ []) r) ∙ string_lexed s (58 ∷ r) utf8
 
@@ -124,12 +124,12 @@ bool_lexed false us r f = false_lexed r f.ended ∙ ap (λ l. token (boolean fal
 entry_lexed : (k : List ℕ) (v : Val) (es : Entries) → IsUtf8 k
     → ((us : List Token) (r : List ℕ) → Follows r us → lex between (json_text v ++ r) ≡ lex between (print_from false (json_tokens (json_of v) ++ us)))
     → (us : List Token) (r : List ℕ) → lex between (json_entries es false ++ (125 ∷ r)) ≡ lex between (print_from true (members_tokens (members_of es) ++ us))
-    → lex between ((key_text k ++ (json_text v ++ json_entries es false)) ++ (125 ∷ r))
+    → lex between ((entry_name_text k ++ (json_text v ++ json_entries es false)) ++ (125 ∷ r))
     ≡ lex between ((quoted k ++ (58 ∷ [])) ++ print_from false ((json_tokens (json_of v) ++ members_tokens (members_of es)) ++ us))
 entry_lexed k v es utf8 value us r others =
     let more = json_entries es false in
     let next = members_tokens (members_of es) ++ us in
-    ap (lex between) (append_assoc (key_text k) (json_text v ++ more) (125 ∷ r))
+    ap (lex between) (append_assoc (entry_name_text k) (json_text v ++ more) (125 ∷ r))
     ∙ key_lexed k ((json_text v ++ more) ++ (125 ∷ r)) utf8
     ∙ ap (λ t. token (string k) ∷ colon ∷ lex between t) (append_assoc (json_text v) more (125 ∷ r))
     ∙ ap (λ l. token (string k) ∷ colon ∷ l) (value next (more ++ (125 ∷ r)) (record { same = others; ended = entries_end es r }))
@@ -186,7 +186,7 @@ mutual
   entries_lexed no_entries h false us r f = brace_closes r ∙ ap (λ l. token end_object ∷ l) f.same ∙ sym (brace_closes (print_from true us))
   entries_lexed (entry_then k v es) h false us r f = entry_lexed k v es h.0 (value_lexed v h.1.0) us r (entries_lexed es h.1.1 true us r f)
   entries_lexed (entry_then k v es) h true us r f =
-      comma_lexed ((key_text k ++ (json_text v ++ json_entries es false)) ++ (125 ∷ r))
+      comma_lexed ((entry_name_text k ++ (json_text v ++ json_entries es false)) ++ (125 ∷ r))
       ∙ ap (λ l. comma ∷ l) (entry_lexed k v es h.0 (value_lexed v h.1.0) us r (entries_lexed es h.1.1 true us r f))
       ∙ sym (comma_lexed ((quoted k ++ (58 ∷ [])) ++ print_from false ((json_tokens (json_of v) ++ members_tokens (members_of es)) ++ us)))
 
@@ -214,5 +214,5 @@ text_value-json_text v held shallow =
     ∙ ap (λ ts. lex between (print_from false ts)) (append-nil (json_tokens j)) in
     ap (λ t. reads_whole (tokens t)) (unmarked v held)
     ∙ ap (λ ls. reads_whole (punctuate fresh ls)) same
-    ∙ ap (option_map value_of) (document-print j (HasNumbers-json_of v held) deep)
+    ∙ ap (option_map value_of_json) (document-print j (HasNumbers-json_of v held) deep)
     ∙ ap Some (value_of-json_of v held)

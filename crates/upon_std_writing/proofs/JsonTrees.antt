@@ -8,7 +8,7 @@ use Rattle.std.specs.Fmt.{signed_decimal}
 use Rattle.std.specs.Ordering.{ordering_reverse}
 use Rattle.json.specs.Json.{Json, null, boolean, number, string, array, object, Items, no_items, item, Members, no_members, member}
 use Rattle.json.specs.Tree.{depth, items_depth, members_depth, HasNumbers, ItemsHaveNumbers, MembersHaveNumbers}
-use Rattle.upon_json.specs.Value.{put, value_of, values_of, entries_over}
+use Rattle.upon_json.specs.Value.{put, value_of_json, items_values, members_over}
 use Rattle.upon_types.specs.Val.{Val, none_val, bool_val, int_val, text_val, list_val, map_val, Vals, no_vals, val_then, Entries, no_entries, entry_then, rises}
 use Rattle.upon_types.proofs.Copies.{before_middle, joined}
 use Rattle.upon_std_writing.specs.Held.{IsHeld, AreHeld, HasHeld, nesting, items_nesting, entries_nesting}
@@ -88,7 +88,7 @@ joined-none no_entries = refl
 joined-none (entry_then l w done) = ap (entry_then l w) (joined-none done)
 
 mutual
-  pub value_of-json_of : (v : Val) → IsHeld v → value_of (json_of v) ≡ v
+  pub value_of-json_of : (v : Val) → IsHeld v → value_of_json (json_of v) ≡ v
   value_of-json_of none_val h = refl
   value_of-json_of (bool_val b) h = refl
   value_of-json_of (int_val z) h = number_val-signed_decimal z h
@@ -96,14 +96,14 @@ mutual
   value_of-json_of (list_val vs) h = ap list_val (values_of-items_of vs h)
   value_of-json_of (map_val es) h = ap map_val (entries_over-members_of es no_entries h.1 h.0)
 
-  values_of-items_of : (vs : Vals) → AreHeld vs → values_of (items_of vs) ≡ vs
+  values_of-items_of : (vs : Vals) → AreHeld vs → items_values (items_of vs) ≡ vs
   values_of-items_of no_vals h = refl
   values_of-items_of (val_then v vs) h = ap₂ val_then (value_of-json_of v h.0) (values_of-items_of vs h.1)
 
-  entries_over-members_of : (es done : Entries) → HasHeld es → rises (joined done es) ≡ true → entries_over (members_of es) done ≡ joined done es
+  entries_over-members_of : (es done : Entries) → HasHeld es → rises (joined done es) ≡ true → members_over (members_of es) done ≡ joined done es
   entries_over-members_of no_entries done h rise = sym (joined-none done)
   entries_over-members_of (entry_then key v es) done h rise =
       let same = joined-joined done key v es in
-      ap (λ w. entries_over (members_of es) (put key w done)) (value_of-json_of v h.1.0)
-      ∙ ap (entries_over (members_of es)) (put-last done key v es rise)
+      ap (λ w. members_over (members_of es) (put key w done)) (value_of-json_of v h.1.0)
+      ∙ ap (members_over (members_of es)) (put-last done key v es rise)
       ∙ entries_over-members_of es (joined done (entry_then key v no_entries)) h.1.1 (ap rises same ∙ rise) ∙ same

@@ -7,6 +7,6 @@ abbrev pub width : ℕ → ℕ
 width c = unwrap_or (char_width false c) 0
 
 -- the columns of characters, one beside the other
-abbrev pub columns : List ℕ → ℕ
-columns [] = 0
-columns (c ∷ cs) = width c + columns cs
+abbrev pub columns_of : List ℕ → ℕ
+columns_of [] = 0
+columns_of (c ∷ cs) = width c + columns_of cs

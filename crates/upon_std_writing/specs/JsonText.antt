@@ -12,8 +12,8 @@ abbrev pub json_string : List ℕ → List ℕ
 json_string text = byte "\"" ∷ (quoted_bytes json_escape_of text ++ (byte "\"" ∷ []))
 
 -- the name of an entry, and the colon after it
-abbrev pub key_text : List ℕ → List ℕ
-key_text key = json_string key ++ (byte ":" ∷ [])
+abbrev pub entry_name_text : List ℕ → List ℕ
+entry_name_text key = json_string key ++ (byte ":" ∷ [])
 
 -- what stands before an item or an entry: nothing before the first, else a comma
 abbrev pub before : Bool → List ℕ
@@ -47,7 +47,7 @@ abbrev mutual
   pub json_entries : Entries → Bool → List ℕ
   json_entries no_entries is_first = []
   json_entries (entry_then key v es) is_first =
-      before is_first ++ (key_text key ++ (json_text v ++ json_entries es false))
+      before is_first ++ (entry_name_text key ++ (json_text v ++ json_entries es false))
 
 -- the text of a list
 abbrev pub list_text : Vals → List ℕ

@@ -1,6 +1,6 @@
 -- Texts that are cut to a number of columns.
 use Rattle.std.specs.Prelude.{ℕ, zero, suc, ◌-◌, List, [], ◌∷◌, ◌++◌, nat_le, if◌then◌else◌}
-use Rattle.upon_std_writing.specs.Columns.{columns, width}
+use Rattle.upon_std_writing.specs.Columns.{columns_of, width}
 
 -- the longest front of characters that takes no more than so many columns
 abbrev pub front : ℕ → List ℕ → List ℕ
@@ -18,4 +18,4 @@ cut (suc n) cs = front n cs ++ (ellipsis ∷ [])
 
 -- the characters if they take no more than so many columns, else what is left of them
 abbrev pub truncated : ℕ → List ℕ → List ℕ
-truncated n cs = if nat_le (columns cs) n then cs else cut n cs
+truncated n cs = if nat_le (columns_of cs) n then cs else cut n cs

@@ -1,6 +1,6 @@
 // The columns that texts take in a terminal.
 ghost use Rattle.std.specs.Prelude.{◌≡◌, ◌-◌, ◌≤◌, chars, nat_le};
-ghost use Rattle.upon_std_writing.specs.Columns.{columns, width};
+ghost use Rattle.upon_std_writing.specs.Columns.{columns_of, width};
 
 use unicode_width::UnicodeWidthChar;
 
@@ -13,7 +13,7 @@ pub(crate) fn width(character: char) -> usize
 
 // How many columns are left of these beside a text.
 pub(crate) fn columns_beside(text: &str, most: usize) -> usize
-    ensures { result ≡ most - columns (chars text.now) }
+    ensures { result ≡ most - columns_of (chars text.now) }
 {
     let mut left = most;
     for character in text.chars() {
@@ -24,7 +24,7 @@ pub(crate) fn columns_beside(text: &str, most: usize) -> usize
 
 // Whether a text takes no more than these columns.
 pub(crate) fn fits(text: &str, most: usize) -> bool
-    ensures { result ≡ nat_le (columns (chars text.now)) most }
+    ensures { result ≡ nat_le (columns_of (chars text.now)) most }
 {
     let mut left = most;
     for character in text.chars() {

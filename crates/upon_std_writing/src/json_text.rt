@@ -4,7 +4,7 @@ ghost use Rattle.upon_types.specs.Val.{text_val};
 ghost use Rattle.upon_types.specs.View.{view, vals_view, entries_view};
 ghost use Rattle.upon_fmt.specs.Formatter.{Formats};
 ghost use Rattle.upon_meaning_spec.specs.DefaultFormat.{format_text};
-ghost use Rattle.upon_std_writing.specs.JsonText.{before, json_string, json_text, key_text, list_text, map_text};
+ghost use Rattle.upon_std_writing.specs.JsonText.{before, entry_name_text, json_string, json_text, list_text, map_text};
 
 use std::alloc::{AllocError, Global};
 use std::collections::BTreeMap;
@@ -77,7 +77,7 @@ fn write_separator(f: &mut Formatter, is_first: bool) -> fmt::Result
 
 // Appends the name of an entry, and the colon after it.
 fn write_key(f: &mut Formatter, key: &str) -> fmt::Result
-    ensures { Formats f.old f.new result (format_text (key_text key.now)) }
+    ensures { Formats f.old f.new result (format_text (entry_name_text key.now)) }
 {
     write_copy(f, key)?;
     f.write_str(":")

@@ -9,7 +9,7 @@ ghost use Rattle.upon_json.specs.Context.{text_value};
 ghost use Rattle.upon_types.specs.Val.{Val};
 ghost use Rattle.upon_std_writing.specs.Held.{IsHeld, nesting};
 ghost use Rattle.upon_std_writing.specs.JsonText.{json_text};
-ghost use Rattle.upon_std_writing.specs.Columns.{columns};
+ghost use Rattle.upon_std_writing.specs.Columns.{columns_of};
 ghost use Rattle.upon_std_writing.specs.Padding.{centered, padded_left, padded_right};
 ghost use Rattle.upon_std_writing.specs.Truncating.{front, truncated};
 ghost use Rattle.upon_std_writing.specs.Url.{is_url_byte, url_text};
@@ -17,18 +17,18 @@ ghost use Rattle.upon_std_writing.specs.Url.{is_url_byte, url_text};
 /// States that a text that is filled up takes exactly so many columns, or as many as it took where these are more.
 pub fn padded_columns()
     ensures left { (n : ℕ) (text : List ℕ)
-        → columns (chars (padded_left n text)) ≡ max n (columns (chars text)) }
+        → columns_of (chars (padded_left n text)) ≡ max n (columns_of (chars text)) }
     ensures right { (n : ℕ) (text : List ℕ) → IsUtf8 text
-        → columns (chars (padded_right n text)) ≡ max n (columns (chars text)) }
+        → columns_of (chars (padded_right n text)) ≡ max n (columns_of (chars text)) }
     ensures center { (n : ℕ) (text : List ℕ) → IsUtf8 text
-        → columns (chars (centered n text)) ≡ max n (columns (chars text)) }
+        → columns_of (chars (centered n text)) ≡ max n (columns_of (chars text)) }
 {}
 
 /// States that a text that is cut takes no more than so many columns, and that no longer front would.
 pub fn truncated_columns()
-    ensures at_most { (n : ℕ) (cs : List ℕ) → columns (truncated n cs) ≤ n }
-    ensures whole { (n : ℕ) (cs : List ℕ) → columns cs ≤ n → truncated n cs ≡ cs }
-    ensures longest { (n : ℕ) (start rest : List ℕ) → columns start ≤ n
+    ensures at_most { (n : ℕ) (cs : List ℕ) → columns_of (truncated n cs) ≤ n }
+    ensures whole { (n : ℕ) (cs : List ℕ) → columns_of cs ≤ n → truncated n cs ≡ cs }
+    ensures longest { (n : ℕ) (start rest : List ℕ) → columns_of start ≤ n
         → length start ≤ length (front n (start ++ rest)) }
     ensures characters { (n : ℕ) (text : List ℕ) → IsUtf8 text
         → chars (encode_utf8_all (truncated n (chars text))) ≡ truncated n (chars text) }

@@ -3,7 +3,7 @@ use Rattle.std.proofs.Common.{◌≡◌, ℕ, ◌<◌, ◌+◌, ◌-◌, List, [
 use Rattle.std.specs.List.{All, join_with_byte, onto_first, list_all, count_by}
 use Rattle.std.proofs.lemmas.List.Elements.{All-nil, All-cons}
 use Rattle.std.proofs.lemmas.List.Splits.{slice_split_none, slice_split_at, join_with_byte-slice_split, length-slice_split}
-use Rattle.upon_store.specs.Paths.{is_slash, segments, is_segment, is_path, but_last, folder_of, up, step, steps, then_on, steps_of, path_text, found_path, resolved}
+use Rattle.upon_store.specs.Paths.{is_slash, segments, is_segment, is_path, but_last, folder_of, up, path_step, path_steps, then_on, steps_of, path_text, found_path, resolved}
 use Rattle.upon_store.proofs.Steps.{folder_last, resolved_from_top, resolved_from_folder}
 
 -- no byte of it is a slash
@@ -77,22 +77,22 @@ proper_stepped false false false folder t next h free is leads =
     subst Proper same (proper_push folder t h (is refl) free)
 
 proper_step : (folder : List (List ℕ)) (t : List ℕ) (next : List (List ℕ)) → Proper folder → HasNoSlash t
-    → step folder t ≡ Some next → Proper next
+    → path_step folder t ≡ Some next → Proper next
 proper_step folder t next h free leads =
     proper_stepped (bytes_eq t []) (bytes_eq t (codes ".")) (bytes_eq t (codes "..")) folder t next h free (λ is. is) leads
 
 proper_then : (o : Option (List (List ℕ))) (ts next : List (List ℕ)) → ((folder : List (List ℕ)) → o ≡ Some folder → Proper folder)
-    → ((folder : List (List ℕ)) → Proper folder → steps folder ts ≡ Some next → Proper next)
-    → then_on o (λ folder. steps folder ts) ≡ Some next → Proper next
+    → ((folder : List (List ℕ)) → Proper folder → path_steps folder ts ≡ Some next → Proper next)
+    → then_on o (λ folder. path_steps folder ts) ≡ Some next → Proper next
 proper_then None ts next first more leads = absurd (cc)
 proper_then (Some folder) ts next first more leads = more folder (first folder refl) leads
 
-proper_steps : (ts folder next : List (List ℕ)) → Proper folder → HaveNoSlash ts → steps folder ts ≡ Some next → Proper next
+proper_steps : (ts folder next : List (List ℕ)) → Proper folder → HaveNoSlash ts → path_steps folder ts ≡ Some next → Proper next
 proper_steps [] folder next h free leads =
     let same : folder ≡ next = cc in
     subst Proper same h
 proper_steps (t ∷ ts) folder next h free leads =
-    proper_then (step folder t) ts next (λ f is. proper_step folder t f h free.0 is) (λ f p. proper_steps ts f next p free.1) leads
+    proper_then (path_step folder t) ts next (λ f is. proper_step folder t f h free.0 is) (λ f p. proper_steps ts f next p free.1) leads
 
 -- the segments of joined segments
 segments_joined : (t : List ℕ) (ts : List (List ℕ)) → Proper (t ∷ ts) → segments (join_with_byte 47 (t ∷ ts)) ≡ t ∷ ts
@@ -121,7 +121,7 @@ proper_steps_of : (folder : List (List ℕ)) (name : List ℕ) (next : List (Lis
 proper_steps_of folder [] next h leads = proper_steps (segments []) folder next h (segments_no_slash []) leads
 proper_steps_of folder (b ∷ t) next h leads = by_first (is_slash b) leads
   where
-    by_first : (test : Bool) → cond test (steps [] (segments t)) (steps folder (segments (b ∷ t))) ≡ Some next → Proper next
+    by_first : (test : Bool) → cond test (path_steps [] (segments t)) (path_steps folder (segments (b ∷ t))) ≡ Some next → Proper next
     by_first true leads = proper_steps (segments t) [] next tt (segments_no_slash t) leads
     by_first false leads = proper_steps (segments (b ∷ t)) folder next h (segments_no_slash (b ∷ t)) leads
 
@@ -140,11 +140,11 @@ down_tests false true dots folder t h = absurd (cc)
 down_tests false false true folder t h = absurd (cc)
 down_tests false false false folder t h = refl
 
-down : (ts folder : List (List ℕ)) → list_all is_segment ts ≡ true → steps folder ts ≡ Some (folder ++ ts)
+down : (ts folder : List (List ℕ)) → list_all is_segment ts ≡ true → path_steps folder ts ≡ Some (folder ++ ts)
 down [] folder h = ap (λ ts. Some ts) (sym (append-nil folder))
 down (t ∷ ts) folder h =
     let parts = both (is_segment t) (list_all is_segment ts) h in
-    ap (λ o. then_on o (λ next. steps next ts))
+    ap (λ o. then_on o (λ next. path_steps next ts))
     (down_tests (bytes_eq t []) (bytes_eq t (codes ".")) (bytes_eq t (codes "..")) folder t parts.0)
     ∙ down ts (folder ++ t ∷ []) parts.1 ∙ ap (λ us. Some us) (append_assoc folder (t ∷ []) ts)
 
@@ -180,7 +180,7 @@ one_segment path p one good =
     down_path path p good ∙ ap (λ ts. path_text (ts ++ segments p)) (folder_last path one) ∙ path_of_segments p
 
 -- up and up
-too_far : (k : ℕ) (folder ts : List (List ℕ)) → length folder < k → steps folder (replicate k (codes "..") ++ ts) ≡ None
+too_far : (k : ℕ) (folder ts : List (List ℕ)) → length folder < k → path_steps folder (replicate k (codes "..") ++ ts) ≡ None
 too_far zero folder ts h = absurd (omega arith)
 too_far (suc k) [] ts h = refl
 too_far (suc k) (t ∷ folder) ts h =
@@ -198,5 +198,5 @@ pub too_far_up : (path name : List ℕ) (k : ℕ) (ts : List (List ℕ)) → len
 too_far_up path name k ts deep h =
     let some : 0 < k = omega arith in
     resolved_from_folder path name (λ rest is. dots_first name rest k ts some h is)
-    ∙ ap (λ us. found_path (steps (folder_of path) us)) h
+    ∙ ap (λ us. found_path (path_steps (folder_of path) us)) h
     ∙ ap found_path (too_far k (folder_of path) ts deep)

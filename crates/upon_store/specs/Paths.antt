@@ -33,8 +33,8 @@ up [] = None
 up (t ∷ ts) = Some (but_last (t ∷ ts))
 
 -- on by one segment of a name
-abbrev pub step : List (List ℕ) → List ℕ → Option (List (List ℕ))
-step folder t = cond (bytes_eq t []) None
+abbrev pub path_step : List (List ℕ) → List ℕ → Option (List (List ℕ))
+path_step folder t = cond (bytes_eq t []) None
     (cond (bytes_eq t (codes ".")) (Some folder)
     (cond (bytes_eq t (codes "..")) (up folder)
     (Some (folder ++ t ∷ []))))
@@ -46,14 +46,14 @@ then_on None on = None
 then_on (Some folder) on = on folder
 
 -- on by the segments of a name, from a folder
-abbrev pub steps : List (List ℕ) → List (List ℕ) → Option (List (List ℕ))
-steps folder [] = Some folder
-steps folder (t ∷ ts) = then_on (step folder t) (λ next. steps next ts)
+abbrev pub path_steps : List (List ℕ) → List (List ℕ) → Option (List (List ℕ))
+path_steps folder [] = Some folder
+path_steps folder (t ∷ ts) = then_on (path_step folder t) (λ next. path_steps next ts)
 
 -- on by a name: from the top if it begins with a slash, else from a folder
 abbrev pub steps_of : List (List ℕ) → List ℕ → Option (List (List ℕ))
-steps_of folder [] = steps folder (segments [])
-steps_of folder (b ∷ t) = cond (b == 47) (steps [] (segments t)) (steps folder (segments (b ∷ t)))
+steps_of folder [] = path_steps folder (segments [])
+steps_of folder (b ∷ t) = cond (b == 47) (path_steps [] (segments t)) (path_steps folder (segments (b ∷ t)))
 
 -- the text of segments, if there are any
 abbrev pub path_text : List (List ℕ) → Option (List ℕ)
@@ -70,5 +70,5 @@ unfoldable pub resolved : List ℕ → List ℕ → Option (List ℕ)
 resolved path name = found_path (steps_of (folder_of path) name)
 
 -- what texts say
-abbrev pub texts : List (Bor (List ℕ)) → List (List ℕ)
-texts ts = map (λ t. t.now) ts
+abbrev pub path_texts : List (Bor (List ℕ)) → List (List ℕ)
+path_texts ts = map (λ t. t.now) ts

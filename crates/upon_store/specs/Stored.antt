@@ -13,7 +13,7 @@ use Rattle.upon_render.specs.Source.{SourceAnswer, says, refuses}
 use Rattle.upon_meaning_spec.specs.Engine.{Template, Table, Resolver}
 use Rattle.upon_meaning_spec.specs.Includes.{Reaches}
 use Rattle.upon_meaning_spec.specs.Outcome.{Outcome}
-use Rattle.upon_vm.specs.Reports.{IsAnyIo, Writes}
+use Rattle.upon_vm.specs.Reports.{IsAnyIo, WritesReported}
 use Rattle.upon_engine.specs.HandsOn.{hands_on}
 use Rattle.upon_engine.specs.Template.{template_of}
 use Rattle.upon_engine.specs.declared.template.Template.{Template as Held}
@@ -49,8 +49,8 @@ abbrev pub paths : Store → List (List ℕ)
 paths store = map string_bytes (keys store.templates)
 
 -- the bytes of each path are before those of every later one, so no path is there twice
-abbrev pub Rise : List (List ℕ) → Type 0
-Rise paths = IsStrictlySortedBy (slice_cmp nat_cmp) paths
+abbrev pub PathsRise : List (List ℕ) → Type 0
+PathsRise paths = IsStrictlySortedBy (slice_cmp nat_cmp) paths
 
 -- what is answered for a path that has a template or not
 abbrev pub path_answer : {A : Type 0} → Option A → SourceAnswer A
@@ -94,12 +94,12 @@ EndsAdding is_path Refuses (Err OutOfMemory) = is_path ≡ true
 
 -- The path is none; or no template has it; or the template's text was written, as its meaning says. What is refused
 -- writes nothing.
-abbrev pub Renders : {Q : Type 0} → Bool → Option Template → ℕ → Result (Unit {0}) StoreError
+abbrev pub RendersStored : {Q : Type 0} → Bool → Option Template → ℕ → Result (Unit {0}) StoreError
     → Option (List ℕ) → Option (List ℕ) → (Template → Outcome Q) → Type 0
-Renders is_path held limit (Ok u) old new means =
-    (t : Template) × (is_path ≡ true) × (held ≡ Some t) × Writes limit IsAnyIo (Ok u) old new (means t)
-Renders is_path held limit (Err BadPath) old new means = (is_path ≡ false) × (new ≡ old)
-Renders is_path held limit (Err NotFound) old new means = (is_path ≡ true) × (held ≡ None) × (new ≡ old)
-Renders is_path held limit (Err (Engine e)) old new means =
-    (t : Template) × (is_path ≡ true) × (held ≡ Some t) × Writes limit IsAnyIo (Err e) old new (means t)
-Renders is_path held limit (Err OutOfMemory) old new means = ⊥
+RendersStored is_path held limit (Ok u) old new means =
+    (t : Template) × (is_path ≡ true) × (held ≡ Some t) × WritesReported limit IsAnyIo (Ok u) old new (means t)
+RendersStored is_path held limit (Err BadPath) old new means = (is_path ≡ false) × (new ≡ old)
+RendersStored is_path held limit (Err NotFound) old new means = (is_path ≡ true) × (held ≡ None) × (new ≡ old)
+RendersStored is_path held limit (Err (Engine e)) old new means =
+    (t : Template) × (is_path ≡ true) × (held ≡ Some t) × WritesReported limit IsAnyIo (Err e) old new (means t)
+RendersStored is_path held limit (Err OutOfMemory) old new means = ⊥

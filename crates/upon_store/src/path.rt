@@ -1,7 +1,7 @@
 // Paths of templates: segments joined by `/`, none of them empty, `.` or `..`.
 ghost use Rattle.std.specs.Prelude.{◌≡◌, ◌∷◌, ◌<◌, [], Some, None, cond, length, IfOk, IfNone, IfSome, option_map, string_bytes};
 ghost use Rattle.std.specs.List.{join_with_byte};
-ghost use Rattle.upon_store.specs.Paths.{found_path, folder_of, is_path, is_segment, path_text, resolved, segments, step, steps, texts};
+ghost use Rattle.upon_store.specs.Paths.{found_path, folder_of, is_path, is_segment, path_text, resolved, segments, path_step, path_steps, path_texts};
 
 use std::alloc::{AllocError, Global};
 
@@ -50,7 +50,7 @@ fn is_segment(text: &str) -> bool
 
 // The segments of the folder that a path lies in: all but its last.
 fn folder_of<'a>(alloc: Global, path: &'a str) -> Result<Vec<&'a str>, AllocError>
-    ensures { IfOk result (λ v. texts v.items ≡ folder_of path.now) }
+    ensures { IfOk result (λ v. path_texts v.items ≡ folder_of path.now) }
 {
     let mut folder = Vec::new(alloc);
     let mut rest = path;
@@ -68,7 +68,7 @@ fn walk<'a>(
     name: &'a str,
 ) -> Result<Option<String>, AllocError>
     ensures { IfOk result (λ found. option_map string_bytes found
-        ≡ found_path (steps (texts folder.entry.items) (segments name.now))) }
+        ≡ found_path (path_steps (path_texts folder.entry.items) (segments name.now))) }
 {
     let mut rest = name;
     while let Some((segment, after)) = cut(rest) {
@@ -86,8 +86,8 @@ fn walk<'a>(
 
 // Goes on by one segment. The answer is whether it leads anywhere.
 fn step<'a>(folder: &mut Vec<&'a str>, segment: &'a str) -> Result<bool, AllocError>
-    ensures { IfOk result (λ leads. step (texts folder.old.items) segment.now
-        ≡ cond leads (Some (texts folder.new.items)) None) }
+    ensures { IfOk result (λ leads. path_step (path_texts folder.old.items) segment.now
+        ≡ cond leads (Some (path_texts folder.new.items)) None) }
 {
     if segment == "" {
         return Ok(false);
@@ -104,7 +104,7 @@ fn step<'a>(folder: &mut Vec<&'a str>, segment: &'a str) -> Result<bool, AllocEr
 
 // The segments joined by `/`; `None` where there is none.
 fn path_text(alloc: Global, segments: &[&str]) -> Result<Option<String>, AllocError>
-    ensures { IfOk result (λ found. option_map string_bytes found ≡ path_text (texts segments.now)) }
+    ensures { IfOk result (λ found. option_map string_bytes found ≡ path_text (path_texts segments.now)) }
 {
     match segments.split_first() {
         Some((first, others)) => Ok(Some(joined(alloc, first, others)?)),
@@ -113,7 +113,7 @@ fn path_text(alloc: Global, segments: &[&str]) -> Result<Option<String>, AllocEr
 }
 
 fn joined(alloc: Global, first: &str, others: &[&str]) -> Result<String, AllocError>
-    ensures { IfOk result (λ text. string_bytes text ≡ join_with_byte 47 (first.now ∷ texts others.now)) }
+    ensures { IfOk result (λ text. string_bytes text ≡ join_with_byte 47 (first.now ∷ path_texts others.now)) }
 {
     let mut text = String::from_str(alloc, first)?;
     for segment in others {

@@ -3,7 +3,7 @@ ghost use Rattle.std.specs.Prelude.{◌≡◌, ℕ, List, None, IfOk, OnErr, OnO
 ghost use Rattle.std.specs.Cow.{cow_str_bytes};
 ghost use Rattle.upon_types.specs.View.{view};
 ghost use Rattle.upon_syntax.specs.TagReading.{IsSyntaxError};
-ghost use Rattle.upon_render.specs.Asked.{never};
+ghost use Rattle.upon_render.specs.Asked.{refuses_all};
 ghost use Rattle.upon_render.specs.Environment.{context};
 ghost use Rattle.upon_meaning_spec.specs.Alone.{alone};
 ghost use Rattle.upon_meaning_spec.specs.Engine.{rendering_by};
@@ -11,8 +11,8 @@ ghost use Rattle.upon_meaning_spec.specs.Outcome.{states};
 ghost use Rattle.upon_engine.specs.Engine.{engine_depth, engine_syntax, engine_templates};
 ghost use Rattle.upon_engine.specs.Template.{template_of};
 ghost use Rattle.upon_engine.specs.Theorem.{engine_meant};
-ghost use Rattle.upon_store.specs.Paths.{is_path, texts};
-ghost use Rattle.upon_store.specs.Stored.{from_store, paths, stored, AllStay, EndsAdding, HoldsTemplate, OthersStay, Renders, Rise};
+ghost use Rattle.upon_store.specs.Paths.{is_path, path_texts};
+ghost use Rattle.upon_store.specs.Stored.{from_store, paths, stored, AllStay, EndsAdding, HoldsTemplate, OthersStay, RendersStored, PathsRise};
 
 use crate::path::{is_path, resolve};
 use std::alloc::{AllocError, Global};
@@ -149,8 +149,8 @@ impl<'s> Store<'s> {
 
     /// Returns the paths of all templates, in ascending order.
     pub fn paths(&self) -> Result<Vec<&str>, AllocError>
-        ensures all { IfOk result (λ v. texts v.items ≡ paths self.now) }
-        ensures rise { IfOk result (λ v. Rise (texts v.items)) }
+        ensures all { IfOk result (λ v. path_texts v.items ≡ paths self.now) }
+        ensures rise { IfOk result (λ v. PathsRise (path_texts v.items)) }
     {
         let mut paths = Vec::new(self.alloc);
         for path in self.templates.keys() {
@@ -168,7 +168,7 @@ impl<'s> Store<'s> {
         value: &Value,
         writer: &mut W,
     ) -> Result<(), StoreError>
-        ensures means { Renders
+        ensures means { RendersStored
             (is_path path.now)
             (stored self.now path.now)
             (engine_depth engine.now)
@@ -177,7 +177,8 @@ impl<'s> Store<'s> {
             (W.contents writer.new)
             (λ t. alone (rendering_by
             (engine_meant (⟦<AnyEngine as EngineTexts>⟧.texts engine.now) (engine_templates engine.now))
-            never (from_store self.now path.now) None) t None (context (view value.now)) (states (tt {0}) (tt {0}))) }
+            refuses_all (from_store self.now path.now) None) t None (context (view value.now))
+            (states (tt {0}) (tt {0}))) }
     {
         if !is_path(path) {
             return Err(StoreError::BadPath);

@@ -13,18 +13,18 @@ use Rattle.upon_syntax.specs.Pieces.{BlockKind, else_after, else_if_after, close
 use Rattle.upon_syntax.specs.declared.compile.parse.open_blocks.Kind.{Kind}
 use Rattle.upon_syntax.specs.declared.compile.parse.open_blocks.Closing.{Closing}
 use Rattle.upon_syntax.specs.declared.compile.parse.open_blocks.Effect.TheVariants.{Opens, Closes, Nothing}
-use Rattle.upon_syntax.specs.OpenBlocks.{kind_of, closer_of, block_of, stack_from, innermost, kinds_of, new_block, with_block_opened, after_tag, HasEffect, IsTaken, IsUntaken}
+use Rattle.upon_syntax.specs.OpenBlocks.{block_kind, closer_view, block_of, stack_from, innermost_block, kinds_of, new_block, with_block_opened, after_tag, HasEffect, IsTaken, IsUntaken}
 
 pub stack_more : (stack : List OpenBlock) (bs cs : List CodeBlock) → stack_from stack (bs ++ cs) ≡ stack_from (stack_from stack bs) cs
 stack_more stack [] cs = refl
 stack_more stack (b ∷ bs) cs = stack_more (block_of b ∷ stack) bs cs
 
-last_from : (stack : List OpenBlock) (b : CodeBlock) (bs : List CodeBlock) → option_map block_of (slice_get (b ∷ bs) (length bs)) ≡ innermost (stack_from stack (b ∷ bs))
+last_from : (stack : List OpenBlock) (b : CodeBlock) (bs : List CodeBlock) → option_map block_of (slice_get (b ∷ bs) (length bs)) ≡ innermost_block (stack_from stack (b ∷ bs))
 last_from stack b [] = refl
 last_from stack b (c ∷ cs) = last_from (block_of b ∷ stack) c cs
 
 -- the innermost block is the last of the list
-pub innermost_last : (bs : List CodeBlock) → option_map block_of (slice_get bs (length bs - 1)) ≡ innermost (stack_from [] bs)
+pub innermost_last : (bs : List CodeBlock) → option_map block_of (slice_get bs (length bs - 1)) ≡ innermost_block (stack_from [] bs)
 innermost_last [] = refl
 innermost_last (b ∷ bs) = let same : length (b ∷ bs) - 1 ≡ length bs = omega arith in ap (λ (k : ℕ). option_map block_of (slice_get (b ∷ bs) k)) same ∙ last_from [] b bs
 
@@ -75,7 +75,7 @@ else_begun (b ∷ bs) k r some e at =
     ∙ ap (λ (y : CodeBlock). block_of (marked y) ∷ stack_from [] x.0) same
     ∙ sym (ap (after_closer plain_else) (ap (stack_from []) all ∙ stack_more [] x.0 (x.1 ∷ [])))
 
-takes_first : (stack : List OpenBlock) (o : OpenBlock) (closer : Closer) → innermost stack ≡ Some o → block_takes o.kind o.has_else closer ≡ takes stack closer
+takes_first : (stack : List OpenBlock) (o : OpenBlock) (closer : Closer) → innermost_block stack ≡ Some o → block_takes o.kind o.has_else closer ≡ takes stack closer
 takes_first [] o closer e = absurd cc
 takes_first (p ∷ stack) o closer e = let same : p ≡ o = cc in ap (λ (x : OpenBlock). block_takes x.kind x.has_else closer) (sym same)
 
@@ -147,7 +147,7 @@ none_done tag span stack e = (
 )
 
 -- it opens a block
-pub one_opened : (tag : BlockTag) (kind : Kind) (span : Span) (stack next : List OpenBlock) → HasEffect tag (Opens kind) → next ≡ new_block (kind_of kind) span ∷ stack → IsTaken tag stack × (next ≡ after_tag tag span stack)
+pub one_opened : (tag : BlockTag) (kind : Kind) (span : Span) (stack next : List OpenBlock) → HasEffect tag (Opens kind) → next ≡ new_block (block_kind kind) span ∷ stack → IsTaken tag stack × (next ≡ after_tag tag span stack)
 one_opened tag kind span stack next e is = (
   λ closer some. absurd (let none = e.1 in cc),
   is ∙ sym (λ i. with_block_opened (e.0 i) span (by_closer (e.1 i) stack)),
@@ -155,13 +155,13 @@ one_opened tag kind span stack next e is = (
 
 -- it closes one, or goes on with it, if that is taken
 pub one_taken : (tag : BlockTag) (closer : Closing) (span : Span) (stack next : List OpenBlock) (untaken : Option Closing) → HasEffect tag (Closes closer)
-    → MatchOption untaken ((takes stack (closer_of closer) ≡ true) × (next ≡ after_closer (closer_of closer) stack)) (λ refused. (refused ≡ closer) × (takes stack (closer_of closer) ≡ false))
+    → MatchOption untaken ((takes stack (closer_view closer) ≡ true) × (next ≡ after_closer (closer_view closer) stack)) (λ refused. (refused ≡ closer) × (takes stack (closer_view closer) ≡ false))
     → MatchOption untaken (IsTaken tag stack × (next ≡ after_tag tag span stack)) (IsUntaken tag stack)
 one_taken tag closer span stack next None e h = (
-  λ other some. let closing = e.1 in let same : closer_of closer ≡ other = cc in ap (takes stack) (sym same) ∙ h.0,
+  λ other some. let closing = e.1 in let same : closer_view closer ≡ other = cc in ap (takes stack) (sym same) ∙ h.0,
   h.1 ∙ sym (λ i. with_block_opened (e.0 i) span (by_closer (e.1 i) stack)),
 )
 one_taken tag closer span stack next (Some refused) e h = (
-  e.1 ∙ ap (λ (x : Closing). Some (closer_of x)) (sym h.0),
-  ap (λ (x : Closing). takes stack (closer_of x)) h.0 ∙ h.1,
+  e.1 ∙ ap (λ (x : Closing). Some (closer_view x)) (sym h.0),
+  ap (λ (x : Closing). takes stack (closer_view x)) h.0 ∙ h.1,
 )

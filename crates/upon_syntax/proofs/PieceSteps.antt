@@ -13,7 +13,7 @@ use Rattle.upon_language_spec.specs.Shown.{shown_span, shown_lexemes, begin_trim
 use Rattle.upon_language_spec.specs.Tokens.{significant}
 use Rattle.upon_language_spec.proofs.GivenTokens.Shown.{next_trims}
 use Rattle.upon_language_spec.proofs.NoTreeWithFault.ReadBefore.{Ended, read_before}
-use Rattle.upon_language_spec.specs.ClosingTags.{AllTaken, Known}
+use Rattle.upon_language_spec.specs.ClosingTags.{AllTaken, ReadTagsTaken}
 use Rattle.upon_language_spec.proofs.NoTreeWithFault.TagBlocks.{Walks, walks_nothing, walks_one}
 use Rattle.upon_language_spec.proofs.OneCut.Cut.{cut_ends, cut_joined, takes_some}
 use Rattle.upon_language_spec.proofs.Totality.InsideClear.{last_more}
@@ -22,13 +22,13 @@ use Rattle.upon_language_spec.proofs.Totality.Stage.{outside_is_clear}
 use Rattle.upon_instructions.specs.declared.types.program.Instr.{Instr as CodeInstr}
 use Rattle.upon_syntax.specs.declared.compile.parse.piece.Piece.{Piece as CodePiece}
 use Rattle.upon_syntax.specs.OpenBlocks.{kinds_of}
-use Rattle.upon_syntax.specs.PieceReading.{ReadTo, BetweenPieces, token_lexeme, TokenGiven, ReadsOn, PassesComment, PieceRead, PiecesSoFar, PieceFound, GoesFurther}
-use Rattle.upon_syntax.specs.Pieces.{Piece, raw_piece, BlockKind, ArePieces, LeaveOpen}
+use Rattle.upon_syntax.specs.PieceReading.{ReadTo, BetweenPieces, token_lexeme, TokenGiven, ReadsOnPieces, PassesComment, PieceRead, PiecesSoFar, PieceFound, GoesFurther}
+use Rattle.upon_syntax.specs.Pieces.{TemplatePiece, raw_piece, BlockKind, ArePieces, LeaveOpen}
 use Rattle.upon_syntax.specs.TagReading.{HasPieces}
 use Rattle.upon_syntax.proofs.CutParts.{cut_rest}
 use Rattle.upon_syntax.proofs.NextTokens.{same_state, reads_in, stage_of, Step, step_of, read_on, below_end}
 
-leaves_more : (a b c : List BlockKind) (xs ys : List Piece) → LeaveOpen a xs b → LeaveOpen b ys c → LeaveOpen a (xs ++ ys) c
+leaves_more : (a b c : List BlockKind) (xs ys : List TemplatePiece) → LeaveOpen a xs b → LeaveOpen b ys c → LeaveOpen a (xs ++ ys) c
 leaves_more a b c [] ys h k = let F : List BlockKind → Type 0 = λ x. LeaveOpen x ys c in subst F (sym h) k
 leaves_more a b c (x ∷ xs) ys h k = (h.0, h.1, leaves_more h.0 b c xs ys h.2 k)
 
@@ -54,7 +54,7 @@ module _ (delimiters : List DelimiterText) (s : List ℕ) (texts : HasTexts deli
     blocks_on : open_blocks s (significant (ls ++ l ∷ ks)) ≡ next
     blocks_on = ap (open_blocks s) tokens ∙ blocks_append s [] (significant ls) all ended between.known ∙ ap (λ (x : List OpenBlock). blocks_from s x all) between.blocks ∙ walks.0
 
-    known_on : Known s (ls ++ l ∷ ks)
+    known_on : ReadTagsTaken s (ls ++ l ∷ ks)
     known_on =
         let F : List Lexeme → Type 0 = λ x. AllTaken s [] x in
         let G : List OpenBlock → Type 0 = λ x. AllTaken s x all in
@@ -63,9 +63,9 @@ module _ (delimiters : List DelimiterText) (s : List ℕ) (texts : HasTexts deli
     cut_on : Cut delimiters s outside before.offset (l ∷ ks) outside after.offset
     cut_on = cut_rest delimiters s outside outside outside 0 before.offset after.offset ls (l ∷ ks) reads_before (reads_in delimiters s after outside (ls ++ l ∷ ks) read_to)
 
-    pub build : (found : List Piece) → LeaveOpen (kinds_of stack) found (kinds_of next)
-        → ((rest : List Lexeme) (pieces : List Piece) → Cut delimiters s outside after.offset rest outside (length s) → ArePieces s pieces (significant (shown_lexemes s after.trims rest)) [] → ArePieces s (found ++ pieces) (significant (shown_lexemes s before.trims ((l ∷ ks) ++ rest))) [])
-        → ReadsOn delimiters s before after stack next ls found
+    pub build : (found : List TemplatePiece) → LeaveOpen (kinds_of stack) found (kinds_of next)
+        → ((rest : List Lexeme) (pieces : List TemplatePiece) → Cut delimiters s outside after.offset rest outside (length s) → ArePieces s pieces (significant (shown_lexemes s after.trims rest)) [] → ArePieces s (found ++ pieces) (significant (shown_lexemes s before.trims ((l ∷ ks) ++ rest))) [])
+        → ReadsOnPieces delimiters s before after stack next ls found
     build found leaves reads = record {
       more = l ∷ ks;
       further = takes_some delimiters s texts outside outside before.offset after.offset l ks cut_on;
@@ -92,7 +92,7 @@ module _ (delimiters : List DelimiterText) (s : List ℕ) (texts : HasTexts deli
       (subst F same between, ap (λ (x : LexerState). x.offset) (sym same) ∙ h.0)
 
   -- ---- a raw part
-  raw_given : (before after : LexerState) (stack : List OpenBlock) (ls : List Lexeme) (span : Span) (x : TokenGiven delimiters s before after stack ls Raw span) → ReadsOn delimiters s before after stack stack ls (raw_piece span ∷ [])
+  raw_given : (before after : LexerState) (stack : List OpenBlock) (ls : List Lexeme) (span : Span) (x : TokenGiven delimiters s before after stack ls Raw span) → ReadsOnPieces delimiters s before after stack stack ls (raw_piece span ∷ [])
   raw_given before after stack ls span x =
       let l = token_lexeme Raw x.hyphen x.at in
       let r = x.between.read_to in
@@ -110,7 +110,7 @@ module _ (delimiters : List DelimiterText) (s : List ℕ) (texts : HasTexts deli
       (significant (shown_lexemes s false rest), record { lexeme = y; is = refl; of_token = refl; at = sym shown }, subst G (trims_of delimiters s after ls l x.read) are))
 
   -- a token outside tags that begins nothing is a raw part
-  pub raw_on : (before after : LexerState) (stack : List OpenBlock) (ls : List Lexeme) (token : Token) (span : Span) → (token ≡ BeginExpr → ⊥) → (token ≡ BeginBlock → ⊥) → (token ≡ BeginComment → ⊥) → TokenGiven delimiters s before after stack ls token span → ReadsOn delimiters s before after stack stack ls (raw_piece span ∷ [])
+  pub raw_on : (before after : LexerState) (stack : List OpenBlock) (ls : List Lexeme) (token : Token) (span : Span) → (token ≡ BeginExpr → ⊥) → (token ≡ BeginBlock → ⊥) → (token ≡ BeginComment → ⊥) → TokenGiven delimiters s before after stack ls token span → ReadsOnPieces delimiters s before after stack stack ls (raw_piece span ∷ [])
   raw_on before after stack ls token span no_expr no_block no_comment x = by_step step.step
     where
       step : Step delimiters s before after outside (token_lexeme token x.hyphen x.at)
@@ -121,12 +121,12 @@ module _ (delimiters : List DelimiterText) (s : List ℕ) (texts : HasTexts deli
       no_begin block e = no_block e
       no_begin comment e = no_comment e
 
-      by_step : IsToken delimiters s outside token x.hyphen before.offset x.at.n → ReadsOn delimiters s before after stack stack ls (raw_piece span ∷ [])
+      by_step : IsToken delimiters s outside token x.hyphen before.offset x.at.n → ReadsOnPieces delimiters s before after stack stack ls (raw_piece span ∷ [])
       by_step (inl raw) = let F : Token → Type 0 = λ t. TokenGiven delimiters s before after stack ls t span in raw_given before after stack ls span (subst F raw.0 x)
       by_step (inr begin) = absurd (no_begin begin.0 begin.1)
 
   -- ---- a comment
-  pub comment_on : (before mid after : LexerState) (stack : List OpenBlock) (ls : List Lexeme) (span : Span) (x : TokenGiven delimiters s before mid stack ls BeginComment span) → PassesComment delimiters s after (ls ++ token_lexeme BeginComment x.hyphen x.at ∷ []) → ReadsOn delimiters s before after stack stack ls []
+  pub comment_on : (before mid after : LexerState) (stack : List OpenBlock) (ls : List Lexeme) (span : Span) (x : TokenGiven delimiters s before mid stack ls BeginComment span) → PassesComment delimiters s after (ls ++ token_lexeme BeginComment x.hyphen x.at ∷ []) → ReadsOnPieces delimiters s before after stack stack ls []
   comment_on before mid after stack ls span x c =
       let b = token_lexeme BeginComment x.hyphen x.at in
       let r = token_lexeme Raw c.raw.hyphen c.raw.span in
@@ -143,7 +143,7 @@ module _ (delimiters : List DelimiterText) (s : List ℕ) (texts : HasTexts deli
 
   -- ---- the pieces so far
   -- after one more
-  pub so_far_on : (before after : LexerState) (stack next : List OpenBlock) (found more : List Piece) (x : PiecesSoFar delimiters s before stack found) → ReadsOn delimiters s before after stack next x.lexemes more → GoesFurther delimiters s before after next (found ++ more)
+  pub so_far_on : (before after : LexerState) (stack next : List OpenBlock) (found more : List TemplatePiece) (x : PiecesSoFar delimiters s before stack found) → ReadsOnPieces delimiters s before after stack next x.lexemes more → GoesFurther delimiters s before after next (found ++ more)
   so_far_on before after stack next found more x y = record {
     further = y.further;
     within = within after outside (x.lexemes ++ y.more) y.between.read_to;
@@ -154,20 +154,20 @@ module _ (delimiters : List DelimiterText) (s : List ℕ) (texts : HasTexts deli
       reads = λ rest pieces cut are.
           let whole = cut_joined delimiters s outside outside outside before.offset after.offset (length s) y.more rest y.cut cut in
           let joined = x.reads (y.more ++ rest) (more ++ pieces) whole (y.reads rest pieces cut are) in
-          let F : List Piece → Type 0 = λ z. ArePieces s z (significant (shown_lexemes s false (x.lexemes ++ (y.more ++ rest)))) [] in
+          let F : List TemplatePiece → Type 0 = λ z. ArePieces s z (significant (shown_lexemes s false (x.lexemes ++ (y.more ++ rest)))) [] in
           let G : List Lexeme → Type 0 = λ z. ArePieces s ((found ++ more) ++ pieces) (significant (shown_lexemes s false z)) [] in
           subst G (sym (append_assoc x.lexemes y.more rest)) (subst F (sym (append_assoc found more pieces)) joined);
     };
   }
 
-  pub found_on : (before after : LexerState) (stack next : List OpenBlock) (found : List Piece) (old new : List CodeInstr) (kept : CodePiece) (x : PiecesSoFar delimiters s before stack found) → PieceRead delimiters s before after stack next x.lexemes old new kept → PieceFound delimiters s before after next found old new kept
+  pub found_on : (before after : LexerState) (stack next : List OpenBlock) (found : List TemplatePiece) (old new : List CodeInstr) (kept : CodePiece) (x : PiecesSoFar delimiters s before stack found) → PieceRead delimiters s before after stack next x.lexemes old new kept → PieceFound delimiters s before after next found old new kept
   found_on before after stack next found old new kept x y = record { piece = y.piece; gone = so_far_on before after stack next found (y.piece ∷ []) x y.reads; keeps = y.keeps; code = y.code }
 
   -- all of them
-  pub all_found : (left : LexerState) (stack : List OpenBlock) (found : List Piece) → PiecesSoFar delimiters s left stack found → left.offset ≡ length s → stack ≡ [] → HasPieces delimiters s found × LeaveOpen [] found []
+  pub all_found : (left : LexerState) (stack : List OpenBlock) (found : List TemplatePiece) → PiecesSoFar delimiters s left stack found → left.offset ≡ length s → stack ≡ [] → HasPieces delimiters s found × LeaveOpen [] found []
   all_found left stack found x eof none =
       let reads = x.reads [] [] (refl, eof) refl in
-      let F : List Piece → Type 0 = λ z. ArePieces s z (significant (shown_lexemes s false (x.lexemes ++ []))) [] in
+      let F : List TemplatePiece → Type 0 = λ z. ArePieces s z (significant (shown_lexemes s false (x.lexemes ++ []))) [] in
       let G : List Lexeme → Type 0 = λ z. ArePieces s found (significant (shown_lexemes s false z)) [] in
       let H : ℕ → Type 0 = λ n. Cut delimiters s outside 0 x.lexemes outside n in
       let J : List OpenBlock → Type 0 = λ z. LeaveOpen [] found (kinds_of z) in (

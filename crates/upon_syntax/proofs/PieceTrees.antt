@@ -11,7 +11,7 @@ use Rattle.upon_machine_spec.specs.Code.{expression_code}
 use Rattle.upon_tag_parser.specs.BlockTags.{BlockTag, if_tag, else_if_tag, else_tag, endif_tag, for_tag, endfor_tag, with_tag, endwith_tag, include_tag, IsBlockTag}
 use Rattle.upon_compiler.specs.Events.{Event, if_event, else_if_event, else_event, endif_event, for_event, endfor_event, with_event, endwith_event}
 use Rattle.upon_compiler.specs.Told.{IsTold, AreTold, IsElseTold, IsForElseTold}
-use Rattle.upon_syntax.specs.Pieces.{Piece, raw_piece, inline_piece, block_piece, IsPiece, ArePieces, BlockKind, else_after, else_if_after, closed_after, blocks_after_tag, blocks_after, LeaveOpen}
+use Rattle.upon_syntax.specs.Pieces.{TemplatePiece, raw_piece, inline_piece, block_piece, IsPiece, ArePieces, BlockKind, else_after, else_if_after, closed_after, blocks_after_tag, blocks_after, LeaveOpen}
 use Rattle.upon_syntax.specs.Told.{tag_event, event_of, events_of}
 
 -- the tokens up to the rest, and what is told up to what is left, are the end of an open block: its end tag, and before that
@@ -178,7 +178,7 @@ tag_before s (include_tag name None) kinds next before mid told is opens r =
 tag_before s (include_tag name (Some e)) kinds next before mid told is opens r =
     statement_first s kinds (include name (Some e)) before mid (tag_event (include_tag name (Some e)) ∷ told) told is refl (same_blocks s kinds next mid told opens r)
 
-piece_before : (s : List ℕ) (piece : Piece) (kinds next : List BlockKind) (before mid : List Lexeme) (told : List Event) → IsPiece s piece before mid → blocks_after piece kinds ≡ Some next → IsTail s next mid told → IsTail s kinds before (event_of piece ∷ told)
+piece_before : (s : List ℕ) (piece : TemplatePiece) (kinds next : List BlockKind) (before mid : List Lexeme) (told : List Event) → IsPiece s piece before mid → blocks_after piece kinds ≡ Some next → IsTail s next mid told → IsTail s kinds before (event_of piece ∷ told)
 piece_before s (raw_piece span) kinds next before mid told is opens r =
     statement_first s kinds (raw span) before mid (event_of (raw_piece span) ∷ told) told is refl (same_blocks s kinds next mid told opens r)
 piece_before s (inline_piece e span) kinds next before mid told is opens r =
@@ -186,12 +186,12 @@ piece_before s (inline_piece e span) kinds next before mid told is opens r =
 piece_before s (block_piece tag) kinds next before mid told is opens r = tag_before s tag kinds next before mid told is opens r
 
 -- pieces that close these open blocks are such a tail
-tail_of_pieces : (s : List ℕ) (kinds : List BlockKind) (pieces : List Piece) (before : List Lexeme) → ArePieces s pieces before [] → LeaveOpen kinds pieces [] → IsTail s kinds before (events_of pieces)
+tail_of_pieces : (s : List ℕ) (kinds : List BlockKind) (pieces : List TemplatePiece) (before : List Lexeme) → ArePieces s pieces before [] → LeaveOpen kinds pieces [] → IsTail s kinds before (events_of pieces)
 tail_of_pieces s kinds [] before are leaves =
     let F : List BlockKind → Type 0 = λ v. IsTail s v before [] in subst F (sym leaves) (no_statements, are, refl)
 tail_of_pieces s kinds (piece ∷ pieces) before are leaves =
     piece_before s piece kinds leaves.0 before are.0 (events_of pieces) are.1 leaves.1 (tail_of_pieces s leaves.0 pieces are.0 are.2 leaves.2)
 
 -- pieces with no open block before or after them have a tree, and a compiler that is told of them is told of that tree
-pub tree_of_pieces : (s : List ℕ) (pieces : List Piece) (before : List Lexeme) → ArePieces s pieces before [] → LeaveOpen [] pieces [] → (tree : Statements) × AreStatements s tree before [] × AreTold tree (events_of pieces) []
+pub tree_of_pieces : (s : List ℕ) (pieces : List TemplatePiece) (before : List Lexeme) → ArePieces s pieces before [] → LeaveOpen [] pieces [] → (tree : Statements) × AreStatements s tree before [] × AreTold tree (events_of pieces) []
 tree_of_pieces s pieces before are leaves = tail_of_pieces s [] pieces before are leaves

@@ -34,7 +34,7 @@ use Rattle.upon_language_spec.proofs.Totality.InsideClear.{LiteralsFine, inside_
 use Rattle.upon_syntax.specs.declared.compile.parse.tag_tokens.Ended.{Ended}
 use Rattle.upon_tag_parser.specs.TagTokens.{EachTagToken}
 use Rattle.upon_syntax.specs.TagEnds.{DenotesNothing}
-use Rattle.upon_syntax.specs.TagFaults.{TagRead}
+use Rattle.upon_syntax.specs.TagFaults.{TagWasRead}
 use Rattle.upon_syntax.proofs.CutParts.{TwoCuts, cut_split, cut_rest}
 
 -- ---- literals are fine after the tag's begin too, which is no sign
@@ -85,7 +85,7 @@ inside_mode delimiters s sort path mode m n (l ∷ ls) h cut =
     let F : Mode → Type 0 = λ x. Cut delimiters s x l.span.n ls mode n in
     inside_mode delimiters s sort (in_path_after path l.token) mode l.span.n n ls h.1 (subst F (inside_stays sort path l.token h.0) cut.2)
 
-module _ (delimiters : List DelimiterText) (s : List ℕ) (sort : Sort) (ls : List Lexeme) (from : List Part) (tokens : List Lexeme) (after : LexerState) (ended : Ended) (t : TagRead delimiters s sort ls from tokens after ended) where
+module _ (delimiters : List DelimiterText) (s : List ℕ) (sort : Sort) (ls : List Lexeme) (from : List Part) (tokens : List Lexeme) (after : LexerState) (ended : Ended) (t : TagWasRead delimiters s sort ls from tokens after ended) where
   abbrev pub left : LexerState
   left = t.reads.left
 

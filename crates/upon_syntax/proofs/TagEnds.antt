@@ -18,7 +18,7 @@ use Rattle.upon_instructions.specs.declared.types.program.Instr.{Instr as CodeIn
 use Rattle.upon_lexer.specs.declared.compile.lex.Lexer.{Lexer}
 use Rattle.upon_lexer.specs.Lexers.{lexer_text, lexer_delimiters, lexer_state, ReadSoFar}
 use Rattle.upon_syntax.specs.OpenBlocks.{closed_by, after_tag, IsTaken}
-use Rattle.upon_syntax.specs.PieceReading.{token_lexeme, TokenGiven, ReadsOn}
+use Rattle.upon_syntax.specs.PieceReading.{token_lexeme, TokenGiven, ReadsOnPieces}
 use Rattle.upon_tag_parser.specs.declared.compile.parse.tag.Tag.{Tag}
 use Rattle.upon_syntax.specs.Pieces.{inline_piece, block_piece}
 use Rattle.upon_syntax.specs.TagReading.{AfterBegin, AfterEnd}
@@ -68,7 +68,7 @@ module _ (lexer : Lexer) (texts : HasTexts (lexer_delimiters lexer)) (before : L
 
     pub inline_step : (x : TokenGiven (lexer_delimiters lexer) (lexer_text lexer) before (lexer_state lexer) stack ls BeginExpr begin) (to : ℕ) (old new : List CodeInstr)
         (a : AfterEnd lexer after expression (ls ++ token_lexeme BeginExpr x.hyphen x.at ∷ []) to (λ tokens. HoldsInline (lexer_text lexer) tokens old new))
-        → ReadsOn (lexer_delimiters lexer) (lexer_text lexer) before (lexer_state after) stack stack ls (inline_piece a.tokens.tree (span_of x.at.m a.ends.to) ∷ [])
+        → ReadsOnPieces (lexer_delimiters lexer) (lexer_text lexer) before (lexer_state after) stack stack ls (inline_piece a.tokens.tree (span_of x.at.m a.ends.to) ∷ [])
     inline_step x to old new a = inline_on (lexer_delimiters lexer) (lexer_text lexer) texts before (lexer_state lexer) (lexer_state after) stack ls begin x a.inner a.each a.path a.offset a.ends (read_back _ a.read) a.tokens.tree a.tokens.inside
 
     module _ (utf8 : HasUtf8 (lexer_delimiters lexer)) (text : IsUtf8 (lexer_text lexer)) (x : TokenGiven (lexer_delimiters lexer) (lexer_text lexer) before (lexer_state lexer) stack ls BeginBlock begin) (tag : Tag) (span : Span) (old new : List CodeInstr)
@@ -76,10 +76,10 @@ module _ (lexer : Lexer) (texts : HasTexts (lexer_delimiters lexer)) (before : L
       same_span : span ≡ span_of x.at.m a.ends.to
       same_span = span_is x.at span a.ends.to x.given start a.at
 
-      pub block_step : (next : List OpenBlock) → IsTaken a.tokens.tree stack → next ≡ after_tag a.tokens.tree span stack → ReadsOn (lexer_delimiters lexer) (lexer_text lexer) before (lexer_state after) stack next ls (block_piece a.tokens.tree ∷ [])
+      pub block_step : (next : List OpenBlock) → IsTaken a.tokens.tree stack → next ≡ after_tag a.tokens.tree span stack → ReadsOnPieces (lexer_delimiters lexer) (lexer_text lexer) before (lexer_state after) stack next ls (block_piece a.tokens.tree ∷ [])
       block_step next taken is =
           let told = a.tokens.tree in
-          let F : List OpenBlock → Type 0 = λ y. ReadsOn (lexer_delimiters lexer) (lexer_text lexer) before (lexer_state after) stack y ls (block_piece told ∷ []) in
+          let F : List OpenBlock → Type 0 = λ y. ReadsOnPieces (lexer_delimiters lexer) (lexer_text lexer) before (lexer_state after) stack y ls (block_piece told ∷ []) in
           subst F (sym (is ∙ ap (λ (y : Span). after_tag told y stack) same_span)) (block_on (lexer_delimiters lexer) (lexer_text lexer) texts utf8 text before (lexer_state lexer) (lexer_state after) stack ls begin x a.inner a.each a.path a.offset a.ends (read_back _ a.read) told a.tokens.inside taken)
 
       pub untaken_first : (closer : Closer) → closed_by a.tokens.tree ≡ Some closer → takes stack closer ≡ false → IsFirstFault (lexer_delimiters lexer) (lexer_text lexer) span (codes "unexpected " ++ (in_quotes (closer_words closer) ++ codes " block"))

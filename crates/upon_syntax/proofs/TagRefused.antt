@@ -12,7 +12,7 @@ use Rattle.upon_language_spec.specs.Delimiters.{Sort, expression, block, comment
 use Rattle.upon_language_spec.specs.Cut.{Lexeme, outside, in_tag, IsToken}
 use Rattle.upon_language_spec.specs.Tokens.{is_space, without_spaces}
 use Rattle.upon_language_spec.specs.Tags.{symbols_of, word_of}
-use Rattle.upon_language_spec.specs.Keys.{Key, key_of}
+use Rattle.upon_language_spec.specs.Keys.{Key, keyword_of}
 use Rattle.upon_language_spec.specs.Faults.{span_of, lexeme_at}
 use Rattle.upon_language_spec.specs.LaterFaults.{Report}
 use Rattle.upon_language_spec.specs.CutFaults.{ClearTo}
@@ -113,7 +113,7 @@ module _ (delimiters : List DelimiterText) (s : List ℕ) (want : Want) (tokens_
     ends_by x e = subst Ends e g.tag.reads.ends
 
     -- the token that is read next
-    at_token : (l : Lexed) (hyphen : Bool) → l.span.m ≡ here → IsToken delimiters s (in_tag g.sort g.tag.reads.reads.path) l.token hyphen here l.span.n → ClearTo delimiters s l.span.n → is_space l.token ≡ false → after g.to l.token (key_of (word_of s l.token (span_of here l.span.n))) ≡ None → (e : Error) → OrMemory (token_fault s (wanted_of want) l) (fault_of e) → IsSyntaxError delimiters s e
+    at_token : (l : Lexed) (hyphen : Bool) → l.span.m ≡ here → IsToken delimiters s (in_tag g.sort g.tag.reads.reads.path) l.token hyphen here l.span.n → ClearTo delimiters s l.span.n → is_space l.token ≡ false → after g.to l.token (keyword_of (word_of s l.token (span_of here l.span.n))) ≡ None → (e : Error) → OrMemory (token_fault s (wanted_of want) l) (fault_of e) → IsSyntaxError delimiters s e
     at_token l hyphen from step clear counts refused e fault =
         let at : span_of here l.span.n ≡ l.span = λ i. record { m = sym from i; n = l.span.n } in
         let F : Span → Type 0 = λ x. IsFirstFault delimiters s x (reason_for (wanted_of want) l.token (word_of s l.token x)) in
@@ -139,10 +139,10 @@ module _ (delimiters : List DelimiterText) (s : List ℕ) (want : Want) (tokens_
         by_sort block k h r = (r k).1
         by_sort comment k h r = absurd cc
 
-        by_refused : Refuses s g.to (lexemes_of tokens_left) ⊎ ((tokens_left ≡ []) × (tag_end ended ≡ None)) → after g.to l.token (key_of (word_of s l.token (span_of here l.span.n))) ≡ None
+        by_refused : Refuses s g.to (lexemes_of tokens_left) ⊎ ((tokens_left ≡ []) × (tag_end ended ≡ None)) → after g.to l.token (keyword_of (word_of s l.token (span_of here l.span.n))) ≡ None
         by_refused (inl refused) =
             let F : List Lexed → Type 0 = λ x. Refuses s g.to (lexemes_of x) in
-            ap (λ (t : Token). after g.to t (key_of (word_of s l.token (span_of here l.span.n)))) end.of_token ∙ by_sort g.sort (key_of (word_of s l.token (span_of here l.span.n))) g.tag.of_tag (subst F empty refused)
+            ap (λ (t : Token). after g.to t (keyword_of (word_of s l.token (span_of here l.span.n)))) end.of_token ∙ by_sort g.sort (keyword_of (word_of s l.token (span_of here l.span.n))) g.tag.of_tag (subst F empty refused)
         by_refused (inr none) = let no : Some l ≡ None = sym (ap tag_end is) ∙ none.1 in absurd (cc)
 
     -- the text can't be cut further, or there was no memory
@@ -169,10 +169,10 @@ module _ (delimiters : List DelimiterText) (s : List ℕ) (want : Want) (tokens_
       placed : l.span ≡ span_of here l.span.n
       placed = λ i. record { m = wrong.from i; n = l.span.n }
 
-      by_word : Decided l.token (Some (wanted_of want)) (after g.to l.token (key_of (word_of s l.token (span_of here l.span.n))))
+      by_word : Decided l.token (Some (wanted_of want)) (after g.to l.token (keyword_of (word_of s l.token (span_of here l.span.n))))
       by_word =
-          let F : Option Wanted → Type 0 = λ o. Decided l.token o (after g.to l.token (key_of (word_of s l.token (span_of here l.span.n)))) in
-          subst F g.wants (decided s (last_or None g.tokens) l.token l.span (report_of refusal) g.to (key_of (word_of s l.token (span_of here l.span.n))) wrong.wrong)
+          let F : Option Wanted → Type 0 = λ o. Decided l.token o (after g.to l.token (keyword_of (word_of s l.token (span_of here l.span.n)))) in
+          subst F g.wants (decided s (last_or None g.tokens) l.token l.span (report_of refusal) g.to (keyword_of (word_of s l.token (span_of here l.span.n))) wrong.wrong)
 
       pub refused_literal : fits_word l.token (wanted_of want) ≡ true → OrMemory (syntax_fault s refusal.span (literal_reason refusal.fault)) (fault_of e) → IsSyntaxError delimiters s e
       refused_literal fits fault =

@@ -32,9 +32,9 @@ use Rattle.upon_language_spec.proofs.Totality.Pieces.{Plain, plain_inside, plain
 use Rattle.upon_language_spec.proofs.Totality.Stage.{on}
 use Rattle.upon_language_spec.proofs.Totality.WholeTag.{ended_tag}
 use Rattle.upon_syntax.specs.OpenBlocks.{kinds_of, closed_by, after_tag, IsTaken}
-use Rattle.upon_syntax.specs.PieceReading.{ReadTo, token_lexeme, TokenGiven, ReadsOn}
+use Rattle.upon_syntax.specs.PieceReading.{ReadTo, token_lexeme, TokenGiven, ReadsOnPieces}
 use Rattle.upon_tag_parser.specs.BlockTags.{BlockTag, IsBlockTag}
-use Rattle.upon_syntax.specs.Pieces.{Piece, inline_piece, block_piece, IsPiece, ArePieces, LeaveOpen}
+use Rattle.upon_syntax.specs.Pieces.{TemplatePiece, inline_piece, block_piece, IsPiece, ArePieces, LeaveOpen}
 use Rattle.upon_tag_parser.specs.WholeTags.{IsInlineTag, IsTagInside}
 use Rattle.upon_syntax.proofs.BlockTags.{tag_walks, tag_closer}
 use Rattle.upon_syntax.proofs.CutParts.{cut_rest}
@@ -97,7 +97,7 @@ module _ (delimiters : List DelimiterText) (s : List ℕ) (texts : HasTexts deli
           ∙ sym (append_assoc (without_spaces (l ∷ inner)) (end ∷ []) left)
 
       -- a tag that is a piece, and leads from the open blocks to others
-      tag_on : (next : List OpenBlock) (piece : Piece) → AllClear delimiters s e.to → Walks s stack all next [] → LeaveOpen (kinds_of stack) (piece ∷ []) (kinds_of next) → ((left : List Lexeme) → IsPiece s piece (all ++ left) left) → ReadsOn delimiters s before after stack next ls (piece ∷ [])
+      tag_on : (next : List OpenBlock) (piece : TemplatePiece) → AllClear delimiters s e.to → Walks s stack all next [] → LeaveOpen (kinds_of stack) (piece ∷ []) (kinds_of next) → ((left : List Lexeme) → IsPiece s piece (all ++ left) left) → ReadsOnPieces delimiters s before after stack next ls (piece ∷ [])
       tag_on next piece clear walks leaves is =
           build delimiters s texts before after stack next ls x.between l (inner ++ end ∷ []) all piece_is walks (read_to clear) (piece ∷ []) leaves (λ rest pieces cut are.
           let left = significant (shown_lexemes s (is_end end.token && end.hyphen) rest) in
@@ -125,7 +125,7 @@ module _ (delimiters : List DelimiterText) (s : List ℕ) (texts : HasTexts deli
       let after_end : Stage delimiters s (so_far ++ lexeme_at EndExpr e.hyphen offset e.to ∷ []) outside e.to = on delimiters s texts so_far (in_tag expression path) offset e.tag.stage EndExpr e.hyphen e.to step e.brackets fits in
       after_end.before
 
-  pub inline_on : (tree : Expression) → IsInlineTag s tree (without_spaces inner) → ReadsOn delimiters s before after stack stack ls (inline_piece tree (span_of x.at.m e.to) ∷ [])
+  pub inline_on : (tree : Expression) → IsInlineTag s tree (without_spaces inner) → ReadsOnPieces delimiters s before after stack stack ls (inline_piece tree (span_of x.at.m e.to) ∷ [])
   inline_on tree tag =
       let l = token_lexeme BeginExpr x.hyphen x.at in
       let end = lexeme_at EndExpr e.hyphen offset e.to in
@@ -162,7 +162,7 @@ module _ (delimiters : List DelimiterText) (s : List ℕ) (texts : HasTexts deli
   blocks_are : (between : open_blocks s (significant ls) ≡ stack) → open_blocks s (significant (before_tag tag_so_far)) ≡ stack
   blocks_are between = ap (λ (y : List Lexeme). open_blocks s (significant y)) (before_is delimiters s texts before mid after stack ls block span x inner each path offset e read refl refl refl) ∙ between
 
-  pub block_on : IsTaken tag stack → ReadsOn delimiters s before after stack (after_tag tag (span_of x.at.m e.to) stack) ls (block_piece tag ∷ [])
+  pub block_on : IsTaken tag stack → ReadsOnPieces delimiters s before after stack (after_tag tag (span_of x.at.m e.to) stack) ls (block_piece tag ∷ [])
   block_on taken =
       let stage = taken_end delimiters s texts utf8 text tag_so_far path offset e (λ closer h. ap (λ (y : List OpenBlock). takes y closer) (blocks_are x.between.blocks) ∙ taken closer (sym closer_is ∙ h)) in
       let walks = tag_walks s begin ending (without_spaces inner) (inside_left inner each) refl tag stack whole taken in

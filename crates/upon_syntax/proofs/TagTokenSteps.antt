@@ -24,7 +24,7 @@ use Rattle.upon_syntax.specs.declared.compile.parse.tag_tokens.Ended.TheVariants
 use Rattle.upon_tag_parser.specs.declared.compile.parse.literal_fault.Refusal.{Refusal}
 use Rattle.upon_tag_parser.specs.Literals.{lexeme_of}
 use Rattle.upon_tag_parser.specs.LiteralReasons.{report_of}
-use Rattle.upon_syntax.specs.TagEnds.{DenotesNothing, StopsAt, ReportsCut, ReadsOn, ReadsTokens, ReadsUpTo, EndsBy}
+use Rattle.upon_syntax.specs.TagEnds.{DenotesNothing, StopsAt, ReportsCut, ReadsOnTokens, ReadsTokens, ReadsUpTo, EndsBy}
 use Rattle.upon_tag_parser.specs.TagTokens.{IsTagToken, EachTagToken}
 use Rattle.upon_syntax.proofs.CutParts.{cut_rest}
 
@@ -70,7 +70,7 @@ module _ (delimiters : List DelimiterText) (s : List ℕ) (sort : Sort) (path : 
   spaces_stay m n mode' (k ∷ ks) h cut = let F : Mode → Type 0 = λ x. Cut delimiters s x k.span.n ks mode' n in spaces_stay k.span.n n mode' ks h.1 (subst F (space_stays sort path k.token h.0) cut.2)
 
   -- whitespace alone
-  pub reads_spaces : (spaces : List Lexeme) → EachIsSpace spaces → HasRead delimiters s after (ls ++ spaces) → ReadsOn delimiters s sort ls after []
+  pub reads_spaces : (spaces : List Lexeme) → EachIsSpace spaces → HasRead delimiters s after (ls ++ spaces) → ReadsOnTokens delimiters s sort ls after []
   reads_spaces spaces each more =
       let cut = cut_rest delimiters s outside left.mode after.mode 0 left.offset after.offset ls spaces read.reads more.reads in
       let F : Mode → Type 0 = λ x. Cut delimiters s x left.offset spaces after.mode after.offset in
@@ -83,7 +83,7 @@ module _ (delimiters : List DelimiterText) (s : List ℕ) (sort : Sort) (path : 
         let F : Mode → Type 0 = λ x. Cut delimiters s x left.offset g.spaces g.start.mode g.start.offset in
         spaces_stay left.offset g.start.offset g.start.mode g.spaces g.each (subst F mode cut)
 
-    abbrev after_spaces : ReadsOn delimiters s sort ls g.start []
+    abbrev after_spaces : ReadsOnTokens delimiters s sort ls g.start []
     after_spaces = record { inner = g.spaces; each = spaces_inside g.spaces g.each; path = path; mode = start_mode; read = g.has_read; same = no_spaces g.spaces g.each }
 
   -- the text can't be cut further
@@ -140,7 +140,7 @@ module _ (delimiters : List DelimiterText) (s : List ℕ) (sort : Sort) (path : 
     not_end h hyphen (inr inner) = inner
 
     -- a token inside
-    pub goes_on : is_inside token ≡ true → ReadsOn delimiters s sort ls after (lexeme_of (record { token = token; span = span }) ∷ [])
+    pub goes_on : is_inside token ≡ true → ReadsOnTokens delimiters s sort ls after (lexeme_of (record { token = token; span = span }) ∷ [])
     goes_on h =
         let inner = not_end h l.hyphen step in
         let inside : is_inside token ≡ true = extent_is_inside s token g.start.offset span.n inner.1.extent in
@@ -182,7 +182,7 @@ module _ (delimiters : List DelimiterText) (s : List ℕ) (sort : Sort) (path : 
     stops before Eof h = absurd h
 
 -- one part of the tag after another
-abbrev pub reads_then : (delimiters : List DelimiterText) (s : List ℕ) (sort : Sort) (ls : List Lexeme) (left after : LexerState) (tokens more : List Lexeme) (a : ReadsOn delimiters s sort ls left tokens) → ReadsOn delimiters s sort (ls ++ a.inner) after more → ReadsOn delimiters s sort ls after (tokens ++ more)
+abbrev pub reads_then : (delimiters : List DelimiterText) (s : List ℕ) (sort : Sort) (ls : List Lexeme) (left after : LexerState) (tokens more : List Lexeme) (a : ReadsOnTokens delimiters s sort ls left tokens) → ReadsOnTokens delimiters s sort (ls ++ a.inner) after more → ReadsOnTokens delimiters s sort ls after (tokens ++ more)
 reads_then delimiters s sort ls left after tokens more a b =
     let F : List Lexeme → Type 0 = λ x. HasRead delimiters s after x in
     record {
@@ -201,7 +201,7 @@ reads_more delimiters s before left after tokens more a b = λ sort path ls read
     reads_then delimiters s sort ls left after tokens more on (b sort on.path (ls ++ on.inner) on.read on.mode)
 
 -- and up to where the tokens end
-pub reads_up_to : (delimiters : List DelimiterText) (s : List ℕ) (sort : Sort) (ls : List Lexeme) (left after : LexerState) (tokens : List Lexeme) (before : Option Lexeme) (ended : Ended) (a : ReadsOn delimiters s sort ls left tokens) → ReadsUpTo delimiters s sort (ls ++ a.inner) [] before after ended → ReadsUpTo delimiters s sort ls tokens before after ended
+pub reads_up_to : (delimiters : List DelimiterText) (s : List ℕ) (sort : Sort) (ls : List Lexeme) (left after : LexerState) (tokens : List Lexeme) (before : Option Lexeme) (ended : Ended) (a : ReadsOnTokens delimiters s sort ls left tokens) → ReadsUpTo delimiters s sort (ls ++ a.inner) [] before after ended → ReadsUpTo delimiters s sort ls tokens before after ended
 reads_up_to delimiters s sort ls left after tokens before ended a b =
     let on = reads_then delimiters s sort ls left b.left tokens [] a b.reads in
     let F : List Lexeme → Type 0 = λ x. EndsBy delimiters s sort x b.reads.path before b.left after ended in
@@ -212,7 +212,7 @@ reads_up_to delimiters s sort ls left after tokens before ended a b =
     }
 
 -- before the first call nothing was read
-pub reads_start : (delimiters : List DelimiterText) (s : List ℕ) (sort : Sort) (path : Bool) (ls : List Lexeme) (left : LexerState) → HasRead delimiters s left ls → left.mode ≡ in_tag sort path → ReadsOn delimiters s sort ls left []
+pub reads_start : (delimiters : List DelimiterText) (s : List ℕ) (sort : Sort) (path : Bool) (ls : List Lexeme) (left : LexerState) → HasRead delimiters s left ls → left.mode ≡ in_tag sort path → ReadsOnTokens delimiters s sort ls left []
 reads_start delimiters s sort path ls left read mode =
     let F : List Lexeme → Type 0 = λ x. HasRead delimiters s left x in
     record { inner = []; each = tt; path = path; mode = mode; read = subst F (sym (append-nil ls)) read; same = refl }

@@ -13,7 +13,7 @@ use Rattle.upon_language_spec.specs.Delimiters.{Sort, expression, block, comment
 use Rattle.upon_language_spec.specs.Cut.{Lexeme, outside, in_tag}
 use Rattle.upon_language_spec.specs.Tokens.{is_space, without_spaces}
 use Rattle.upon_language_spec.specs.Tags.{symbol_of, symbols_of, word_of}
-use Rattle.upon_language_spec.specs.Keys.{Key, key_of}
+use Rattle.upon_language_spec.specs.Keys.{Key, keyword_of}
 use Rattle.upon_language_spec.specs.Reading.{first_span, open_brackets}
 use Rattle.upon_language_spec.specs.Literal.{sum_of_digits}
 use Rattle.upon_language_spec.specs.LiteralFaults.{index_value}
@@ -45,7 +45,7 @@ use Rattle.upon_tag_parser.specs.Wants.{wanted_of}
 use Rattle.upon_tag_parser.specs.WholeTags.{LeadsToEnd}
 use Rattle.upon_tag_parser.specs.TagTokens.{lexemes_of, IsTagToken, EachTagToken}
 use Rattle.upon_syntax.specs.TagEnds.{tag_end, ReadsEnd, EndsBy, ReadsUpTo}
-use Rattle.upon_syntax.specs.TagFaults.{FirstLies, TagRead, GoesNoFurther}
+use Rattle.upon_syntax.specs.TagFaults.{FirstLies, TagWasRead, GoesNoFurther}
 use Rattle.upon_syntax.specs.TagReading.{AfterBegin, AfterEnd}
 use Rattle.upon_syntax.proofs.CutParts.{cut_rest}
 use Rattle.upon_syntax.proofs.ReadTag.{each_after, from_all, reads_on, reached, stage, all_tokens}
@@ -84,9 +84,9 @@ inside_left (l ∷ ls) h = by_space (is_space l.token) (inside_left ls h.1)
 -- tokens inside a tag leave it open
 pub still_open : (s : List ℕ) (ls : List Lexeme) (from to : List Part) → EachInside ls → is_open from ≡ true → Path from (symbols_of s ls) to → is_open to ≡ true
 still_open s [] from to h open_now leads = ap is_open (sym leads) ∙ open_now
-still_open s (l ∷ ls) from to h open_now (next, taken, leads) = still_open s ls next to h.1 (open_on from next l.token (key_of (word_of s l.token l.span)) open_now (inside_ends_nothing l.token h.0) taken) leads
+still_open s (l ∷ ls) from to h open_now (next, taken, leads) = still_open s ls next to h.1 (open_on from next l.token (keyword_of (word_of s l.token l.span)) open_now (inside_ends_nothing l.token h.0) taken) leads
 
-module _ (delimiters : List DelimiterText) (s : List ℕ) (sort : Sort) (ls : List Lexeme) (from : List Part) (tokens : List Lexeme) (after_all : LexerState) (ended : Ended) (t : TagRead delimiters s sort ls from tokens after_all ended) (to : List Part) (leads : Path from (symbols_of s tokens) to) where
+module _ (delimiters : List DelimiterText) (s : List ℕ) (sort : Sort) (ls : List Lexeme) (from : List Part) (tokens : List Lexeme) (after_all : LexerState) (ended : Ended) (t : TagWasRead delimiters s sort ls from tokens after_all ended) (to : List Part) (leads : Path from (symbols_of s tokens) to) where
   abbrev here : ℕ
   here = t.reads.left.offset
 
@@ -150,7 +150,7 @@ module _ (delimiters : List DelimiterText) (s : List ℕ) (sort : Sort) (ls : Li
       ends = end.ends;
       brackets = end_fits sort (open_brackets all) no_brackets;
       next = [];
-      leads = ends (key_of (word_of s (end_token sort) (span_of here l.span.n)));
+      leads = ends (keyword_of (word_of s (end_token sort) (span_of here l.span.n)));
     }
 
 -- what is known after a tag's begin was read, and the tokens inside it were
@@ -159,7 +159,7 @@ module _ (before : Lexer) (sort : Sort) (begin : Span) (ls : List Lexeme) (a : A
   mode_is = (one_cut_to (lexer_delimiters before) (lexer_text before) (lexer_state before).mode (in_tag sort false) (lexer_state before).offset ls ls before.searcher.now.syntax.has_texts a.read.reads a.stage.reads).1
 
   pub tag_read : (from : List Part) (tokens : List Lexeme) (after_all : LexerState) (ended : Ended) → ends_a_tag (end_token sort) ≡ true → ((hyphen : Bool) → after_symbol (tag_start ∷ []) (symbol_of (lexer_text before) (record { token = begin_token sort; hyphen = hyphen; span = begin })) ≡ Some from) → is_open from ≡ true
-      → EachTagToken (lexer_text before) None tokens → ReadsUpTo (lexer_delimiters before) (lexer_text before) sort ls tokens (last_or None tokens) after_all ended → TagRead (lexer_delimiters before) (lexer_text before) sort ls from tokens after_all ended
+      → EachTagToken (lexer_text before) None tokens → ReadsUpTo (lexer_delimiters before) (lexer_text before) sort ls tokens (last_or None tokens) after_all ended → TagWasRead (lexer_delimiters before) (lexer_text before) sort ls from tokens after_all ended
   tag_read from tokens after_all ended of_tag starts still each reads = record {
     texts = before.searcher.now.syntax.has_texts;
     of_tag = of_tag;
@@ -176,7 +176,7 @@ module _ (before : Lexer) (sort : Sort) (begin : Span) (ls : List Lexeme) (a : A
 
 -- the lexer is after the tag's end
 pub after_end : (before after_all : Lexer) (sort : Sort) (ls : List Lexeme) (from to : List Part) (tokens : List Lexeme) (ended : Ended) (l : Lexed) (n : ℕ) (P : List Lexeme → Type 0) → lexer_text after_all ≡ lexer_text before → lexer_delimiters after_all ≡ lexer_delimiters before
-    → (t : TagRead (lexer_delimiters before) (lexer_text before) sort ls from tokens (lexer_state after_all) ended) → Path from (symbols_of (lexer_text before) tokens) to → ((k : Key) → after to (end_token sort) k ≡ Some []) → ended ≡ End l → n ≡ l.span.n → P tokens → AfterEnd before after_all sort ls n P
+    → (t : TagWasRead (lexer_delimiters before) (lexer_text before) sort ls from tokens (lexer_state after_all) ended) → Path from (symbols_of (lexer_text before) tokens) to → ((k : Key) → after to (end_token sort) k ≡ Some []) → ended ≡ End l → n ≡ l.span.n → P tokens → AfterEnd before after_all sort ls n P
 after_end before after_all sort ls from to tokens ended l n P same_text same_delimiters t leads ends is at p =
     let delimiters = lexer_delimiters before in
     let s = lexer_text before in
@@ -217,12 +217,12 @@ failure_lies s from tokens Memory each h = tt
 failure_lies s from tokens (Stuck want left) each h = first_lies s None h.leads.read left.now (lexemes_of tokens) h.leads.splits each
 
 -- a parser that is stuck goes no further
-pub failure_stops : (delimiters : List DelimiterText) (s : List ℕ) (sort : Sort) (ls : List Lexeme) (from : List Part) (tokens : List Lexed) (after_all : LexerState) (ended : Ended) (failure : Failure) → TagRead delimiters s sort ls from (lexemes_of tokens) after_all ended → OnStuck failure (IsStuck s from tokens) → OnStuck failure (λ want left. GoesNoFurther delimiters s want left ended)
+pub failure_stops : (delimiters : List DelimiterText) (s : List ℕ) (sort : Sort) (ls : List Lexeme) (from : List Part) (tokens : List Lexed) (after_all : LexerState) (ended : Ended) (failure : Failure) → TagWasRead delimiters s sort ls from (lexemes_of tokens) after_all ended → OnStuck failure (IsStuck s from tokens) → OnStuck failure (λ want left. GoesNoFurther delimiters s want left ended)
 failure_stops delimiters s sort ls from tokens after_all ended Memory t h = tt
 failure_stops delimiters s sort ls from tokens after_all ended (Stuck want left) t h = record { sort = sort; ls = ls; from = from; tokens = lexemes_of tokens; after = after_all; tag = t; to = h.to; leads = h.leads; wants = h.wants; refuses = inl h.refuses }
 
 -- so do tokens that lead to where the tag's end is wanted, which is not there
-pub end_stops : (delimiters : List DelimiterText) (s : List ℕ) (sort : Sort) (ls : List Lexeme) (from : List Part) (tokens : List Lexeme) (after_all : LexerState) (ended : Ended) (want : Want) (k : Token) → TagRead delimiters s sort ls from tokens after_all ended → LeadsToEnd s from tokens k (wanted_of want) → tag_end ended ≡ None → GoesNoFurther delimiters s want [] ended
+pub end_stops : (delimiters : List DelimiterText) (s : List ℕ) (sort : Sort) (ls : List Lexeme) (from : List Part) (tokens : List Lexeme) (after_all : LexerState) (ended : Ended) (want : Want) (k : Token) → TagWasRead delimiters s sort ls from tokens after_all ended → LeadsToEnd s from tokens k (wanted_of want) → tag_end ended ≡ None → GoesNoFurther delimiters s want [] ended
 end_stops delimiters s sort ls from tokens after_all ended want k t h none = record { sort = sort; ls = ls; from = from; tokens = tokens; after = after_all; tag = t; to = h.to; leads = h.leads; wants = h.wants; refuses = inr (refl, none) }
 
 -- the tokens lead all the way

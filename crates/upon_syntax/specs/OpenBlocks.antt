@@ -16,22 +16,22 @@ use Rattle.upon_syntax.specs.declared.compile.parse.open_blocks.OpenBlock.{OpenB
 use Rattle.upon_syntax.specs.declared.compile.parse.open_blocks.OpenBlocks.{OpenBlocks}
 
 -- the kind of block that the code's kind denotes
-abbrev pub kind_of : Kind → Block
-kind_of kind.If = if_block
-kind_of kind.For = for_block
-kind_of kind.With = with_block
+abbrev pub block_kind : Kind → Block
+block_kind kind.If = if_block
+block_kind kind.For = for_block
+block_kind kind.With = with_block
 
 -- the closing tag that the code's denotes
-abbrev pub closer_of : Closing → Closer
-closer_of closing.ElseIf = else_if
-closer_of closing.Else = plain_else
-closer_of closing.EndIf = end_if
-closer_of closing.EndFor = end_for
-closer_of closing.EndWith = end_with
+abbrev pub closer_view : Closing → Closer
+closer_view closing.ElseIf = else_if
+closer_view closing.Else = plain_else
+closer_view closing.EndIf = end_if
+closer_view closing.EndFor = end_for
+closer_view closing.EndWith = end_with
 
 -- the open block that the code's denotes
 abbrev pub block_of : CodeBlock → OpenBlock
-block_of b = record { kind = kind_of b.kind; has_else = b.has_else; span = b.span }
+block_of b = record { kind = block_kind b.kind; has_else = b.has_else; span = b.span }
 
 -- the innermost block is last in the code's list, and first here
 abbrev pub stack_from : List OpenBlock → List CodeBlock → List OpenBlock
@@ -43,9 +43,9 @@ abbrev pub stack_of : OpenBlocks → List OpenBlock
 stack_of blocks = stack_from [] blocks.blocks.items
 
 -- the innermost of them
-abbrev pub innermost : List OpenBlock → Option OpenBlock
-innermost [] = None
-innermost (o ∷ stack) = Some o
+abbrev pub innermost_block : List OpenBlock → Option OpenBlock
+innermost_block [] = None
+innermost_block (o ∷ stack) = Some o
 
 -- the kinds of open blocks, and whether the `else` of each was read
 abbrev pub kinds_of : List OpenBlock → List BlockKind
@@ -82,8 +82,8 @@ after_tag tag span stack = with_block_opened (opened_by tag) span (by_closer (cl
 
 -- what the code says that a tag does to the open blocks
 abbrev pub HasEffect : BlockTag → Effect → Type 0
-HasEffect tag (Opens kind) = (opened_by tag ≡ Some (kind_of kind)) × (closed_by tag ≡ None)
-HasEffect tag (Closes closer) = (opened_by tag ≡ None) × (closed_by tag ≡ Some (closer_of closer))
+HasEffect tag (Opens kind) = (opened_by tag ≡ Some (block_kind kind)) × (closed_by tag ≡ None)
+HasEffect tag (Closes closer) = (opened_by tag ≡ None) × (closed_by tag ≡ Some (closer_view closer))
 HasEffect tag Nothing = (opened_by tag ≡ None) × (closed_by tag ≡ None)
 
 -- the closing tag that a tag is, if it is one, is taken
@@ -92,4 +92,4 @@ IsTaken tag stack = (closer : Closer) → closed_by tag ≡ Some closer → take
 
 -- the tag is this closing tag, and is not taken
 abbrev pub IsUntaken : BlockTag → List OpenBlock → Closing → Type 0
-IsUntaken tag stack closer = (closed_by tag ≡ Some (closer_of closer)) × (takes stack (closer_of closer) ≡ false)
+IsUntaken tag stack closer = (closed_by tag ≡ Some (closer_view closer)) × (takes stack (closer_view closer) ≡ false)

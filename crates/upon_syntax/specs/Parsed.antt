@@ -18,7 +18,7 @@ abbrev pub syntax_of : Parser → List DelimiterText
 syntax_of parser = searcher_delimiters parser.searcher.now
 
 -- the instructions are the program of a tree that the text has
-pub record IsProgramOf (delimiters : List DelimiterText) (s : List ℕ) (code : List Instr) : Type 0 where
+pub record IsParsedProgram (delimiters : List DelimiterText) (s : List ℕ) (code : List Instr) : Type 0 where
   pub tree : Statements
   pub has_tree : HasTree delimiters s tree
   pub program : program_view code ≡ program_of tree

@@ -14,7 +14,7 @@ use Rattle.upon_language_spec.specs.Reading.{last_of}
 use Rattle.upon_language_spec.specs.Shown.{shown_lexemes}
 use Rattle.upon_language_spec.specs.Tokens.{significant}
 use Rattle.upon_language_spec.specs.Stages.{AllClear}
-use Rattle.upon_language_spec.specs.ClosingTags.{Known}
+use Rattle.upon_language_spec.specs.ClosingTags.{ReadTagsTaken}
 use Rattle.upon_lexer.specs.Lexers.{lexer_text, lexer_delimiters, lexer_state}
 use Rattle.upon_syntax.specs.declared.compile.parse.piece.Piece.{Piece as CodePiece}
 use Rattle.upon_syntax.specs.declared.compile.parse.piece_reader.PieceReader.{PieceReader}
@@ -22,13 +22,13 @@ use Rattle.upon_syntax.specs.declared.compile.parse.piece_reader.Next.{Next}
 use Rattle.upon_syntax.specs.declared.compile.parse.piece_reader.Next.TheVariants.{OnePiece, Comment, End}
 use Rattle.upon_syntax.specs.OpenBlocks.{stack_of, kinds_of}
 use Rattle.upon_syntax.specs.TagReading.{HasPieces, IsSyntaxError}
-use Rattle.upon_syntax.specs.Pieces.{Piece, KeepsPiece, piece_code, ArePieces, LeaveOpen}
+use Rattle.upon_syntax.specs.Pieces.{TemplatePiece, KeepsPiece, piece_code, ArePieces, LeaveOpen}
 use Rattle.upon_instructions.specs.Program.{program_view}
 use Rattle.upon_instructions.specs.declared.types.program.Instr.{Instr as CodeInstr}
 
 -- the text of a reader
-abbrev pub pieces_text : PieceReader → List ℕ
-pieces_text reader = lexer_text reader.lexer
+abbrev pub text_of_reader : PieceReader → List ℕ
+text_of_reader reader = lexer_text reader.lexer
 
 -- its delimiters
 abbrev pub pieces_delimiters : PieceReader → List DelimiterText
@@ -44,7 +44,7 @@ pieces_blocks reader = stack_of reader.blocks
 
 -- pieces, one after the other
 abbrev pub Pieces : Type 0
-Pieces = List Piece
+Pieces = List TemplatePiece
 
 -- these tokens were read, the offset after them is in this mode, and no fault holds before it
 pub record ReadTo (delimiters : List DelimiterText) (s : List ℕ) (left : LexerState) (mode : Mode) (ls : List Lexeme)
@@ -57,7 +57,7 @@ pub record ReadTo (delimiters : List DelimiterText) (s : List ℕ) (left : Lexer
 pub record BetweenPieces (delimiters : List DelimiterText) (s : List ℕ) (left : LexerState) (stack : List OpenBlock)
     (ls : List Lexeme) : Type 0 where
   pub read_to : ReadTo delimiters s left outside ls
-  pub known : Known s ls
+  pub known : ReadTagsTaken s ls
   pub blocks : open_blocks s (significant ls) ≡ stack
 
 -- a token with its hyphen and its span
@@ -75,14 +75,15 @@ pub record TokenGiven (delimiters : List DelimiterText) (s : List ℕ) (before a
 
 -- A reader has gone on over these pieces: the tokens that follow them are shown as they are after them, and whatever
 -- pieces those are read as come after these.
-pub record ReadsOn (delimiters : List DelimiterText) (s : List ℕ) (before after : LexerState)
-    (stack next : List OpenBlock) (ls : List Lexeme) (found : List Piece) : Type 0 where
+pub record ReadsOnPieces (delimiters : List DelimiterText) (s : List ℕ) (before after : LexerState)
+    (stack next : List OpenBlock) (ls : List Lexeme) (found : List TemplatePiece) : Type 0 where
   pub more : List Lexeme
   pub further : before.offset < after.offset
   pub between : BetweenPieces delimiters s after next (ls ++ more)
   pub cut : Cut delimiters s outside before.offset more outside after.offset
   pub leaves : LeaveOpen (kinds_of stack) found (kinds_of next)
-  pub reads : (rest : List Lexeme) (pieces : List Piece) → Cut delimiters s outside after.offset rest outside (length s)
+  pub reads : (rest : List Lexeme) (pieces : List TemplatePiece)
+      → Cut delimiters s outside after.offset rest outside (length s)
       → ArePieces s pieces (significant (shown_lexemes s after.trims rest)) []
       → ArePieces s (found ++ pieces) (significant (shown_lexemes s before.trims (more ++ rest))) []
 
@@ -90,8 +91,8 @@ pub record ReadsOn (delimiters : List DelimiterText) (s : List ℕ) (before afte
 -- appended.
 pub record PieceRead (delimiters : List DelimiterText) (s : List ℕ) (before after : LexerState)
     (stack next : List OpenBlock) (ls : List Lexeme) (old new : List CodeInstr) (kept : CodePiece) : Type 0 where
-  pub piece : Piece
-  pub reads : ReadsOn delimiters s before after stack next ls (piece ∷ [])
+  pub piece : TemplatePiece
+  pub reads : ReadsOnPieces delimiters s before after stack next ls (piece ∷ [])
   pub keeps : KeepsPiece kept piece
   pub code : program_view new ≡ program_view old ++ piece_code piece
 
@@ -125,17 +126,18 @@ pub record PassesComment (delimiters : List DelimiterText) (s : List ℕ) (after
 
 -- The pieces of a text so far: all tokens up to here, and whatever pieces the rest is read as come after these.
 pub record PiecesSoFar (delimiters : List DelimiterText) (s : List ℕ) (left : LexerState) (stack : List OpenBlock)
-    (found : List Piece) : Type 0 where
+    (found : List TemplatePiece) : Type 0 where
   pub lexemes : List Lexeme
   pub between : BetweenPieces delimiters s left stack lexemes
   pub leaves : LeaveOpen [] found (kinds_of stack)
-  pub reads : (rest : List Lexeme) (pieces : List Piece) → Cut delimiters s outside left.offset rest outside (length s)
+  pub reads : (rest : List Lexeme) (pieces : List TemplatePiece)
+      → Cut delimiters s outside left.offset rest outside (length s)
       → ArePieces s pieces (significant (shown_lexemes s left.trims rest)) []
       → ArePieces s (found ++ pieces) (significant (shown_lexemes s false (lexemes ++ rest))) []
 
 -- The pieces so far, from one offset to a later one: one more, or none for a comment.
 pub record GoesFurther (delimiters : List DelimiterText) (s : List ℕ) (before after : LexerState)
-    (stack : List OpenBlock) (found : List Piece) : Type 0 where
+    (stack : List OpenBlock) (found : List TemplatePiece) : Type 0 where
   pub further : before.offset < after.offset
   pub within : after.offset ≤ length s
   pub so_far : PiecesSoFar delimiters s after stack found
@@ -143,8 +145,8 @@ pub record GoesFurther (delimiters : List DelimiterText) (s : List ℕ) (before 
 -- One piece more than these, from one offset to a later one: of it the code keeps this, and the instructions of its
 -- expression are appended.
 pub record PieceFound (delimiters : List DelimiterText) (s : List ℕ) (before after : LexerState)
-    (stack : List OpenBlock) (found : List Piece) (old new : List CodeInstr) (kept : CodePiece) : Type 0 where
-  pub piece : Piece
+    (stack : List OpenBlock) (found : List TemplatePiece) (old new : List CodeInstr) (kept : CodePiece) : Type 0 where
+  pub piece : TemplatePiece
   pub gone : GoesFurther delimiters s before after stack (found ++ piece ∷ [])
   pub keeps : KeepsPiece kept piece
   pub code : program_view new ≡ program_view old ++ piece_code piece
@@ -152,23 +154,23 @@ pub record PieceFound (delimiters : List DelimiterText) (s : List ℕ) (before a
 -- ---- the same, of a reader
 -- it is between two pieces, after these tokens
 abbrev pub IsBetween : PieceReader → List Lexeme → Type 0
-IsBetween reader ls = BetweenPieces (pieces_delimiters reader) (pieces_text reader) (pieces_state reader)
+IsBetween reader ls = BetweenPieces (pieces_delimiters reader) (text_of_reader reader) (pieces_state reader)
     (pieces_blocks reader) ls
 
 -- it was given this token, after these
 abbrev pub IsGivenTo : PieceReader → LexerState → List Lexeme → Token → Span → Type 0
-IsGivenTo reader before ls token span = TokenGiven (pieces_delimiters reader) (pieces_text reader) before
+IsGivenTo reader before ls token span = TokenGiven (pieces_delimiters reader) (text_of_reader reader) before
     (pieces_state reader) (pieces_blocks reader) ls token span
 
 -- it goes on over these pieces, from before a token that it was given
-abbrev pub ReaderGoesOn : PieceReader → PieceReader → LexerState → List Lexeme → List Piece → Type 0
-ReaderGoesOn reader after before ls found = ReadsOn (pieces_delimiters reader) (pieces_text reader) before
+abbrev pub ReaderGoesOn : PieceReader → PieceReader → LexerState → List Lexeme → List TemplatePiece → Type 0
+ReaderGoesOn reader after before ls found = ReadsOnPieces (pieces_delimiters reader) (text_of_reader reader) before
     (pieces_state after) (pieces_blocks reader) (pieces_blocks after) ls found
 
 -- it goes on over one piece, of which the code keeps this, and the instructions of the piece's expression are appended
 abbrev pub ReadsPiece : PieceReader → PieceReader → LexerState → List Lexeme → List CodeInstr → List CodeInstr
     → CodePiece → Type 0
-ReadsPiece reader after before ls old new kept = PieceRead (pieces_delimiters reader) (pieces_text reader) before
+ReadsPiece reader after before ls old new kept = PieceRead (pieces_delimiters reader) (text_of_reader reader) before
     (pieces_state after) (pieces_blocks reader) (pieces_blocks after) ls old new kept
 
 -- the same of the piece that was read, if one was; a comment leaves the instructions
@@ -179,42 +181,45 @@ ReadsFound reader after before ls old new (Some kept) = ReadsPiece reader after 
 
 -- it has read the begin of a comment last
 abbrev pub HasBegunComment : PieceReader → List Lexeme → Type 0
-HasBegunComment reader ls = AfterCommentBegin (pieces_delimiters reader) (pieces_text reader) (pieces_state reader) ls
+HasBegunComment reader ls = AfterCommentBegin (pieces_delimiters reader) (text_of_reader reader) (pieces_state reader)
+    ls
 
 -- it has read the raw part of a comment last
 abbrev pub IsInComment : PieceReader → List Lexeme → Type 0
-IsInComment reader ls = AfterCommentRaw (pieces_delimiters reader) (pieces_text reader) (pieces_state reader) ls
+IsInComment reader ls = AfterCommentRaw (pieces_delimiters reader) (text_of_reader reader) (pieces_state reader) ls
 
 -- it has then read the comment's end
 abbrev pub HasPassedEnd : PieceReader → PieceReader → List Lexeme → Type 0
-HasPassedEnd reader after ls = PassesEnd (pieces_delimiters reader) (pieces_text reader) (pieces_state after) ls
+HasPassedEnd reader after ls = PassesEnd (pieces_delimiters reader) (text_of_reader reader) (pieces_state after) ls
 
 -- it has then read the comment's raw part and end
 abbrev pub HasPassedComment : PieceReader → PieceReader → List Lexeme → Type 0
-HasPassedComment reader after ls = PassesComment (pieces_delimiters reader) (pieces_text reader) (pieces_state after) ls
+HasPassedComment reader after ls = PassesComment (pieces_delimiters reader) (text_of_reader reader)
+    (pieces_state after) ls
 
 -- it has found these pieces so far
-abbrev pub HasFound : PieceReader → List Piece → Type 0
-HasFound reader found = PiecesSoFar (pieces_delimiters reader) (pieces_text reader) (pieces_state reader)
+abbrev pub HasFound : PieceReader → List TemplatePiece → Type 0
+HasFound reader found = PiecesSoFar (pieces_delimiters reader) (text_of_reader reader) (pieces_state reader)
     (pieces_blocks reader) found
 
 -- it has found these pieces after those before
-abbrev pub HasGone : PieceReader → PieceReader → List Piece → Type 0
-HasGone reader after found = GoesFurther (pieces_delimiters reader) (pieces_text reader) (pieces_state reader)
+abbrev pub HasGone : PieceReader → PieceReader → List TemplatePiece → Type 0
+HasGone reader after found = GoesFurther (pieces_delimiters reader) (text_of_reader reader) (pieces_state reader)
     (pieces_state after) (pieces_blocks after) found
 
 -- it has found one piece after those before, and the instructions of the piece's expression are appended
-abbrev pub FindsPiece : PieceReader → PieceReader → List Piece → List CodeInstr → List CodeInstr → CodePiece → Type 0
-FindsPiece reader after found old new kept = PieceFound (pieces_delimiters reader) (pieces_text reader)
+abbrev pub FindsPiece : PieceReader → PieceReader → List TemplatePiece → List CodeInstr → List CodeInstr → CodePiece
+    → Type 0
+FindsPiece reader after found old new kept = PieceFound (pieces_delimiters reader) (text_of_reader reader)
     (pieces_state reader) (pieces_state after) (pieces_blocks after) found old new kept
 
 -- what it says that it found, if these pieces were found before
-abbrev pub Finds : PieceReader → PieceReader → List Piece → List CodeInstr → List CodeInstr → Next → Type 0
-Finds reader after found old new (OnePiece kept) = FindsPiece reader after found old new kept
-Finds reader after found old new Comment = HasGone reader after found × (new ≡ old)
-Finds reader after found old new End = HasPieces (pieces_delimiters reader) (pieces_text reader) found
+abbrev pub FindsNext : PieceReader → PieceReader → List TemplatePiece → List CodeInstr → List CodeInstr → Next → Type 0
+FindsNext reader after found old new (OnePiece kept) = FindsPiece reader after found old new kept
+FindsNext reader after found old new Comment = HasGone reader after found × (new ≡ old)
+FindsNext reader after found old new End = HasPieces (pieces_delimiters reader) (text_of_reader reader) found
     × LeaveOpen [] found []
 
 -- the error reports the first fault of its text, or that memory is out
-abbrev pub Refuses : PieceReader → Error → Type 0
-Refuses reader e = IsSyntaxError (pieces_delimiters reader) (pieces_text reader) e
+abbrev pub RefusesPieces : PieceReader → Error → Type 0
+RefusesPieces reader e = IsSyntaxError (pieces_delimiters reader) (text_of_reader reader) e

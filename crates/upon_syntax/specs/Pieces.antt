@@ -14,31 +14,31 @@ use Rattle.upon_syntax.specs.declared.compile.parse.piece.Piece.{Piece as CodePi
 use Rattle.upon_syntax.specs.declared.compile.parse.piece.Piece.TheVariants as code
 
 -- a raw part, an inline tag, or a tag of a block
-pub data Piece : Type 0 where
-  raw_piece : Span → Piece
-  inline_piece : Expression → Span → Piece
-  block_piece : BlockTag → Piece
+pub data TemplatePiece : Type 0 where
+  raw_piece : Span → TemplatePiece
+  inline_piece : Expression → Span → TemplatePiece
+  block_piece : BlockTag → TemplatePiece
 
 -- from the first of these tokens up to the rest is this piece
-abbrev pub IsPiece : List ℕ → Piece → List Lexeme → List Lexeme → Type 0
+abbrev pub IsPiece : List ℕ → TemplatePiece → List Lexeme → List Lexeme → Type 0
 IsPiece s (raw_piece span) before rest = IsStatement s (raw span) before rest
 IsPiece s (inline_piece e span) before rest = IsStatement s (inline_expr e span) before rest
 IsPiece s (block_piece tag) before rest = IsBlockTag s tag before rest
 
 -- pieces, one after the other
-abbrev pub ArePieces : List ℕ → List Piece → List Lexeme → List Lexeme → Type 0
+abbrev pub ArePieces : List ℕ → List TemplatePiece → List Lexeme → List Lexeme → Type 0
 ArePieces s [] before rest = before ≡ rest
 ArePieces s (piece ∷ pieces) before rest = (mid : List Lexeme) × IsPiece s piece before mid
     × ArePieces s pieces mid rest
 
 -- what the code keeps of a piece beside the instructions of its expression
-abbrev pub KeepsPiece : CodePiece → Piece → Type 0
+abbrev pub KeepsPiece : CodePiece → TemplatePiece → Type 0
 KeepsPiece (code.Raw span) piece = piece ≡ raw_piece span
 KeepsPiece code.InlineExpr piece = (e : Expression) × (span : Span) × (piece ≡ inline_piece e span)
 KeepsPiece (code.Block kept) piece = (tag : BlockTag) × (piece ≡ block_piece tag) × Keeps kept tag
 
 -- the instructions of its expression, if it has one; those of an inline tag show the value too
-abbrev pub piece_code : Piece → List Instr
+abbrev pub piece_code : TemplatePiece → List Instr
 piece_code (raw_piece span) = []
 piece_code (inline_piece e span) = emission_code e
 piece_code (block_piece tag) = tag_code tag
@@ -81,12 +81,12 @@ blocks_after_tag endwith_tag blocks = closed_after with_block blocks
 blocks_after_tag (include_tag name globals) blocks = Some blocks
 
 -- the open blocks after a piece
-abbrev pub blocks_after : Piece → List BlockKind → Option (List BlockKind)
+abbrev pub blocks_after : TemplatePiece → List BlockKind → Option (List BlockKind)
 blocks_after (block_piece tag) blocks = blocks_after_tag tag blocks
 blocks_after piece blocks = Some blocks
 
 -- each closing tag of the pieces is taken, and after them these blocks are open
-abbrev pub LeaveOpen : List BlockKind → List Piece → List BlockKind → Type 0
+abbrev pub LeaveOpen : List BlockKind → List TemplatePiece → List BlockKind → Type 0
 LeaveOpen blocks [] left = blocks ≡ left
 LeaveOpen blocks (piece ∷ pieces) left = (next : List BlockKind) × (blocks_after piece blocks ≡ Some next)
     × LeaveOpen next pieces left

@@ -56,7 +56,8 @@ StopsAt s before found Eof = ⊥
 
 -- The lexer, which had read some tokens of an open tag, has read on inside it, and is in this state. Whitespace left
 -- out, these tokens were read.
-pub record ReadsOn (delimiters : List DelimiterText) (s : List ℕ) (sort : Sort) (ls : List Lexeme) (left : LexerState)
+pub record ReadsOnTokens (delimiters : List DelimiterText) (s : List ℕ) (sort : Sort) (ls : List Lexeme)
+    (left : LexerState)
     (tokens : List Lexeme) : Type 0 where
   pub inner : List Lexeme
   pub each : EachInside inner
@@ -68,7 +69,7 @@ pub record ReadsOn (delimiters : List DelimiterText) (s : List ℕ) (sort : Sort
 -- whichever tokens were before, inside an open tag these were read from one state to another
 abbrev pub ReadsTokens : List DelimiterText → List ℕ → LexerState → LexerState → List Lexeme → Type 0
 ReadsTokens delimiters s before after tokens = (sort : Sort) (path : Bool) (ls : List Lexeme)
-    → HasRead delimiters s before ls → before.mode ≡ in_tag sort path → ReadsOn delimiters s sort ls after tokens
+    → HasRead delimiters s before ls → before.mode ≡ in_tag sort path → ReadsOnTokens delimiters s sort ls after tokens
 
 -- the tag's end is where the lexer was, and it has read it
 pub record ReadsEnd (delimiters : List DelimiterText) (s : List ℕ) (sort : Sort) (ls : List Lexeme)
@@ -106,7 +107,7 @@ EndsBy delimiters s sort ls path before left after Eof = left.offset ≡ length 
 pub record ReadsUpTo (delimiters : List DelimiterText) (s : List ℕ) (sort : Sort) (ls tokens : List Lexeme)
     (before : Option Lexeme) (after : LexerState) (ended : Ended) : Type 0 where
   pub left : LexerState
-  pub reads : ReadsOn delimiters s sort ls left tokens
+  pub reads : ReadsOnTokens delimiters s sort ls left tokens
   pub ends : EndsBy delimiters s sort (ls ++ reads.inner) reads.path before left after ended
 
 -- the token that was found, or none
@@ -115,11 +116,11 @@ found_tokens None = []
 found_tokens (Some found) = lexeme_of found ∷ []
 
 -- the spans that are kept of where the tokens end lie in the text
-abbrev pub EndLies : List ℕ → Ended → Type 0
-EndLies s (End l) = LiesIn s l.span
-EndLies s (CutFault e) = Unit {0}
-EndLies s (Literal l refusal) = LiesIn s l.span × LiesIn s refusal.span
-EndLies s Eof = Unit {0}
+abbrev pub TagEndLies : List ℕ → Ended → Type 0
+TagEndLies s (End l) = LiesIn s l.span
+TagEndLies s (CutFault e) = Unit {0}
+TagEndLies s (Literal l refusal) = LiesIn s l.span × LiesIn s refusal.span
+TagEndLies s Eof = Unit {0}
 
 -- the tag's end, if it was read
 abbrev pub tag_end : Ended → Option Lexed

@@ -33,7 +33,7 @@ token_fault s wanted l = syntax_fault s l.span (reason_for wanted l.token (word_
 
 -- After these tokens of a text, the last of which is the begin of a tag, from which these parts are to come, the lexer
 -- has read the tokens inside.
-pub record TagRead (delimiters : List DelimiterText) (s : List ℕ) (sort : Sort) (ls : List Lexeme) (from : List Part)
+pub record TagWasRead (delimiters : List DelimiterText) (s : List ℕ) (sort : Sort) (ls : List Lexeme) (from : List Part)
     (tokens : List Lexeme) (after : LexerState) (ended : Ended) : Type 0 where
   pub texts : HasTexts delimiters
   pub of_tag : ends_a_tag (end_token sort) ≡ true
@@ -56,7 +56,7 @@ pub record GoesNoFurther (delimiters : List DelimiterText) (s : List ℕ) (want 
   pub from : List Part
   pub tokens : List Lexeme
   pub after : LexerState
-  pub tag : TagRead delimiters s sort ls from tokens after ended
+  pub tag : TagWasRead delimiters s sort ls from tokens after ended
   pub to : List Part
   pub leads : Leads s from tokens to (lexemes_of left)
   pub wants : wanted_at to ≡ Some (wanted_of want)

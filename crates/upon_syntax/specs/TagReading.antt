@@ -16,7 +16,7 @@ use Rattle.upon_language_spec.specs.InTags.{EachInside}
 use Rattle.upon_language_spec.specs.Stages.{Stage, EndsAt}
 use Rattle.upon_lexer.specs.declared.compile.lex.Lexer.{Lexer}
 use Rattle.upon_lexer.specs.Lexers.{lexer_text, lexer_delimiters, lexer_state, ReadSoFar}
-use Rattle.upon_syntax.specs.Pieces.{Piece, ArePieces}
+use Rattle.upon_syntax.specs.Pieces.{TemplatePiece, ArePieces}
 
 -- The lexer has read these tokens, and no fault holds before its offset; the last of them is the begin of a tag of this
 -- sort, with this span.
@@ -46,7 +46,7 @@ IsSyntaxError delimiters s e = (fault_of e ≡ out_of_memory) ⊎ ((span : Span)
     × (fault_of e ≡ fault_with_picture s (bare_fault syntax (Some reason) (Some span))))
 
 -- the text is cut whole, and its tokens are these pieces
-pub record HasPieces (delimiters : List DelimiterText) (s : List ℕ) (pieces : List Piece) : Type 0 where
+pub record HasPieces (delimiters : List DelimiterText) (s : List ℕ) (pieces : List TemplatePiece) : Type 0 where
   pub lexemes : List Lexeme
   pub cut : Cut delimiters s outside 0 lexemes outside (length s)
   pub reads : ArePieces s pieces (significant (shown_lexemes s false lexemes)) []

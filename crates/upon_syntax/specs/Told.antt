@@ -5,7 +5,7 @@ use Rattle.upon_machine_spec.specs.Code.{expression_code, emission_code}
 use Rattle.upon_tag_parser.specs.BlockTags.{BlockTag, if_tag, else_if_tag, else_tag, endif_tag, for_tag, endfor_tag, with_tag}
 use Rattle.upon_tag_parser.specs.BlockTags.{endwith_tag, include_tag}
 use Rattle.upon_compiler.specs.Events.{Event, raw_event, shown_event, if_event, else_if_event, else_event, endif_event, for_event, endfor_event, with_event, endwith_event, include_event, include_with_event}
-use Rattle.upon_syntax.specs.Pieces.{Piece, raw_piece, inline_piece, block_piece}
+use Rattle.upon_syntax.specs.Pieces.{TemplatePiece, raw_piece, inline_piece, block_piece}
 
 -- of a tag of a block
 abbrev pub tag_event : BlockTag → Event
@@ -21,11 +21,11 @@ tag_event (include_tag name None) = include_event name
 tag_event (include_tag name (Some e)) = include_with_event name (expression_code e)
 
 -- of a piece
-abbrev pub event_of : Piece → Event
+abbrev pub event_of : TemplatePiece → Event
 event_of (raw_piece span) = raw_event span
 event_of (inline_piece e span) = shown_event (emission_code e)
 event_of (block_piece tag) = tag_event tag
 
 -- of pieces, one after the other
-abbrev pub events_of : List Piece → List Event
+abbrev pub events_of : List TemplatePiece → List Event
 events_of pieces = map event_of pieces

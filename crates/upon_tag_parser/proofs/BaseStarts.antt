@@ -5,7 +5,7 @@ use Rattle.upon_types.specs.declared.types.token.Token.TheVariants.{OpenBracket,
 use Rattle.upon_types.specs.Span.{slice}
 use Rattle.upon_language_spec.specs.Cut.{Lexeme}
 use Rattle.upon_language_spec.specs.Tags.{symbol_of, word_of}
-use Rattle.upon_language_spec.specs.Keys.{Key, key_true, key_false, key_of, key_word}
+use Rattle.upon_language_spec.specs.Keys.{Key, key_true, key_false, keyword_of, key_word}
 use Rattle.upon_language_spec.specs.Wanted.{an_expression}
 use Rattle.upon_language_spec.specs.Parts.{Part, a_base, after_name, after_member, base_key, base_goes, after, wanted_at}
 use Rattle.upon_language_spec.specs.PartTails.{No, Tail, no_tail, member_tail, name_tail, tail_parts, Quiet}
@@ -37,7 +37,7 @@ pub tail_refuses : (s : List ℕ) (tail : Tail) (ps : List Part) (ts : List Lexe
 tail_refuses s no_tail ps [] q h = h
 tail_refuses s member_tail ps [] q h = h
 tail_refuses s name_tail ps [] q h = h
-tail_refuses s tail ps (l ∷ ls) q h = tail_quiet tail ps l ls (key_of (symbol_of s l).word) q ∙ h
+tail_refuses s tail ps (l ∷ ls) q h = tail_quiet tail ps l ls (keyword_of (symbol_of s l).word) q ∙ h
 
 pub tail_wants : (tail : Tail) (ps : List Part) → wanted_at (tail_parts tail ++ ps) ≡ wanted_at ps
 tail_wants no_tail ps = refl
@@ -47,7 +47,7 @@ tail_wants name_tail ps = refl
 -- ---- where a Base may begin
 base_refused : (s : List ℕ) (ps : List Part) (ts : List Lexeme) → NoBase s ts → Refuses s (a_base ∷ ps) ts
 base_refused s ps [] h = λ k. (refl, refl)
-base_refused s ps (l ∷ ls) h = none l.token (key_of (symbol_of s l).word) h
+base_refused s ps (l ∷ ls) h = none l.token (keyword_of (symbol_of s l).word) h
   where
     word : (k : Key) → base_key k [] ≡ None → after (a_base ∷ ps) Keyword k ≡ None
     word key_true e = absurd cc
@@ -76,16 +76,16 @@ no_word : (s : List ℕ) (word : List ℕ) (l : Lexeme) (ls : List Lexeme) → N
 no_word s word l ls none e same = none l.span ls (record { lexeme = l; is = refl; of_token = e; at = refl }, sym same)
 
 -- a key is spelled as the word of which it is the key
-pub key_spells : (k : Key) (w : List ℕ) → k ≡ key_of w → is_key k ≡ true → key_word k ≡ w
+pub key_spells : (k : Key) (w : List ℕ) → k ≡ keyword_of w → is_key k ≡ true → key_word k ≡ w
 key_spells k w e h = let F : Key → Type 0 = λ x. is_key x ≡ true → key_word x ≡ w in subst F (sym e) (known w) h
 
-key_none : (s : List ℕ) (l : Lexeme) (ls : List Lexeme) → NoWord s (codes "true") (l ∷ ls) → NoWord s (codes "false") (l ∷ ls) → l.token ≡ Keyword → (k : Key) → k ≡ key_of (slice s l.span) → base_key k [] ≡ None
+key_none : (s : List ℕ) (l : Lexeme) (ls : List Lexeme) → NoWord s (codes "true") (l ∷ ls) → NoWord s (codes "false") (l ∷ ls) → l.token ≡ Keyword → (k : Key) → k ≡ keyword_of (slice s l.span) → base_key k [] ≡ None
 key_none s l ls a b h key_true e = absurd (no_word s (codes "true") l ls a h (key_spells key_true (slice s l.span) e refl))
 key_none s l ls a b h key_false e = absurd (no_word s (codes "false") l ls b h (key_spells key_false (slice s l.span) e refl))
 key_none s l ls a b h k e = refl
 
-token_none : (s : List ℕ) (l : Lexeme) (ls : List Lexeme) → No Ident (l ∷ ls) → No Dot (l ∷ ls) × No QuestionDot (l ∷ ls) → No OpenBracket (l ∷ ls) → No OpenBrace (l ∷ ls) → No OpenParen (l ∷ ls) → NoLiteral s (l ∷ ls) → (t : Token) → l.token ≡ t → base_goes t (key_of (word_of s t l.span)) [] ≡ None
-token_none s l ls a b d e f (truth, untruth, text, ((minus, plus), number)) Keyword h = key_none s l ls truth untruth h (key_of (slice s l.span)) refl
+token_none : (s : List ℕ) (l : Lexeme) (ls : List Lexeme) → No Ident (l ∷ ls) → No Dot (l ∷ ls) × No QuestionDot (l ∷ ls) → No OpenBracket (l ∷ ls) → No OpenBrace (l ∷ ls) → No OpenParen (l ∷ ls) → NoLiteral s (l ∷ ls) → (t : Token) → l.token ≡ t → base_goes t (keyword_of (word_of s t l.span)) [] ≡ None
+token_none s l ls a b d e f (truth, untruth, text, ((minus, plus), number)) Keyword h = key_none s l ls truth untruth h (keyword_of (slice s l.span)) refl
 token_none s l ls a b d e f (truth, untruth, text, ((minus, plus), number)) Plus h = absurd (is_not Plus l ls plus h)
 token_none s l ls a b d e f (truth, untruth, text, ((minus, plus), number)) Minus h = absurd (is_not Minus l ls minus h)
 token_none s l ls a b d e f (truth, untruth, text, ((minus, plus), number)) Number h = absurd (is_not Number l ls number h)

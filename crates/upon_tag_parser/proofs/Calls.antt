@@ -10,7 +10,7 @@ use Rattle.upon_machine_spec.specs.Code.{base_code, bases_code, count_bases}
 use Rattle.upon_language_spec.specs.Cut.{Lexeme}
 use Rattle.upon_language_spec.specs.Tokens.{Goes, GoesBy, GoesName, from_to}
 use Rattle.upon_language_spec.specs.Expressions.{IsBase, IsArgs, last_end}
-use Rattle.upon_language_spec.specs.Keys.{Key, key_true, key_false, key_of}
+use Rattle.upon_language_spec.specs.Keys.{Key, key_true, key_false, keyword_of}
 use Rattle.upon_language_spec.specs.Tags.{symbol_of}
 use Rattle.upon_language_spec.specs.Parts.{Part, a_base, after_name, call_start, call_rest, base_key, base_goes, after}
 use Rattle.upon_language_spec.specs.PartTails.{No, Tail, Quiet, tail_parts, no_tail, TakesBase}
@@ -121,14 +121,14 @@ rest_takes ps k = refl
 module _ (s : List ℕ) where
   call_refused : (ps : List Part) (ts : List Lexeme) → No CloseParen ts → NoBase s ts → Refuses s (call_start ∷ ps) ts
   call_refused ps [] a b = λ k. (refl, refl)
-  call_refused ps (l ∷ ls) a b = call_refuses ps l.token (key_of (symbol_of s l).word) (is_not CloseParen l ls a) b
+  call_refused ps (l ∷ ls) a b = call_refuses ps l.token (keyword_of (symbol_of s l).word) (is_not CloseParen l ls a) b
 
   pub call_starts : (ps : List Part) (ts : List Lexeme) → No CloseParen ts → StartsBase s (call_start ∷ ps) (call_rest ∷ ps) ts
   call_starts ps ts a = record { takes = call_takes ps; wants = refl; refuses = call_refused ps ts a }
 
   rest_refused : (ps : List Part) (ts : List Lexeme) → No Comma ts → No CloseParen ts → Refuses s (call_rest ∷ ps) ts
   rest_refused ps [] a b = λ k. (refl, refl)
-  rest_refused ps (l ∷ ls) a b = rest_refuses ps l.token (key_of (symbol_of s l).word) (is_not Comma l ls a) (is_not CloseParen l ls b)
+  rest_refused ps (l ∷ ls) a b = rest_refuses ps l.token (keyword_of (symbol_of s l).word) (is_not Comma l ls a) (is_not CloseParen l ls b)
 
   -- a call with no arguments
   pub empty_call_reads : (name : Ident) (span : Span) (before mid now rest : List Lexeme) (closing : Span) → Goes CloseParen closing now rest → span ≡ from_to name.span closing → GoesName s name before mid → GoesBy OpenParen mid now → ReadsBase s (call name no_arguments span) before rest

@@ -6,7 +6,7 @@ use Rattle.upon_language_spec.specs.Cut.{Lexeme}
 use Rattle.upon_language_spec.specs.Tags.{symbol_of, word_of}
 use Rattle.upon_types.specs.Span.{slice}
 use Rattle.upon_language_spec.specs.Tokens.{GoesWord}
-use Rattle.upon_language_spec.specs.Keys.{Key, key_not, key_true, key_false, key_of, key_word}
+use Rattle.upon_language_spec.specs.Keys.{Key, key_not, key_true, key_false, keyword_of, key_word}
 use Rattle.upon_language_spec.specs.Wanted.{a_colon, an_end_expression, an_end_block}
 use Rattle.upon_language_spec.specs.Parts.{Part, filters, after_filter, more_args, condition, end_expr, end_block, base_key, base_goes, after, lesser, wanted_at}
 use Rattle.upon_language_spec.specs.PartTails.{No, Tail, no_tail, member_tail, name_tail, tail_parts, Quiet}
@@ -45,7 +45,7 @@ ending_quiet (args_ending tail) ps l ls k q = args_quiet tail ps l ls k q.0 q.1
 -- what the parts after it refuse is refused
 pub ending_refuses : (s : List ℕ) (ending : Ending) (ps : List Part) (ts : List Lexeme) → QuietEnding ending ts → Refuses s ps ts → Refuses s (ending_parts ending ++ ps) ts
 ending_refuses s ending ps [] q h = λ k. (ending_left ending ps EndExpr k refl ∙ (h k).0, ending_left ending ps EndBlock k refl ∙ (h k).1)
-ending_refuses s ending ps (l ∷ ls) q h = ending_quiet ending ps l ls (key_of (symbol_of s l).word) q ∙ h
+ending_refuses s ending ps (l ∷ ls) q h = ending_quiet ending ps l ls (keyword_of (symbol_of s l).word) q ∙ h
 
 -- what the parts after it want is wanted, where that comes before a colon
 pub ending_wants : (ending : Ending) (ps : List Part) → lesser a_colon (wanted_at ps) ≡ wanted_at ps → wanted_at (ending_parts ending ++ ps) ≡ wanted_at ps
@@ -66,7 +66,7 @@ expression_no_end ending ps k h = (ending_left ending (filters ∷ ps) EndExpr k
 -- what the parts after the expression refuse is refused
 pub expression_refuses : (s : List ℕ) (ending : Ending) (ps : List Part) (ts : List Lexeme) → QuietEnding ending ts → No Pipe ts → Refuses s ps ts → Refuses s (ending_parts ending ++ filters ∷ ps) ts
 expression_refuses s ending ps [] q p h = λ k. expression_no_end ending ps k (h k)
-expression_refuses s ending ps (l ∷ ls) q p h = expression_quiet ending ps l ls (key_of (symbol_of s l).word) q p ∙ h
+expression_refuses s ending ps (l ∷ ls) q p h = expression_quiet ending ps l ls (keyword_of (symbol_of s l).word) q p ∙ h
 
 -- ---- the end of a tag
 no_other_end : (t : Token) (k : Key) → is_inside t ≡ true → (after (end_expr ∷ []) t k ≡ None) × (after (end_block ∷ []) t k ≡ None)
@@ -78,18 +78,18 @@ pub expression_ends : (s : List ℕ) (ending : Ending) (rest : List Lexeme) → 
 expression_ends s ending rest q p = record {
   ends = λ k. ending_left ending (filters ∷ end_expr ∷ []) EndExpr k refl;
   wants = ending_wants ending (filters ∷ end_expr ∷ []) refl;
-  refuses = λ l ls e inside. expression_quiet ending (end_expr ∷ []) l ls (key_of (symbol_of s l).word) (subst (λ x. QuietEnding ending x) e q) (subst (λ x. No Pipe x) e p) ∙ (no_other_end l.token (key_of (symbol_of s l).word) inside).0;
+  refuses = λ l ls e inside. expression_quiet ending (end_expr ∷ []) l ls (keyword_of (symbol_of s l).word) (subst (λ x. QuietEnding ending x) e q) (subst (λ x. No Pipe x) e p) ∙ (no_other_end l.token (keyword_of (symbol_of s l).word) inside).0;
 }
 
 pub expression_ends_block : (s : List ℕ) (ending : Ending) (rest : List Lexeme) → QuietEnding ending rest → No Pipe rest → IsEnding s (ending_parts ending ++ filters ∷ end_block ∷ []) EndBlock an_end_block rest
 expression_ends_block s ending rest q p = record {
   ends = λ k. ending_left ending (filters ∷ end_block ∷ []) EndBlock k refl;
   wants = ending_wants ending (filters ∷ end_block ∷ []) refl;
-  refuses = λ l ls e inside. expression_quiet ending (end_block ∷ []) l ls (key_of (symbol_of s l).word) (subst (λ x. QuietEnding ending x) e q) (subst (λ x. No Pipe x) e p) ∙ (no_other_end l.token (key_of (symbol_of s l).word) inside).1;
+  refuses = λ l ls e inside. expression_quiet ending (end_block ∷ []) l ls (keyword_of (symbol_of s l).word) (subst (λ x. QuietEnding ending x) e q) (subst (λ x. No Pipe x) e p) ∙ (no_other_end l.token (keyword_of (symbol_of s l).word) inside).1;
 }
 
 pub block_ends : (s : List ℕ) (rest : List Lexeme) → IsEnding s (end_block ∷ []) EndBlock an_end_block rest
-block_ends s rest = record { ends = λ k. refl; wants = refl; refuses = λ l ls e inside. (no_other_end l.token (key_of (symbol_of s l).word) inside).1 }
+block_ends s rest = record { ends = λ k. refl; wants = refl; refuses = λ l ls e inside. (no_other_end l.token (keyword_of (symbol_of s l).word) inside).1 }
 
 -- ---- where a condition may begin
 condition_word : (ps : List Part) (k : Key) → base_key k [] ≡ None → (k ≡ key_not → ⊥) → after (condition ∷ ps) Keyword k ≡ None
@@ -113,9 +113,9 @@ condition_refuses ps OpenParen k h n = absurd cc
 condition_refuses ps t k h n = refl
 
 -- a keyword that is next, by what it spells
-pub goes_key : (s : List ℕ) (k : Key) (l : Lexeme) (ls : List Lexeme) → l.token ≡ Keyword → key_of (symbol_of s l).word ≡ k → is_key k ≡ true → GoesWord s (key_word k) l.span (l ∷ ls) ls
+pub goes_key : (s : List ℕ) (k : Key) (l : Lexeme) (ls : List Lexeme) → l.token ≡ Keyword → keyword_of (symbol_of s l).word ≡ k → is_key k ≡ true → GoesWord s (key_word k) l.span (l ∷ ls) ls
 goes_key s k l ls t e h =
-    let is : k ≡ key_of (slice s l.span) = sym (ap (λ x. key_of (word_of s x l.span)) (sym t) ∙ e) in
+    let is : k ≡ keyword_of (slice s l.span) = sym (ap (λ x. keyword_of (word_of s x l.span)) (sym t) ∙ e) in
     (record { lexeme = l; is = refl; of_token = t; at = refl }, sym (key_spells k (slice s l.span) is h))
 
 pub condition_starts : (s : List ℕ) (ps : List Part) (ts : List Lexeme) → NoWord s (codes "not") ts → StartsBase s (condition ∷ ps) (filters ∷ ps) ts
@@ -123,4 +123,4 @@ condition_starts s ps ts none = record { takes = condition_takes ps; wants = ref
   where
     by : (ts : List Lexeme) → NoWord s (codes "not") ts → NoBase s ts → Refuses s (condition ∷ ps) ts
     by [] none h = λ k. (refl, refl)
-    by (l ∷ ls) none h = condition_refuses ps l.token (key_of (symbol_of s l).word) h (λ t e. none l.span ls (goes_key s key_not l ls t e refl))
+    by (l ∷ ls) none h = condition_refuses ps l.token (keyword_of (symbol_of s l).word) h (λ t e. none l.span ls (goes_key s key_not l ls t e refl))

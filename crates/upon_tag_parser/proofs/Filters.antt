@@ -8,7 +8,7 @@ use Rattle.upon_types.specs.Expression.{Base, Bases, Expression, base, filtered,
 use Rattle.upon_language_spec.specs.Cut.{Lexeme}
 use Rattle.upon_language_spec.specs.Tokens.{Goes, GoesBy, GoesName, from_to}
 use Rattle.upon_language_spec.specs.Expressions.{IsFilterArgs, last_end, filter_end}
-use Rattle.upon_language_spec.specs.Keys.{Key, key_of}
+use Rattle.upon_language_spec.specs.Keys.{Key, keyword_of}
 use Rattle.upon_language_spec.specs.Tags.{symbol_of}
 use Rattle.upon_language_spec.specs.Parts.{Part, a_base, filters, filter_name, after_filter, more_args, close_paren, after}
 use Rattle.upon_language_spec.specs.PartTails.{No, no_tail, TakesBase}
@@ -73,7 +73,7 @@ module _ (s : List ℕ) where
   -- no name after a bar
   name_refused : (ps : List Part) (ts : List Lexeme) → No Identifier ts → Refuses s (filter_name ∷ ps) ts
   name_refused ps [] a = λ k. (refl, refl)
-  name_refused ps (l ∷ ls) a = none l.token (key_of (symbol_of s l).word) (is_not Identifier l ls a)
+  name_refused ps (l ∷ ls) a = none l.token (keyword_of (symbol_of s l).word) (is_not Identifier l ls a)
     where
       none : (t : Token) (k : Key) → (t ≡ Identifier → ⊥) → after (filter_name ∷ ps) t k ≡ None
       none Identifier k h = absurd (h refl)
@@ -99,7 +99,7 @@ close_refuses ps t k a b = refl
 module _ (s : List ℕ) where
   close_refused : (ps : List Part) (ts : List Lexeme) → No Pipe ts → No CloseParen ts → Refuses s (filters ∷ close_paren ∷ ps) ts
   close_refused ps [] a b = λ k. (refl, refl)
-  close_refused ps (l ∷ ls) a b = close_refuses ps l.token (key_of (symbol_of s l).word) (is_not Pipe l ls a) (is_not CloseParen l ls b)
+  close_refused ps (l ∷ ls) a b = close_refuses ps l.token (keyword_of (symbol_of s l).word) (is_not Pipe l ls a) (is_not CloseParen l ls b)
 
   -- from the opening parenthesis on
   abbrev pub inside : List Part → List Part

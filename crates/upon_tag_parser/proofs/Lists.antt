@@ -9,7 +9,7 @@ use Rattle.upon_machine_spec.specs.Code.{base_code, list_code}
 use Rattle.upon_language_spec.specs.Cut.{Lexeme}
 use Rattle.upon_language_spec.specs.Tokens.{Goes, from_to}
 use Rattle.upon_language_spec.specs.Expressions.{IsBase, IsListBody, IsListTail}
-use Rattle.upon_language_spec.specs.Keys.{Key, key_true, key_false, key_of}
+use Rattle.upon_language_spec.specs.Keys.{Key, key_true, key_false, keyword_of}
 use Rattle.upon_language_spec.specs.Tags.{symbol_of}
 use Rattle.upon_language_spec.specs.Parts.{Part, list_start, list_rest, base_key, base_goes, after}
 use Rattle.upon_language_spec.specs.PartTails.{No, tail_parts, no_tail}
@@ -112,14 +112,14 @@ rest_refuses ps t k a b = refl
 module _ (s : List ℕ) where
   list_refused : (ps : List Part) (ts : List Lexeme) → No CloseBracket ts → NoBase s ts → Refuses s (list_start ∷ ps) ts
   list_refused ps [] a b = λ k. (refl, refl)
-  list_refused ps (l ∷ ls) a b = list_refuses ps l.token (key_of (symbol_of s l).word) (is_not CloseBracket l ls a) b
+  list_refused ps (l ∷ ls) a b = list_refuses ps l.token (keyword_of (symbol_of s l).word) (is_not CloseBracket l ls a) b
 
   pub list_starts : (ps : List Part) (ts : List Lexeme) → No CloseBracket ts → StartsBase s (list_start ∷ ps) (list_rest ∷ ps) ts
   list_starts ps ts a = record { takes = list_takes ps; wants = refl; refuses = list_refused ps ts a }
 
   rest_refused : (ps : List Part) (ts : List Lexeme) → No Comma ts → No CloseBracket ts → Refuses s (list_rest ∷ ps) ts
   rest_refused ps [] a b = λ k. (refl, refl)
-  rest_refused ps (l ∷ ls) a b = rest_refuses ps l.token (key_of (symbol_of s l).word) (is_not Comma l ls a) (is_not CloseBracket l ls b)
+  rest_refused ps (l ∷ ls) a b = rest_refuses ps l.token (keyword_of (symbol_of s l).word) (is_not Comma l ls a) (is_not CloseBracket l ls b)
 
   -- after an item
   pub list_stuck : (items : List Base) (b : Base) (all now : List Lexeme) (tokens left : List Lexed) (want : Want) → ItemsTo s items all now → ReadsBase s b now (lexemes_of tokens) → No Comma (lexemes_of tokens) → IsRefused CloseBracket WantCloseBracket tokens want left → (ps : List Part) → StuckAt s (list_start ∷ ps) all (lexemes_of left) (wanted_of want)

@@ -10,7 +10,7 @@ use Rattle.upon_machine_spec.specs.Code.{base_code, map_code}
 use Rattle.upon_language_spec.specs.Cut.{Lexeme}
 use Rattle.upon_language_spec.specs.Tokens.{Goes, GoesBy, GoesText, from_to}
 use Rattle.upon_language_spec.specs.Expressions.{IsMapBody, IsMapTail}
-use Rattle.upon_language_spec.specs.Keys.{Key, key_of}
+use Rattle.upon_language_spec.specs.Keys.{Key, keyword_of}
 use Rattle.upon_language_spec.specs.Tags.{symbol_of}
 use Rattle.upon_language_spec.specs.Parts.{Part, a_base, map_start, map_colon, map_rest, after}
 use Rattle.upon_language_spec.specs.PartTails.{No, tail_parts, no_tail}
@@ -115,15 +115,15 @@ rest_refuses ps t k a b = refl
 module _ (s : List ℕ) where
   start_refused : (ps : List Part) (ts : List Lexeme) → No CloseBrace ts → No String ts → Refuses s (map_start ∷ ps) ts
   start_refused ps [] a b = λ k. (refl, refl)
-  start_refused ps (l ∷ ls) a b = start_refuses ps l.token (key_of (symbol_of s l).word) (is_not CloseBrace l ls a) (is_not String l ls b)
+  start_refused ps (l ∷ ls) a b = start_refuses ps l.token (keyword_of (symbol_of s l).word) (is_not CloseBrace l ls a) (is_not String l ls b)
 
   colon_refused : (ps : List Part) (ts : List Lexeme) → No Colon ts → Refuses s (map_colon ∷ ps) ts
   colon_refused ps [] a = λ k. (refl, refl)
-  colon_refused ps (l ∷ ls) a = colon_refuses ps l.token (key_of (symbol_of s l).word) (is_not Colon l ls a)
+  colon_refused ps (l ∷ ls) a = colon_refuses ps l.token (keyword_of (symbol_of s l).word) (is_not Colon l ls a)
 
   rest_refused : (ps : List Part) (ts : List Lexeme) → No Comma ts → No CloseBrace ts → Refuses s (map_rest ∷ ps) ts
   rest_refused ps [] a b = λ k. (refl, refl)
-  rest_refused ps (l ∷ ls) a b = rest_refuses ps l.token (key_of (symbol_of s l).word) (is_not Comma l ls a) (is_not CloseBrace l ls b)
+  rest_refused ps (l ∷ ls) a b = rest_refuses ps l.token (keyword_of (symbol_of s l).word) (is_not Comma l ls a) (is_not CloseBrace l ls b)
 
   -- no key
   pub key_stuck : (tokens left : List Lexed) (want : Want) → No CloseBrace (lexemes_of tokens) → IsRefused String WantText tokens want left → (ps : List Part) → StuckAt s (map_start ∷ ps) (lexemes_of tokens) (lexemes_of left) (wanted_of want)

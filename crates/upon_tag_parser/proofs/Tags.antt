@@ -10,7 +10,7 @@ use Rattle.upon_language_spec.specs.Tokens.{GoesBy, GoesKeyword, GoesName, GoesT
 use Rattle.upon_language_spec.specs.Expressions.{IsExpression}
 use Rattle.upon_language_spec.specs.Grammar.{IsWordTag}
 use Rattle.upon_language_spec.specs.Tags.{symbol_of}
-use Rattle.upon_language_spec.specs.Keys.{Key, key_if, key_else, key_endif, key_for, key_in, key_endfor, key_with, key_as, key_endwith, key_include, key_of}
+use Rattle.upon_language_spec.specs.Keys.{Key, key_if, key_else, key_endif, key_for, key_in, key_endfor, key_with, key_as, key_endwith, key_include, keyword_of}
 use Rattle.upon_language_spec.specs.Wanted.{Wanted, an_end_block, an_as}
 use Rattle.upon_language_spec.specs.Parts.{Part, a_base, filters, end_block, block_word, condition, else_rest, loop_name, loop_rest, loop_value, in_word, as_word, as_name, include_name, include_rest, after}
 use Rattle.upon_language_spec.specs.PartTails.{No}
@@ -79,7 +79,7 @@ ends_here s from to ts rest end word leads ending e = record { to = to; leads = 
 pub too_long : (s : List ℕ) (from to : List Part) (ts rest : List Lexeme) (end : Token) (word : Wanted) → Leads s from ts to rest → IsEnding s to end word rest → (rest ≡ [] → ⊥) → ((l : Lexeme) (ls : List Lexeme) → rest ≡ l ∷ ls → is_inside l.token ≡ true) → StuckAt s from ts rest word
 too_long s from to ts rest end word leads ending some inside = stuck_then s from to ts rest rest word leads (stuck_here s to rest word (by rest some inside ending.refuses) ending.wants)
   where
-    by : (xs : List Lexeme) → (xs ≡ [] → ⊥) → ((l : Lexeme) (ls : List Lexeme) → xs ≡ l ∷ ls → is_inside l.token ≡ true) → ((l : Lexeme) (ls : List Lexeme) → xs ≡ l ∷ ls → is_inside l.token ≡ true → after to l.token (key_of (symbol_of s l).word) ≡ None) → Refuses s to xs
+    by : (xs : List Lexeme) → (xs ≡ [] → ⊥) → ((l : Lexeme) (ls : List Lexeme) → xs ≡ l ∷ ls → is_inside l.token ≡ true) → ((l : Lexeme) (ls : List Lexeme) → xs ≡ l ∷ ls → is_inside l.token ≡ true → after to l.token (keyword_of (symbol_of s l).word) ≡ None) → Refuses s to xs
     by [] some inside refuses = absurd (some refl)
     by (l ∷ ls) some inside refuses = refuses l ls refl (inside l ls refl)
 
@@ -133,7 +133,7 @@ else_reads s ts rest (span, g) none = record {
   reads = (span, g);
   to = else_rest ∷ [];
   leads = leads_key s (codes "else") g refl;
-  ending = record { ends = λ k. refl; wants = refl; refuses = λ l ls e inside. no_if l.token (key_of (symbol_of s l).word) inside (λ t k. subst (λ x. NoWord s (codes "if") x) e none l.span ls (goes_key s key_if l ls t k refl)) };
+  ending = record { ends = λ k. refl; wants = refl; refuses = λ l ls e inside. no_if l.token (keyword_of (symbol_of s l).word) inside (λ t k. subst (λ x. NoWord s (codes "if") x) e none l.span ls (goes_key s key_if l ls t k refl)) };
 }
 
 no_with : (t : Token) (k : Key) → is_inside t ≡ true → (t ≡ Keyword → k ≡ key_with → ⊥) → after (include_rest ∷ []) t k ≡ None
@@ -147,7 +147,7 @@ include_reads s name ts start rest (span, g) text none = record {
   reads = (start, rest, (span, g), text, refl);
   to = include_rest ∷ [];
   leads = leads_then s (leads_key s (codes "include") g refl) (leads_token s (name.span, text.0) (λ k. refl));
-  ending = record { ends = λ k. refl; wants = refl; refuses = λ l ls e inside. no_with l.token (key_of (symbol_of s l).word) inside (λ t k. subst (λ x. NoWord s (codes "with") x) e none l.span ls (goes_key s key_with l ls t k refl)) };
+  ending = record { ends = λ k. refl; wants = refl; refuses = λ l ls e inside. no_with l.token (keyword_of (symbol_of s l).word) inside (λ t k. subst (λ x. NoWord s (codes "with") x) e none l.span ls (goes_key s key_with l ls t k refl)) };
 }
 
 pub include_with_reads : (s : List ℕ) (name : Ident) (globals : Expression) (ts start mid last rest : List Lexeme) → GoesKeyword s (codes "include") ts start → GoesText s name start mid → GoesKeyword s (codes "with") mid last → ReadsExpression s globals last rest → ReadsTag s (include_tag name (Some globals)) ts rest
@@ -158,7 +158,7 @@ include_with_reads s name globals ts start mid last rest (span, g) text (second,
   ending = expression_ends_block s h.part.ending rest h.part.quiet h.no_more;
 }
 
-pub word_reads : (s : List ℕ) (word : List ℕ) (ts rest : List Lexeme) → GoesKeyword s word ts rest → after (block_word ∷ []) Keyword (key_of word) ≡ Some (end_block ∷ []) → Leads s (block_word ∷ []) ts (end_block ∷ []) rest × IsEnding s (end_block ∷ []) EndBlock an_end_block rest
+pub word_reads : (s : List ℕ) (word : List ℕ) (ts rest : List Lexeme) → GoesKeyword s word ts rest → after (block_word ∷ []) Keyword (keyword_of word) ≡ Some (end_block ∷ []) → Leads s (block_word ∷ []) ts (end_block ∷ []) rest × IsEnding s (end_block ∷ []) EndBlock an_end_block rest
 word_reads s word ts rest (span, g) h = (leads_key s word g h, block_ends s rest)
 
 pub endif_reads : (s : List ℕ) (ts rest : List Lexeme) → GoesKeyword s (codes "endif") ts rest → ReadsTag s endif_tag ts rest
@@ -204,11 +204,11 @@ no_in_rest ps t k c n = refl
 
 in_refused : (s : List ℕ) (ps : List Part) (ts : List Lexeme) → NoWord s (codes "in") ts → Refuses s (in_word ∷ ps) ts
 in_refused s ps [] none = λ k. (refl, refl)
-in_refused s ps (l ∷ ls) none = no_in ps l.token (key_of (symbol_of s l).word) (λ t k. none l.span ls (goes_key s key_in l ls t k refl))
+in_refused s ps (l ∷ ls) none = no_in ps l.token (keyword_of (symbol_of s l).word) (λ t k. none l.span ls (goes_key s key_in l ls t k refl))
 
 in_rest_refused : (s : List ℕ) (ps : List Part) (ts : List Lexeme) → No Comma ts → NoWord s (codes "in") ts → Refuses s (loop_rest ∷ ps) ts
 in_rest_refused s ps [] c none = λ k. (refl, refl)
-in_rest_refused s ps (l ∷ ls) c none = no_in_rest ps l.token (key_of (symbol_of s l).word) (is_not Comma l ls c) (λ t k. none l.span ls (goes_key s key_in l ls t k refl))
+in_rest_refused s ps (l ∷ ls) c none = no_in_rest ps l.token (keyword_of (symbol_of s l).word) (is_not Comma l ls c) (λ t k. none l.span ls (goes_key s key_in l ls t k refl))
 
 pub item_reads : (s : List ℕ) (name : Ident) (ts rest : List Lexeme) → GoesName s name ts rest → No Comma rest → ReadsLoopVars s (item name) ts rest
 item_reads s name ts rest g c = record {
@@ -237,15 +237,15 @@ no_name ps t k n = (refl, refl, refl)
 
 pub loop_name_refused : (s : List ℕ) (ps : List Part) (ts : List Lexeme) → No Identifier ts → Refuses s (loop_name ∷ ps) ts
 loop_name_refused s ps [] none = λ k. (refl, refl)
-loop_name_refused s ps (l ∷ ls) none = (no_name ps l.token (key_of (symbol_of s l).word) (is_not Identifier l ls none)).0
+loop_name_refused s ps (l ∷ ls) none = (no_name ps l.token (keyword_of (symbol_of s l).word) (is_not Identifier l ls none)).0
 
 pub loop_value_refused : (s : List ℕ) (ps : List Part) (ts : List Lexeme) → No Identifier ts → Refuses s (loop_value ∷ ps) ts
 loop_value_refused s ps [] none = λ k. (refl, refl)
-loop_value_refused s ps (l ∷ ls) none = (no_name ps l.token (key_of (symbol_of s l).word) (is_not Identifier l ls none)).1
+loop_value_refused s ps (l ∷ ls) none = (no_name ps l.token (keyword_of (symbol_of s l).word) (is_not Identifier l ls none)).1
 
 pub as_name_refused : (s : List ℕ) (ps : List Part) (ts : List Lexeme) → No Identifier ts → Refuses s (as_name ∷ ps) ts
 as_name_refused s ps [] none = λ k. (refl, refl)
-as_name_refused s ps (l ∷ ls) none = (no_name ps l.token (key_of (symbol_of s l).word) (is_not Identifier l ls none)).2
+as_name_refused s ps (l ∷ ls) none = (no_name ps l.token (keyword_of (symbol_of s l).word) (is_not Identifier l ls none)).2
 
 no_text : (t : Token) (k : Key) → (t ≡ String → ⊥) → after (include_name ∷ []) t k ≡ None
 no_text String k n = absurd (n refl)
@@ -253,7 +253,7 @@ no_text t k n = refl
 
 pub include_name_refused : (s : List ℕ) (ts : List Lexeme) → No String ts → Refuses s (include_name ∷ []) ts
 include_name_refused s [] none = λ k. (refl, refl)
-include_name_refused s (l ∷ ls) none = no_text l.token (key_of (symbol_of s l).word) (is_not String l ls none)
+include_name_refused s (l ∷ ls) none = no_text l.token (keyword_of (symbol_of s l).word) (is_not String l ls none)
 
 no_as : (ps : List Part) (t : Token) (k : Key) → (t ≡ Keyword → k ≡ key_as → ⊥) → after (as_word ∷ ps) t k ≡ None
 no_as ps Keyword key_as n = absurd (n refl refl)
@@ -262,7 +262,7 @@ no_as ps t k n = refl
 
 as_refused : (s : List ℕ) (ps : List Part) (ts : List Lexeme) → NoWord s (codes "as") ts → Refuses s (as_word ∷ ps) ts
 as_refused s ps [] none = λ k. (refl, refl)
-as_refused s ps (l ∷ ls) none = no_as ps l.token (key_of (symbol_of s l).word) (λ t k. none l.span ls (goes_key s key_as l ls t k refl))
+as_refused s ps (l ∷ ls) none = no_as ps l.token (keyword_of (symbol_of s l).word) (λ t k. none l.span ls (goes_key s key_as l ls t k refl))
 
 pub as_stuck : (s : List ℕ) (e : Expression) (ts rest : List Lexeme) → ReadsExpression s e ts rest → NoWord s (codes "as") rest → StuckAt s (a_base ∷ filters ∷ as_word ∷ end_block ∷ []) ts rest an_as
 as_stuck s e ts rest h none =
@@ -287,7 +287,7 @@ no_word_token t k h = refl
 
 pub block_word_refused : (s : List ℕ) (ts : List Lexeme) → NoOpeningWord s ts → NoWord s (codes "endif") ts → NoWord s (codes "endfor") ts → NoWord s (codes "endwith") ts → Refuses s (block_word ∷ []) ts
 block_word_refused s [] a f g h = λ k. (refl, refl)
-block_word_refused s (l ∷ ls) (a, b, c, d, e) f g h = no_word_token l.token (key_of (symbol_of s l).word) (λ t. no_block_word (key_of (symbol_of s l).word)
+block_word_refused s (l ∷ ls) (a, b, c, d, e) f g h = no_word_token l.token (keyword_of (symbol_of s l).word) (λ t. no_block_word (keyword_of (symbol_of s l).word)
     (λ k. a l.span ls (goes_key s key_if l ls t k refl)) (λ k. b l.span ls (goes_key s key_else l ls t k refl)) (λ k. c l.span ls (goes_key s key_for l ls t k refl))
     (λ k. d l.span ls (goes_key s key_with l ls t k refl)) (λ k. e l.span ls (goes_key s key_include l ls t k refl)) (λ k. f l.span ls (goes_key s key_endif l ls t k refl))
     (λ k. g l.span ls (goes_key s key_endfor l ls t k refl)) (λ k. h l.span ls (goes_key s key_endwith l ls t k refl)))

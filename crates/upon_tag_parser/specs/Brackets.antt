@@ -166,7 +166,7 @@ pub record AreRead (s : List ℕ) (stack : List Open) (last : Step) (from to : P
   pub step : IsStep s (is_whole true stack) last mid to
 
 -- a Base was read in what is open
-pub record IsGiven (s : List ℕ) (whole : Bool) (top : Open) (span : Span) (from to : Place) : Type 0 where
+pub record IsBaseGiven (s : List ℕ) (whole : Bool) (top : Open) (span : Span) (from to : Place) : Type 0 where
   pub mid : Place
   pub around : IsOpen s whole top from mid
   pub read : BaseRead s span mid to
@@ -183,7 +183,7 @@ StuckFrom s whole ts want left = (from parts : List Part) → StartsBase s from 
 
 -- A Base at this span was read in what is open, up to here: what is read there goes on with it, up to there.
 abbrev pub OpenGoesOnAt : List ℕ → Open → Span → Place → Step → Place → Type 0
-OpenGoesOnAt s top span here last there = (whole : Bool) (from : Place) → IsGiven s whole top span from here
+OpenGoesOnAt s top span here last there = (whole : Bool) (from : Place) → IsBaseGiven s whole top span from here
     → IsStep s whole last from there
 
 -- the same wherever the Base is
@@ -192,7 +192,7 @@ OpenGoesOn s top here last there = (span : Span) → OpenGoesOnAt s top span her
 
 -- the same where the tokens are stuck
 abbrev pub OpenStuckAt : List ℕ → Open → Span → Place → Want → List Lexed → Type 0
-OpenStuckAt s top span here want left = (whole : Bool) (from : Place) → IsGiven s whole top span from here
+OpenStuckAt s top span here want left = (whole : Bool) (from : Place) → IsBaseGiven s whole top span from here
     → StuckFrom s whole from.tokens want left
 
 -- and wherever the Base is
@@ -246,12 +246,12 @@ ReadsStuck s old last here want left = (from : Place) → AreRead s old last fro
     → StuckFrom s true from.tokens want left
 
 -- so many instructions have the first one of a list or a map, and one for each argument
-abbrev pub Fits : Open → ℕ → Type 0
-Fits (opened.List start) n = start.at < n
-Fits (opened.Map start key) n = start.at < n
-Fits (opened.Call applied) n = applied.count ≤ n
-Fits (opened.Paren opening) n = Unit {0}
-Fits (opened.Filter receiver applied) n = applied.count ≤ n
+abbrev pub HasInstructions : Open → ℕ → Type 0
+HasInstructions (opened.List start) n = start.at < n
+HasInstructions (opened.Map start key) n = start.at < n
+HasInstructions (opened.Call applied) n = applied.count ≤ n
+HasInstructions (opened.Paren opening) n = Unit {0}
+HasInstructions (opened.Filter receiver applied) n = applied.count ≤ n
 
 -- 1 if a step is to come, and 0 if none is
 abbrev pub weight : Step → ℕ

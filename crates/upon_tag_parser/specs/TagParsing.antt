@@ -10,7 +10,7 @@ use Rattle.upon_types.specs.AstPath.{first_member, rest_members}
 use Rattle.upon_types.specs.declared.types.ast.path.Var.{Var}
 use Rattle.upon_language_spec.specs.Cut.{Lexeme}
 use Rattle.upon_language_spec.specs.Tags.{symbol_of}
-use Rattle.upon_language_spec.specs.Keys.{Key, key_of}
+use Rattle.upon_language_spec.specs.Keys.{Key, keyword_of}
 use Rattle.upon_language_spec.specs.Tokens.{GoesWord}
 use Rattle.upon_language_spec.specs.Expressions.{sign_token, AreMembers, IsBase, IsExpression}
 use Rattle.upon_language_spec.specs.Wanted.{Wanted, an_expression}
@@ -66,7 +66,7 @@ NoWord s word ts = (span : Span) (rest : List Lexeme) → GoesWord s word span t
 -- no Base begins with the first of the tokens
 abbrev pub NoBase : List ℕ → List Lexeme → Type 0
 NoBase s [] = Unit {0}
-NoBase s (l ∷ ls) = base_goes l.token (key_of (symbol_of s l).word) [] ≡ None
+NoBase s (l ∷ ls) = base_goes l.token (keyword_of (symbol_of s l).word) [] ≡ None
 
 -- a Base may begin, and an expression is wanted; what begins no Base may not be there
 pub record StartsBase (s : List ℕ) (from parts : List Part) (ts : List Lexeme) : Type 0 where

@@ -5,7 +5,7 @@ use Rattle.upon_language_spec.specs.Search.{DelimiterText}
 use Rattle.upon_meaning_spec.specs.Engine.{Table}
 use Rattle.upon_engine.specs.Texts.{Texts}
 use Rattle.upon_engine.specs.Theorem.{IsTable}
-use Rattle.upon_tool.specs.Missing.{EachIsRight, IsRight}
+use Rattle.upon_tool.specs.Missing.{EachIsRight, IsRightTemplate}
 use Rattle.upon_tool_data.specs.Sources.{is_standard, IsTextOf}
 use Rattle.upon_tool.specs.Sources.{AreTexts}
 use Rattle.upon_tool.specs.Work.{ChecksFiles}
@@ -18,7 +18,7 @@ texts_more [] name (t ∷ ts) text a b c are is kept = absurd are
 texts_more (n ∷ ns) name [] text a b c are is kept = absurd are
 texts_more (n ∷ ns) name (t ∷ ts) text a b c are is kept = (are.0, are.1, are.2, texts_more ns name ts text are.0 b c are.3 is kept)
 
-each_more : (d : List DelimiterText) (table : Table) (names : List (Bor (List ℕ))) (name : Bor (List ℕ)) (texts : List (List ℕ)) (text : List ℕ) (a b : Option (List ℕ)) → AreTexts names a texts b → EachIsRight d table names texts → IsRight d table name.now text
+each_more : (d : List DelimiterText) (table : Table) (names : List (Bor (List ℕ))) (name : Bor (List ℕ)) (texts : List (List ℕ)) (text : List ℕ) (a b : Option (List ℕ)) → AreTexts names a texts b → EachIsRight d table names texts → IsRightTemplate d table name.now text
     → EachIsRight d table (names ++ name ∷ []) (texts ++ text ∷ [])
 each_more d table [] name [] text a b are each right = (right, tt)
 each_more d table [] name (t ∷ ts) text a b are each right = absurd are
@@ -26,7 +26,7 @@ each_more d table (n ∷ ns) name [] text a b are each right = absurd are
 each_more d table (n ∷ ns) name (t ∷ ts) text a b are each right = (each.0, each_more d table ns name ts text are.0 b are.3 each.1 right)
 
 each_less : (d : List DelimiterText) (table : Table) (names : List (Bor (List ℕ))) (name : Bor (List ℕ)) (texts : List (List ℕ)) (text : List ℕ) (a b : Option (List ℕ)) → AreTexts names a texts b → EachIsRight d table (names ++ name ∷ []) (texts ++ text ∷ [])
-    → EachIsRight d table names texts × IsRight d table name.now text
+    → EachIsRight d table names texts × IsRightTemplate d table name.now text
 each_less d table [] name [] text a b are each = (tt, each.0)
 each_less d table [] name (t ∷ ts) text a b are each = absurd are
 each_less d table (n ∷ ns) name [] text a b are each = absurd are
@@ -42,7 +42,7 @@ abbrev pub SoFar : List DelimiterText → Table → List (Bor (List ℕ)) → Op
 SoFar d table names a b right = (texts : List (List ℕ)) × AreTexts names a texts b × ((right ≡ true) ↔ EachIsRight d table names texts)
 
 pub checked_more : (d : List DelimiterText) (table : Table) (names : List (Bor (List ℕ))) (i : ℕ) (first : Bor (List ℕ)) (text : List ℕ) (a b c : Option (List ℕ)) (right one : Bool) → i < length names → SoFar d table (take i names) a b right
-    → IsTextOf (get_or names i first).now b text → (is_standard (get_or names i first).now ≡ false → c ≡ b) → (one ≡ true) ↔ IsRight d table (get_or names i first).now text
+    → IsTextOf (get_or names i first).now b text → (is_standard (get_or names i first).now ≡ false → c ≡ b) → (one ≡ true) ↔ IsRightTemplate d table (get_or names i first).now text
     → SoFar d table (take (i + 1) names) a c (right && one)
 checked_more d table names i first text a b c right one inside so_far is kept says =
     let name = get_or names i first in

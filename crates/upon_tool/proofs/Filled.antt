@@ -24,11 +24,11 @@ use Rattle.upon_engine.specs.declared.needs.Needs.{Needs}
 use Rattle.upon_tool_io.specs.declared.files.ReadFault.{ReadFault}
 use Rattle.upon_tool_io.specs.declared.arguments.Escape.{Escape}
 use Rattle.upon_tool_messages.specs.Library.{IsOfAdded}
-use Rattle.upon_tool_messages.specs.Status.{end_status}
+use Rattle.upon_tool_messages.specs.Status.{tool_end_status}
 use Rattle.upon_tool_messages.specs.declared.failure.Failure.{Failure}
 use Rattle.upon_tool_messages.specs.declared.failure.Failure.TheVariants.{Fault}
 use Rattle.upon_tool_messages.specs.declared.library.Refusal.{Refusal}
-use Rattle.upon_calls.specs.Escaping.{format_for}
+use Rattle.upon_calls.specs.Escaping.{language_format}
 use Rattle.upon_calls.specs.Filled.{escaping_engine, with_functions}
 use Rattle.upon_calls.specs.Names.{NeededBy}
 use Rattle.upon_calls.specs.declared.escaping.Language.{Language}
@@ -36,8 +36,8 @@ use Rattle.upon_tool_shapes.specs.Fitting.{language_for}
 use Rattle.upon_std.specs.Table.{standard_answer, standard_name}
 use Rattle.upon_std.specs.declared.table.StandardFunction.{StandardFunction}
 use Rattle.upon_tool.specs.Names.{needs_text}
-use Rattle.upon_tool.specs.Rendering.{Renders, SendsPage, StaysWithin}
-use Rattle.upon_tool.specs.Filled.{engine_for, with_page, EachHasTree, TakesFiles, TakesRead, TakesText}
+use Rattle.upon_tool.specs.Rendering.{SendsPage, SendsWhole, StaysWithin}
+use Rattle.upon_tool.specs.Filled.{tool_engine, with_page, EachHasTree, TakesFiles, TakesRead, TakesText}
 use Rattle.upon_tool.specs.Work.{IsCheck, ListsNames, RefusesWork, Works}
 use Rattle.upon_tool.specs.declared.sources.FolderFile.{FolderFile}
 use Rattle.upon_tool.specs.declared.work.Templates.{Templates}
@@ -66,7 +66,7 @@ functions_syntax : (functions : List StandardFunction) (e : Texts) → (with_fun
 functions_syntax [] e = refl
 functions_syntax (f ∷ fs) e = functions_syntax fs (with_callable (standard_name f) (function (standard_answer f)) e)
 
-begun_syntax : (escape : Option Escape) (functions : List StandardFunction) → (engine_for escape functions).syntax ≡ default_delimiters
+begun_syntax : (escape : Option Escape) (functions : List StandardFunction) → (tool_engine escape functions).syntax ≡ default_delimiters
 begun_syntax escape functions = functions_syntax functions (escaping_engine (language_for escape)) ∙ escaping_syntax (language_for escape)
 
 -- ---- what is shown
@@ -74,14 +74,14 @@ begun_syntax escape functions = functions_syntax functions (escaping_engine (lan
 abbrev ShowsOn : Texts → List ℕ → Val → Limits → ℕ → Option (List ℕ) → Option (List ℕ) → Type 0
 ShowsOn e name v limits status old new = (held : Stored) (tree : Statements) → e.texts name ≡ Some held
     → ∥ HasTree held.syntax held.text tree ∥₁
-    → (end : Result (Unit {0}) Failure) × (status ≡ end_status end)
-    × Renders (λ r. SendsPage limits e (Some name) held.text tree v r old new) end × StaysWithin limits.output old new
+    → (end : Result (Unit {0}) Failure) × (status ≡ tool_end_status end)
+    × SendsWhole (λ r. SendsPage limits e (Some name) held.text tree v r old new) end × StaysWithin limits.output old new
 
 -- the text of a page that an engine was given last
-pub page_shown : (escape : Option Escape) (functions : List StandardFunction) (files : List FolderFile) (folder e : Texts) (name : List ℕ) (v : Val) (given limits : Limits) (text : List ℕ) (status : ℕ) (old new : Option (List ℕ)) → TakesFiles files (engine_for escape functions) folder
+pub page_shown : (escape : Option Escape) (functions : List StandardFunction) (files : List FolderFile) (folder e : Texts) (name : List ℕ) (v : Val) (given limits : Limits) (text : List ℕ) (status : ℕ) (old new : Option (List ℕ)) → TakesFiles files (tool_engine escape functions) folder
     → e ≡ with_text name text folder → EachHasTree e → given ≡ limits → ShowsOn e name v given status old new
     → (tree : Statements) × ∥ HasTree default_delimiters text tree ∥₁
-    × ((end : Result (Unit {0}) Failure) × (status ≡ end_status end) × Renders (λ r. SendsPage limits (with_text name text folder) (Some name) text tree v r old new) end
+    × ((end : Result (Unit {0}) Failure) × (status ≡ tool_end_status end) × SendsWhole (λ r. SendsPage limits (with_text name text folder) (Some name) text tree v r old new) end
     × StaysWithin limits.output old new)
 page_shown escape functions files folder e name v given limits text status old new takes is each same shows =
     let filled : Texts = with_text name text folder in
@@ -90,8 +90,8 @@ page_shown escape functions files folder e name v given limits text status old n
     let has = subst EachHasTree is each name held there in
     let said = subst (λ e. ShowsOn e name v given status old new) is shows held has.0 there has.1 in (
       has.0,
-      subst (λ d. ∥ HasTree d text has.0 ∥₁) (takes_syntax files (engine_for escape functions) folder takes ∙ begun_syntax escape functions) has.1,
-      subst (λ limits. (end : Result (Unit {0}) Failure) × (status ≡ end_status end) × Renders (λ r. SendsPage limits filled (Some name) text has.0 v r old new) end × StaysWithin limits.output old new) same said,
+      subst (λ d. ∥ HasTree d text has.0 ∥₁) (takes_syntax files (tool_engine escape functions) folder takes ∙ begun_syntax escape functions) has.1,
+      subst (λ limits. (end : Result (Unit {0}) Failure) × (status ≡ tool_end_status end) × SendsWhole (λ r. SendsPage limits filled (Some name) text has.0 v r old new) end × StaysWithin limits.output old new) same said,
     )
 
 -- ---- what is listed
@@ -115,7 +115,7 @@ check_kept work same is check = subst IsCheck (sym is) check
 
 -- ---- how an engine is filled
 -- its formatters, if values are escaped
-pub with_escape : (b a e : Texts) (f g : Formatter) (escape : Option Language) (language : Language) → escape ≡ Some language → b ≡ empty_engine → a ≡ with_callable (codes "verbatim") (formatter f) b → f ≡ default_format → e ≡ with_default_formatter g a → g ≡ format_for language → e ≡ escaping_engine escape
+pub with_escape : (b a e : Texts) (f g : Formatter) (escape : Option Language) (language : Language) → escape ≡ Some language → b ≡ empty_engine → a ≡ with_callable (codes "verbatim") (formatter f) b → f ≡ default_format → e ≡ with_default_formatter g a → g ≡ language_format language → e ≡ escaping_engine escape
 with_escape b a e f g escape language so before added verbatim set escapes =
     set
     ∙ (λ i. with_default_formatter (escapes i) ((added ∙ λ j. with_callable (codes "verbatim") (formatter (verbatim j)) (before j)) i))
@@ -138,7 +138,7 @@ function_added functions i d f name answers first old new inside so_far is named
     ∙ ap (λ f. with_functions (take i functions ++ f ∷ []) first) (sym is)
     ∙ ap (λ fs. with_functions fs first) (sym (take_more functions i d inside))
 
-pub all_added : (functions : List StandardFunction) (i : ℕ) (escape : Option Escape) (first e : Texts) → length functions ≤ i → e ≡ with_functions (take i functions) first → first ≡ escaping_engine (language_for escape) → e ≡ engine_for escape functions
+pub all_added : (functions : List StandardFunction) (i : ℕ) (escape : Option Escape) (first e : Texts) → length functions ≤ i → e ≡ with_functions (take i functions) first → first ≡ escaping_engine (language_for escape) → e ≡ tool_engine escape functions
 all_added functions i escape first e done is begun =
     is
     ∙ ap (λ fs. with_functions fs first) (take_all i functions done)
@@ -174,10 +174,10 @@ no_page page folder e none is = is ∙ ap (λ page. with_page page folder) (sym 
 
 -- which is refused for its fault
 pub page_refused : (templates : Templates) (work : Work) (name : Bor (List ℕ)) (source : String Global) (folder : Texts) (e : Error) (r : Result ℕ Failure) → templates.page ≡ Some (name, source) → IsErrAnd r (λ f. f ≡ Fault e)
-    → IsSyntaxErrorOf name.now folder.syntax (string_bytes source) e → TakesFiles templates.files.items (engine_for templates.escape templates.functions.now) folder → IfErr r (RefusesWork templates work)
+    → IsSyntaxErrorOf name.now folder.syntax (string_bytes source) e → TakesFiles templates.files.items (tool_engine templates.escape templates.functions.now) folder → IfErr r (RefusesWork templates work)
 page_refused templates work name source folder e (Ok status) there is faulty takes = absurd is
 page_refused templates work name source folder e (Err f) there is faulty takes =
-    let same = takes_syntax templates.files.items (engine_for templates.escape templates.functions.now) folder takes ∙ begun_syntax templates.escape templates.functions.now in
+    let same = takes_syntax templates.files.items (tool_engine templates.escape templates.functions.now) folder takes ∙ begun_syntax templates.escape templates.functions.now in
     let fault = subst (λ d. IsSyntaxErrorOf name.now d (string_bytes source) e) same faulty in
     let said = subst (λ page. IsSomeAnd page (λ page. IsSyntaxErrorOf page.0.now default_delimiters (string_bytes page.1) e)) (sym there) fault in
     subst (RefusesWork templates work) (sym is) (inr said)

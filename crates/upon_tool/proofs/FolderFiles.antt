@@ -9,7 +9,7 @@ use Rattle.upon_types.specs.Conversions.{or_else}
 use Rattle.upon_types.specs.declared.error.Error.{Error}
 use Rattle.upon_engine.specs.Changes.{unless_refused, with_text}
 use Rattle.upon_engine.specs.Texts.{Texts}
-use Rattle.upon_tool_messages.specs.Library.{library_names, refusal_of, IsOfAdded}
+use Rattle.upon_tool_messages.specs.Library.{library_names, refused_as, IsOfAdded}
 use Rattle.upon_tool_messages.specs.declared.library.Library.{Library}
 use Rattle.upon_tool_messages.specs.declared.library.Refusal.{Refusal}
 use Rattle.upon_tool.specs.Filled.{with_page}
@@ -66,16 +66,16 @@ file_name file = string_bytes file.name
 -- what is known of a library and of what an engine holds, before the rest of the files
 abbrev pub FolderSoFar : Library → Texts → List FolderFile → List FolderFile → Type 0
 FolderSoFar library e rest all =
-    (library_names library ++ map file_name rest ≡ map file_name all) × EachName (λ name. refusal_of library name ≡ None → IsSome (e.texts name)) (library_names library)
+    (library_names library ++ map file_name rest ≡ map file_name all) × EachName (λ name. refused_as library name ≡ None → IsSome (e.texts name)) (library_names library)
 
 pub folder_begun : (library : Library) (e : Texts) (all : List FolderFile) → library_names library ≡ [] → FolderSoFar library e all all
 folder_begun library e all none = (
   ap (λ names. names ++ map file_name all) none,
-  subst (EachName (λ name. refusal_of library name ≡ None → IsSome (e.texts name))) (sym none) tt,
+  subst (EachName (λ name. refused_as library name ≡ None → IsSome (e.texts name))) (sym none) tt,
 )
 
 pub folder_more : (key : List ℕ) (given : Option Refusal) (old new : Texts) (was now : Library) (file : FolderFile) (items rest all : List FolderFile) → key ≡ file_name file → items ≡ file ∷ rest → Took (file_name file) given old new
-    → library_names now ≡ library_names was ++ key ∷ [] → ((other : List ℕ) → refusal_of now other ≡ update bytes_eq (refusal_of was) key (or_else given (refusal_of was key)) other) → FolderSoFar was old items all → FolderSoFar now new rest all
+    → library_names now ≡ library_names was ++ key ∷ [] → ((other : List ℕ) → refused_as now other ≡ update bytes_eq (refused_as was) key (or_else given (refused_as was key)) other) → FolderSoFar was old items all → FolderSoFar now new rest all
 folder_more key given old new was now file items rest all same is took listed refused so_far =
     let names = library_names was in (
       ap (λ l. l ++ map file_name rest) listed
@@ -83,9 +83,9 @@ folder_more key given old new was now file items rest all same is took listed re
           ∙ ap (λ key. names ++ key ∷ map file_name rest) same
           ∙ sym (ap (λ items. names ++ map file_name items) is)
           ∙ so_far.0,
-      subst (EachName (λ name. refusal_of now name ≡ None → IsSome (new.texts name))) (sym (listed ∙ ap (λ key. names ++ key ∷ []) same))
-          (held_more (file_name file) given old new (refusal_of was) (refusal_of now) took
-          (subst (λ key. (other : List ℕ) → refusal_of now other ≡ update bytes_eq (refusal_of was) key (or_else given (refusal_of was key)) other) same refused) names so_far.1),
+      subst (EachName (λ name. refused_as now name ≡ None → IsSome (new.texts name))) (sym (listed ∙ ap (λ key. names ++ key ∷ []) same))
+          (held_more (file_name file) given old new (refused_as was) (refused_as now) took
+          (subst (λ key. (other : List ℕ) → refused_as now other ≡ update bytes_eq (refused_as was) key (or_else given (refused_as was key)) other) same refused) names so_far.1),
     )
 
 pub folder_ended : (library : Library) (e : Texts) (items listed all : List FolderFile) → items ≡ [] → listed ≡ all → FolderSoFar library e items listed → FolderSoFar library e [] all
@@ -110,7 +110,7 @@ pub files_right : (library : Library) (folder e : Texts) (page : Option (Bor (Li
 files_right library folder e page all is so_far right =
     let all_names : library_names library ≡ map file_name all = sym (append-nil (library_names library)) ∙ so_far.0 in
     subst (EachName (λ name. IsSome (e.texts name) × HeldIsRight e name)) all_names
-    (each_name (λ name. ((refusal_of library name ≡ None) × HeldIsRight e name) × (refusal_of library name ≡ None → IsSome (folder.texts name))) (λ name. IsSome (e.texts name) × HeldIsRight e name) (λ name said. (
+    (each_name (λ name. ((refused_as library name ≡ None) × HeldIsRight e name) × (refused_as library name ≡ None → IsSome (folder.texts name))) (λ name. IsSome (e.texts name) × HeldIsRight e name) (λ name said. (
       subst (λ e. IsSome (e.texts name)) (sym is) (page_held page folder name (said.1 said.0.0)),
       said.0.1,
-    )) (library_names library) (both_so (λ name. (refusal_of library name ≡ None) × HeldIsRight e name) (λ name. refusal_of library name ≡ None → IsSome (folder.texts name)) (library_names library) right so_far.1))
+    )) (library_names library) (both_so (λ name. (refused_as library name ≡ None) × HeldIsRight e name) (λ name. refused_as library name ≡ None → IsSome (folder.texts name)) (library_names library) right so_far.1))

@@ -16,10 +16,10 @@ use Rattle.upon_tool_many.specs.declared.build.Build.{Build}
 use Rattle.upon_tool_many.specs.declared.each.Each.{Each}
 use Rattle.upon_tool_messages.specs.declared.failure.Failure.{Failure}
 use Rattle.upon_tool_messages.specs.declared.failure.Failure.TheVariants.{Data}
-use Rattle.upon_tool.specs.Calls.{is_input, IsFaultOfLayout, IsLayout, IsNoContext, RefusesCall}
+use Rattle.upon_tool.specs.Calls.{may_be_input, IsFaultOfLayout, IsLayout, IsNoContext, RefusesCall}
 use Rattle.upon_tool.specs.ManyPages.{limits_set, BuildIsWell, EachIsWell}
 use Rattle.upon_calls.specs.Rendering.{is_limited}
-use Rattle.upon_tool.specs.Refusals.{Refuses}
+use Rattle.upon_tool.specs.Refusals.{RefusesOrFails}
 use Rattle.upon_tool.specs.Sources.{IsUnread}
 use Rattle.upon_tool.specs.Work.{Works}
 use Rattle.upon_tool.specs.declared.work.Work.{Work}
@@ -47,7 +47,7 @@ abbrev named_by_build : BuildCall → Bor (List ℕ) → Type 0
 named_by_build call name = (call.layout ≡ Some name) ⊎ (call.render.templates ≡ Some name)
 
 abbrev no_context_of : BuildCall → Option (List ℕ) → ContextFault → Type 0
-no_context_of call input = IsNoContext (is_input call.layout) call.render input
+no_context_of call input = IsNoContext (may_be_input call.layout) call.render input
 
 -- there is no context
 pub build_data_refused : (call : BuildCall) (input : Option (List ℕ)) (fault : ContextFault) (r : Result ℕ Failure) → IsErrAnd r (λ x. x ≡ Data fault) → no_context_of call input fault → IfErr r (RefusesCall (BuildAsked call) input)
@@ -75,7 +75,7 @@ layout_fault None page input e none faulty = absurd (subst (λ page. IsPageFault
 layout_fault (Some name) None input e is faulty = absurd is
 layout_fault (Some name) (Some page) input e is faulty = (string_bytes page.1, is.1, subst (λ name. IsSyntaxErrorOf name.now default_delimiters (string_bytes page.1) e) is.0 faulty)
 
-pub build_refused : (call : BuildCall) (page : Option (Bor (List ℕ) × String Global)) (input : Option (List ℕ)) (r : Result ℕ Failure) → IsLayout call.layout input page → IfErr r (Refuses (λ fault. ⊥) (Contains []) (IsPageFault page)) → IfErr r (RefusesCall (BuildAsked call) input)
+pub build_refused : (call : BuildCall) (page : Option (Bor (List ℕ) × String Global)) (input : Option (List ℕ)) (r : Result ℕ Failure) → IsLayout call.layout input page → IfErr r (RefusesOrFails (λ fault. ⊥) (Contains []) (IsPageFault page)) → IfErr r (RefusesCall (BuildAsked call) input)
 build_refused call page input (Ok status) is said = tt
 build_refused call page input (Err f) is said =
     of_part (no_context_of call input) (named_by_build call) (IsFaultOfLayout call.layout input) (Contains []) (IsPageFault page)

@@ -14,14 +14,14 @@ use Rattle.upon_engine.specs.Faults.{IsSyntaxErrorOf}
 use Rattle.upon_engine.specs.Names.{texts}
 use Rattle.upon_engine.specs.Texts.{Texts}
 use Rattle.upon_tool_messages.specs.Library.{IsOfAdded}
-use Rattle.upon_tool_messages.specs.Status.{is_memory, is_memory_kind}
+use Rattle.upon_tool_messages.specs.Status.{is_memory_error, says_memory}
 use Rattle.upon_tool_messages.specs.declared.library.Refusal.{Refusal}
-use Rattle.upon_tool.specs.Missing.{is_missing, IsRight}
+use Rattle.upon_tool.specs.Missing.{is_nowhere, IsRightTemplate}
 use Rattle.upon_tool.specs.Filled.{TakesText}
 use Rattle.upon_tool.proofs.Statuses.{no_success}
 
-not_memory : (e : Error) → is_memory e ≡ false → fault_of e ≡ out_of_memory → ⊥
-not_memory e is out = let no : true ≡ false = sym (ap (λ f. is_memory_kind f.kind) out) ∙ is in absurd cc
+not_memory : (e : Error) → is_memory_error e ≡ false → fault_of e ≡ out_of_memory → ⊥
+not_memory e is out = let no : true ≡ false = sym (ap (λ f. says_memory f.kind) out) ∙ is in absurd cc
 
 -- a text was added, or is refused for its fault
 pub taken : {F : Type 0} (name text : List ℕ) (old new : Texts) (added : Result (Unit {0}) Error) (q : Result (Option Refusal) F) (r : Option Refusal) → q ≡ Ok r → IsOfAdded added q
@@ -34,11 +34,11 @@ taken name text old new (Err e) q (Some refusal) was of_added is (inr first) non
 
 -- ---- a text is checked
 -- it is refused for its fault, and then it is not right
-pub not_compiled : (delimiters : List DelimiterText) (table : Table) (name text : List ℕ) (e named : Error) {First : Type 0} → is_memory named ≡ false → OrMemory (fault_with_name name (fault_of e)) (fault_of named) → (fault_of e ≡ out_of_memory) ⊎ First
-    → ((fault_of e).kind ≡ syntax → (tree : Statements) → HasTree delimiters text tree → ⊥) → (First → (fault_of e).kind ≡ syntax) → (false ≡ true) ↔ IsRight delimiters table name text
+pub not_compiled : (delimiters : List DelimiterText) (table : Table) (name text : List ℕ) (e named : Error) {First : Type 0} → is_memory_error named ≡ false → OrMemory (fault_with_name name (fault_of e)) (fault_of named) → (fault_of e ≡ out_of_memory) ⊎ First
+    → ((fault_of e).kind ≡ syntax → (tree : Statements) → HasTree delimiters text tree → ⊥) → (First → (fault_of e).kind ≡ syntax) → (false ≡ true) ↔ IsRightTemplate delimiters table name text
 not_compiled delimiters table name text e named is (inr out) faulty none kind = absurd (not_memory named is out)
 not_compiled delimiters table name text e named is (inl same) (inl out) none kind =
-    let no : true ≡ false = sym (ap (λ f. is_memory_kind f.kind) (same ∙ ap (fault_with_name name) out)) ∙ is in absurd cc
+    let no : true ≡ false = sym (ap (λ f. says_memory f.kind) (same ∙ ap (fault_with_name name) out)) ∙ is in absurd cc
 not_compiled delimiters table name text e named is (inl same) (inr first) none kind =
     (λ no. absurd cc, λ right. absurd (none (kind first) right.0 right.1))
 
@@ -57,18 +57,18 @@ no_names (item ∷ items) n len is =
 
 -- no include names nothing
 none_missing : (delimiters : List DelimiterText) (table : Table) (own text : List ℕ) (tree : Statements) (names : List (List ℕ)) → names ≡ [] → HasTree delimiters text tree
-    → ((name : List ℕ) → Contains names name ↔ (Includes name tree × (is_missing own table name ≡ true))) → (true ≡ true) ↔ IsRight delimiters table own text
+    → ((name : List ℕ) → Contains names name ↔ (Includes name tree × (is_nowhere own table name ≡ true))) → (true ≡ true) ↔ IsRightTemplate delimiters table own text
 none_missing delimiters table own text tree names no_name has each =
-    (λ e. (tree, has, λ name included. unmissed (is_missing own table name) (λ is. no_member name (subst (λ names. Contains names name) no_name ((each name).1 (included, is))))), λ right. refl)
+    (λ e. (tree, has, λ name included. unmissed (is_nowhere own table name) (λ is. no_member name (subst (λ names. Contains names name) no_name ((each name).1 (included, is))))), λ right. refl)
 
 pub no_name_missing : (delimiters : List DelimiterText) (table : Table) (own text : List ℕ) (tree : Statements) (items : List (Bor (List ℕ))) (n : ℕ) → n ≡ length items → (n == 0) ≡ true → HasTree delimiters text tree
-    → ((name : List ℕ) → Contains (texts items) name ↔ (Includes name tree × (is_missing own table name ≡ true))) → (true ≡ true) ↔ IsRight delimiters table own text
+    → ((name : List ℕ) → Contains (texts items) name ↔ (Includes name tree × (is_nowhere own table name ≡ true))) → (true ≡ true) ↔ IsRightTemplate delimiters table own text
 no_name_missing delimiters table own text tree items n len is has each =
     none_missing delimiters table own text tree (texts items) (no_names items n len is) has each
 
 -- one does
 one_missing : (delimiters : List DelimiterText) (table : Table) (own text : List ℕ) (tree : Statements) (name : List ℕ) (names : List (List ℕ)) → ((other : Statements) → HasTree delimiters text other → other ≡ tree)
-    → ((other : List ℕ) → Contains (name ∷ names) other ↔ (Includes other tree × (is_missing own table other ≡ true))) → (false ≡ true) ↔ IsRight delimiters table own text
+    → ((other : List ℕ) → Contains (name ∷ names) other ↔ (Includes other tree × (is_nowhere own table other ≡ true))) → (false ≡ true) ↔ IsRightTemplate delimiters table own text
 one_missing delimiters table own text tree name names only each =
     let here = (each name).0 (0, omega arith, refl) in (
       λ e. absurd cc,
@@ -78,7 +78,7 @@ one_missing delimiters table own text tree name names only each =
 
 pub some_missing : (delimiters : List DelimiterText) (table : Table) (own text : List ℕ) (tree : Statements) (items : List (Bor (List ℕ))) (n : ℕ) → n ≡ length items → (n == 0) ≡ false
     → ((other : Statements) → HasTree delimiters text other → other ≡ tree)
-    → ((other : List ℕ) → Contains (texts items) other ↔ (Includes other tree × (is_missing own table other ≡ true))) → (false ≡ true) ↔ IsRight delimiters table own text
+    → ((other : List ℕ) → Contains (texts items) other ↔ (Includes other tree × (is_nowhere own table other ≡ true))) → (false ≡ true) ↔ IsRightTemplate delimiters table own text
 some_missing delimiters table own text tree [] n len is only each =
     let no : true ≡ false = sym (ap (λ n. n == 0) len) ∙ is in absurd cc
 some_missing delimiters table own text tree (item ∷ items) n len is only each =

@@ -10,7 +10,7 @@ use Rattle.upon_types.specs.Val.{Val}
 use Rattle.upon_types.specs.declared.error.Error.{Error}
 use Rattle.upon_meaning_spec.specs.Outcome.{Outcome}
 use Rattle.upon_vm.specs.Limits.{GrowsWithin}
-use Rattle.upon_vm.specs.Reports.{IsAnyIo, Writes}
+use Rattle.upon_vm.specs.Reports.{IsAnyIo, WritesReported}
 use Rattle.upon_vm.specs.Within.{WritesWithin}
 use Rattle.upon_vm.specs.declared.limits.Limits.{Limits}
 use Rattle.upon_engine.specs.Texts.{texts_of, Texts}
@@ -20,7 +20,7 @@ use Rattle.upon_engine.specs.declared.engine.Engine.{Engine as Held}
 use Rattle.upon_tool_messages.specs.declared.failure.Failure.{Failure}
 use Rattle.upon_tool_messages.specs.declared.failure.Failure.TheVariants.{Unreadable, NotText, Data, Unwritable, Fault}
 use Rattle.upon_calls.specs.Rendering.{is_limited}
-use Rattle.upon_tool.specs.Rendering.{Renders, SendsIf, SendsPage, StaysWithin}
+use Rattle.upon_tool.specs.Rendering.{SendsIf, SendsPage, SendsWhole, StaysWithin}
 
 appends_kept : (old sent new : Option (List ℕ)) (text : List ℕ) → Appends old sent text → Keeps sent new → Appends old new text
 appends_kept None sent new text appends keeps = tt
@@ -28,7 +28,7 @@ appends_kept (Some xs) None new text appends keeps = absurd appends
 appends_kept (Some xs) (Some ys) None text appends keeps = absurd keeps
 appends_kept (Some xs) (Some ys) (Some zs) text appends keeps = keeps ∙ appends
 
-writes_kept : {Q : Type 0} (limit : ℕ) (e : Error) (old mid new : Option (List ℕ)) (o : Outcome Q) → Keeps mid new → Writes limit IsAnyIo (Err e) old mid o → Writes limit IsAnyIo (Err e) old new o
+writes_kept : {Q : Type 0} (limit : ℕ) (e : Error) (old mid new : Option (List ℕ)) (o : Outcome Q) → Keeps mid new → WritesReported limit IsAnyIo (Err e) old mid o → WritesReported limit IsAnyIo (Err e) old new o
 writes_kept limit e old mid new o keeps (inl said) = inl (said.0, appends_kept old mid new o.text said.1 keeps)
 writes_kept limit e old mid new o keeps (inr said) = inr (said.0, (said.1.0, said.1.1, said.1.2, appends_kept old mid new said.1.0 said.1.3 keeps))
 
@@ -107,7 +107,7 @@ module _ {X Y : Type 0} {P : X → Type 0} {Q : Y → Type 0} (formats : DynBox 
   shows_kept h limits name source tree v old sent new keeps shown = whole_kept limits (texts_of formats answers h) name source tree v old sent new keeps (is_limited limits) shown
 
   -- and so does what a failed rendering has sent
-  pub renders_kept : (h : Held X Y P Q) (limits : Limits) (name : Option (List ℕ)) (source : List ℕ) (tree : Statements) (v : Val) (old sent new : Option (List ℕ)) (f : Failure) → Keeps sent new → Renders (λ r. SendsPage limits (texts_of formats answers h) name source tree v r old sent) (Err f) → Renders (λ r. SendsPage limits (texts_of formats answers h) name source tree v r old new) (Err f)
+  pub renders_kept : (h : Held X Y P Q) (limits : Limits) (name : Option (List ℕ)) (source : List ℕ) (tree : Statements) (v : Val) (old sent new : Option (List ℕ)) (f : Failure) → Keeps sent new → SendsWhole (λ r. SendsPage limits (texts_of formats answers h) name source tree v r old sent) (Err f) → SendsWhole (λ r. SendsPage limits (texts_of formats answers h) name source tree v r old new) (Err f)
   renders_kept h limits name source tree v old sent new (Fault e) keeps said = fault_kept limits (texts_of formats answers h) name source tree v old sent new keeps (is_limited limits) e said
   renders_kept h limits name source tree v old sent new (Data fault) keeps said = said
   renders_kept h limits name source tree v old sent new (Unreadable file error) keeps said = said
@@ -115,10 +115,10 @@ module _ {X Y : Type 0} {P : X → Type 0} {Q : Y → Type 0} (formats : DynBox 
   renders_kept h limits name source tree v old sent new (Unwritable file error) keeps said = said
 
   -- a rendering that ended well, of which the output was not flushed
-  pub not_flushed : (h : Held X Y P Q) (limits : Limits) (name : Option (List ℕ)) (source : List ℕ) (tree : Statements) (v : Val) (old sent new : Option (List ℕ)) (e : Error) → IsAnyIo e → Keeps sent new → SendsPage limits (texts_of formats answers h) name source tree v (Ok tt) old sent → Renders (λ r. SendsPage limits (texts_of formats answers h) name source tree v r old new) (Err (Fault e))
+  pub not_flushed : (h : Held X Y P Q) (limits : Limits) (name : Option (List ℕ)) (source : List ℕ) (tree : Statements) (v : Val) (old sent new : Option (List ℕ)) (e : Error) → IsAnyIo e → Keeps sent new → SendsPage limits (texts_of formats answers h) name source tree v (Ok tt) old sent → SendsWhole (λ r. SendsPage limits (texts_of formats answers h) name source tree v r old new) (Err (Fault e))
   not_flushed h limits name source tree v old sent new e io keeps shown = flush_failed limits (texts_of formats answers h) name source tree v old sent new keeps (is_limited limits) e io shown
 
   -- a failure that is handed on
-  pub handed_on : (h : Held X Y P Q) (limits : Limits) (name : Option (List ℕ)) (source : List ℕ) (tree : Statements) (v : Val) (old new : Option (List ℕ)) (f : Failure) (r : Result (Unit {0}) Failure) → IsErrAnd r (λ x. x ≡ f) → Renders (λ r. SendsPage limits (texts_of formats answers h) name source tree v r old new) (Err f) → Renders (λ r. SendsPage limits (texts_of formats answers h) name source tree v r old new) r
+  pub handed_on : (h : Held X Y P Q) (limits : Limits) (name : Option (List ℕ)) (source : List ℕ) (tree : Statements) (v : Val) (old new : Option (List ℕ)) (f : Failure) (r : Result (Unit {0}) Failure) → IsErrAnd r (λ x. x ≡ f) → SendsWhole (λ r. SendsPage limits (texts_of formats answers h) name source tree v r old new) (Err f) → SendsWhole (λ r. SendsPage limits (texts_of formats answers h) name source tree v r old new) r
   handed_on h limits name source tree v old new f (Ok u) is said = absurd is
-  handed_on h limits name source tree v old new f (Err x) is said = subst (λ x. Renders (λ r. SendsPage limits (texts_of formats answers h) name source tree v r old new) (Err x)) (sym is) said
+  handed_on h limits name source tree v old new f (Err x) is said = subst (λ x. SendsWhole (λ r. SendsPage limits (texts_of formats answers h) name source tree v r old new) (Err x)) (sym is) said

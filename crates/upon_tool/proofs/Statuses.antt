@@ -1,6 +1,6 @@
 -- The statuses of failures.
 use Rattle.std.proofs.Common.{◌≡◌, ℕ, ◌≤◌, arith}
-use Rattle.upon_tool_messages.specs.Status.{data_status, status_of}
+use Rattle.upon_tool_messages.specs.Status.{data_status, tool_status}
 use Rattle.upon_tool_messages.specs.declared.failure.Failure.{Failure}
 use Rattle.upon_tool_data.specs.declared.fault.ContextFault.{ContextFault}
 use Rattle.upon_tool_data.specs.declared.fault.ContextFault.TheVariants.{LacksText, LacksValue, InputTwice, Unreadable as DataUnreadable, NotText as DataNotText, NotOfFormat, NotObject, NotJson, NotMap, OutOfMemory}
@@ -32,14 +32,14 @@ most_data (NotMap word) = omega arith
 most_data OutOfMemory = omega arith
 
 -- a failure has no status of success
-pub least_status : (f : Failure) → 1 ≤ status_of f
+pub least_status : (f : Failure) → 1 ≤ tool_status f
 least_status (Unreadable name error) = omega arith
 least_status (NotText name) = omega arith
 least_status (Data fault) = least_data fault
 least_status (Unwritable name error) = omega arith
 least_status (Fault error) = omega arith
 
-pub most_status : (f : Failure) → status_of f ≤ 2
+pub most_status : (f : Failure) → tool_status f ≤ 2
 most_status (Unreadable name error) = omega arith
 most_status (NotText name) = omega arith
 most_status (Data fault) = most_data fault

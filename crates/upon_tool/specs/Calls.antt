@@ -19,19 +19,19 @@ use Rattle.upon_tool_io.specs.declared.arguments.NamesCall.{NamesCall}
 use Rattle.upon_tool_io.specs.declared.arguments.RenderCall.{RenderCall}
 use Rattle.upon_tool_data.specs.Context.{IsContext, RefusesContext}
 use Rattle.upon_tool_data.specs.Sources.{is_standard, IsTextOf}
-use Rattle.upon_tool_data.specs.Words.{IsWrong}
+use Rattle.upon_tool_data.specs.Words.{IsWordFault}
 use Rattle.upon_tool_data.specs.declared.fault.ContextFault.{ContextFault}
 use Rattle.upon_tool_data.specs.declared.words.DataWords.{DataWords}
 use Rattle.upon_tool_many.specs.declared.build.Build.{Build}
 use Rattle.upon_tool_many.specs.declared.each.Each.{Each}
-use Rattle.upon_tool_messages.specs.Status.{end_status, status_of}
+use Rattle.upon_tool_messages.specs.Status.{tool_end_status, tool_status}
 use Rattle.upon_tool_messages.specs.declared.failure.Failure.{Failure}
 use Rattle.upon_tool.specs.Checked.{ChecksCall}
-use Rattle.upon_tool.specs.Filled.{engine_for, standard_functions, with_page, TakesFiles}
+use Rattle.upon_tool.specs.Filled.{tool_engine, standard_functions, with_page, TakesFiles}
 use Rattle.upon_tool.specs.Fitting.{FitsCall, WritesShape}
 use Rattle.upon_tool.specs.ManyPages.{limits_set, BuildIsWell, EachIsWell}
-use Rattle.upon_tool.specs.Refusals.{Refuses}
-use Rattle.upon_tool.specs.Rendering.{Renders, SendsPage, StaysWithin}
+use Rattle.upon_tool.specs.Refusals.{RefusesOrFails}
+use Rattle.upon_tool.specs.Rendering.{SendsPage, SendsWhole, StaysWithin}
 use Rattle.upon_tool.specs.Work.{to_standard, ListsNames}
 use Rattle.upon_tool.specs.declared.sources.FolderFile.{FolderFile}
 
@@ -48,13 +48,13 @@ pub record AreWordsOf (call : RenderCall) (words : DataWords) : Type 0 where
   pub texts : words.texts.now ≡ call.set.items
 
 -- the value that a call's data are, by what standard input had left and has left, if that is known
-abbrev pub IsContextOf : RenderCall → Option (List ℕ) → Val → Option (List ℕ) → Type 0
-IsContextOf call input v later =
+abbrev pub IsCallContext : RenderCall → Option (List ℕ) → Val → Option (List ℕ) → Type 0
+IsCallContext call input v later =
     IsContext call.env call.data.items call.format call.set_json.items call.set.items input v later
 
 -- what the engine of a call holds before its templates
 abbrev pub engine_asked : RenderCall → Texts
-engine_asked call = engine_for call.escape (standard_functions call.standard)
+engine_asked call = tool_engine call.escape (standard_functions call.standard)
 
 -- A call of `render` ends with a status, by what standard input had left, if that is known. FILE's text was read, and
 -- the files of the context, after it, which is a value; and then the folder's files. If the output is standard
@@ -70,11 +70,11 @@ pub record RendersCall (call : RenderCall) (input : Option (List ℕ)) (status :
   pub folder : Texts
   pub read : IsTextOf call.file.now input text
   pub left : is_standard call.file.now ≡ false → later ≡ input
-  pub data_read : IsContextOf call later value last
+  pub data_read : IsCallContext call later value last
   pub no_folder : IsNone call.templates → files ≡ []
   pub taken : TakesFiles files (engine_asked call) folder
   pub shown : to_standard call.out ≡ true → (tree : Statements) × ∥ HasTree default_delimiters text tree ∥₁
-      × ((end : Result (Unit {0}) Failure) × (status ≡ end_status end) × Renders
+      × ((end : Result (Unit {0}) Failure) × (status ≡ tool_end_status end) × SendsWhole
       (λ r. SendsPage (limits_asked call) (with_text call.file.now text folder) (Some call.file.now) text tree value r
       old new) end × StaysWithin call.max_output old new)
 
@@ -87,7 +87,7 @@ pub record ListsCall (call : NamesCall) (input : Option (List ℕ)) (status : �
   pub folder : Texts
   pub read : IsTextOf call.file.now input text
   pub no_folder : IsNone call.templates → files ≡ []
-  pub taken : TakesFiles files (engine_for None []) folder
+  pub taken : TakesFiles files (tool_engine None []) folder
   pub listed : ListsNames (with_text call.file.now text folder) call.file.now call.json status old new
 
 -- what is rendered for each item
@@ -113,7 +113,7 @@ pub record RendersEachCall (call : EachCall) (input : Option (List ℕ)) (status
   pub folder : Texts
   pub read : IsTextOf call.render.file.now input text
   pub left : is_standard call.render.file.now ≡ false → later ≡ input
-  pub data_read : IsContextOf call.render later value last
+  pub data_read : IsCallContext call.render later value last
   pub no_folder : IsNone call.render.templates → files ≡ []
   pub taken : TakesFiles files (engine_asked call.render) folder
   pub rendered : EachIsWell (with_text call.render.file.now text folder) value (each_asked call) status
@@ -130,9 +130,9 @@ build_asked call = record {
 }
 
 -- a file that may be named is standard input
-abbrev pub is_input : Option (Bor (List ℕ)) → Bool
-is_input None = false
-is_input (Some name) = is_standard name.now
+abbrev pub may_be_input : Option (Bor (List ℕ)) → Bool
+may_be_input None = false
+may_be_input (Some name) = is_standard name.now
 
 -- the template that a layout is, under its file's name, if that is named
 abbrev pub IsLayout : Option (Bor (List ℕ)) → Option (List ℕ) → Option (Bor (List ℕ) × String Global) → Type 0
@@ -151,42 +151,43 @@ pub record BuildsCall (call : BuildCall) (input : Option (List ℕ)) (status : �
   pub files : List FolderFile
   pub folder : Texts
   pub read : IsLayout call.layout input layout
-  pub left : is_input call.layout ≡ false → later ≡ input
-  pub data_read : IsContextOf call.render later value last
+  pub left : may_be_input call.layout ≡ false → later ≡ input
+  pub data_read : IsCallContext call.render later value last
   pub no_folder : IsNone call.render.templates → files ≡ []
   pub taken : TakesFiles files (engine_asked call.render) folder
   pub built : BuildIsWell (with_page layout folder) value (build_asked call) status
 
 -- FILE's text, as it was read, has this fault
-abbrev pub IsFaultOf : Bor (List ℕ) → Option (List ℕ) → Error → Type 0
-IsFaultOf file input error =
+abbrev pub IsTextFault : Bor (List ℕ) → Option (List ℕ) → Error → Type 0
+IsTextFault file input error =
     (text : List ℕ) × IsTextOf file.now input text × IsSyntaxErrorOf file.now default_delimiters text error
 
 -- The words of a call's data are wrong, where standard input may have been taken; or they give no context, by what
 -- standard input has left after that.
 abbrev pub IsNoContext : Bool → RenderCall → Option (List ℕ) → ContextFault → Type 0
-IsNoContext taken call input fault = IsWrong taken call.data.items call.set_json.items call.set.items fault
+IsNoContext taken call input fault = IsWordFault taken call.data.items call.set_json.items call.set.items fault
     ⊎ ((later : Option (List ℕ)) × (taken ≡ false → later ≡ input)
     × RefusesContext call.env call.data.items call.format call.set_json.items call.set.items later fault)
 
 -- the layout's text, as it was read, has this fault
 abbrev pub IsFaultOfLayout : Option (Bor (List ℕ)) → Option (List ℕ) → Error → Type 0
-IsFaultOfLayout layout input error = IsSomeAnd layout (λ name. IsFaultOf name input error)
+IsFaultOfLayout layout input error = IsSomeAnd layout (λ name. IsTextFault name input error)
 
 -- Why a call ends before its work.
 abbrev pub RefusesCall : Call → Option (List ℕ) → Failure → Type 0
-RefusesCall (RenderAsked call) input = Refuses (IsNoContext (is_standard call.file.now) call input)
-    (λ name. (name ≡ call.file) ⊎ (call.templates ≡ Some name)) (IsFaultOf call.file input)
+RefusesCall (RenderAsked call) input = RefusesOrFails (IsNoContext (is_standard call.file.now) call input)
+    (λ name. (name ≡ call.file) ⊎ (call.templates ≡ Some name)) (IsTextFault call.file input)
 RefusesCall (CheckAsked call) input =
-    Refuses (λ fault. ⊥) (λ name. Contains call.files.items name ⊎ (call.templates ≡ Some name)) (λ error. ⊥)
-RefusesCall (FitAsked call) input = Refuses (λ fault. Unit {0})
+    RefusesOrFails (λ fault. ⊥) (λ name. Contains call.files.items name ⊎ (call.templates ≡ Some name)) (λ error. ⊥)
+RefusesCall (FitAsked call) input = RefusesOrFails (λ fault. Unit {0})
     (λ name. Contains call.check.files.items name ⊎ (call.check.templates ≡ Some name)) (λ error. ⊥)
-RefusesCall (ShapeAsked call) input = Refuses (λ fault. Unit {0}) (λ name. ⊥) (λ error. ⊥)
+RefusesCall (ShapeAsked call) input = RefusesOrFails (λ fault. Unit {0}) (λ name. ⊥) (λ error. ⊥)
 RefusesCall (NamesAsked call) input =
-    Refuses (λ fault. ⊥) (λ name. (name ≡ call.file) ⊎ (call.templates ≡ Some name)) (IsFaultOf call.file input)
-RefusesCall (EachAsked call) input = Refuses (IsNoContext (is_standard call.render.file.now) call.render input)
-    (λ name. (name ≡ call.render.file) ⊎ (call.render.templates ≡ Some name)) (IsFaultOf call.render.file input)
-RefusesCall (BuildAsked call) input = Refuses (IsNoContext (is_input call.layout) call.render input)
+    RefusesOrFails (λ fault. ⊥) (λ name. (name ≡ call.file) ⊎ (call.templates ≡ Some name))
+    (IsTextFault call.file input)
+RefusesCall (EachAsked call) input = RefusesOrFails (IsNoContext (is_standard call.render.file.now) call.render input)
+    (λ name. (name ≡ call.render.file) ⊎ (call.render.templates ≡ Some name)) (IsTextFault call.render.file input)
+RefusesCall (BuildAsked call) input = RefusesOrFails (IsNoContext (may_be_input call.layout) call.render input)
     (λ name. (call.layout ≡ Some name) ⊎ (call.render.templates ≡ Some name)) (IsFaultOfLayout call.layout input)
 
 -- a call's work is done, and ends with a status
@@ -200,16 +201,16 @@ DoesCall (EachAsked call) input status old new = (new ≡ old) × RendersEachCal
 DoesCall (BuildAsked call) input status old new = (new ≡ old) × BuildsCall call input status
 
 -- A call's work is done; or it is refused, and nothing was sent to the output.
-abbrev pub Runs : Call → Option (List ℕ) → Result ℕ Failure → Option (List ℕ) → Option (List ℕ) → Type 0
-Runs call input (Ok status) old new = DoesCall call input status old new
-Runs call input (Err failure) old new = (new ≡ old) × RefusesCall call input failure
+abbrev pub RunsCall : Call → Option (List ℕ) → Result ℕ Failure → Option (List ℕ) → Option (List ℕ) → Type 0
+RunsCall call input (Ok status) old new = DoesCall call input status old new
+RunsCall call input (Err failure) old new = (new ≡ old) × RefusesCall call input failure
 
 -- the status by how a call's work ended
 abbrev pub status_at : Result ℕ Failure → ℕ
 status_at (Ok status) = status
-status_at (Err failure) = status_of failure
+status_at (Err failure) = tool_status failure
 
 -- a call's work ends in one way, and that way has this status
 abbrev pub CallEnds : Call → Option (List ℕ) → ℕ → Option (List ℕ) → Option (List ℕ) → Type 0
 CallEnds call input status old new =
-    (end : Result ℕ Failure) × (status ≡ status_at end) × Runs call input end old new
+    (end : Result ℕ Failure) × (status ≡ status_at end) × RunsCall call input end old new

@@ -2,7 +2,7 @@
 use Rattle.std.specs.Prelude.{◌≡◌, ℕ, List, [], Option, None, IsNone}
 use Rattle.upon_engine.specs.Texts.{Texts}
 use Rattle.upon_tool_io.specs.declared.arguments.CheckCall.{CheckCall}
-use Rattle.upon_tool.specs.Filled.{engine_for, TakesFiles}
+use Rattle.upon_tool.specs.Filled.{tool_engine, TakesFiles}
 use Rattle.upon_tool.specs.Work.{ChecksFiles, EachFileIsRight}
 use Rattle.upon_tool.specs.declared.sources.FolderFile.{FolderFile}
 
@@ -12,6 +12,6 @@ pub record ChecksCall (call : CheckCall) (input : Option (List ℕ)) (status : �
   pub files : List FolderFile
   pub folder : Texts
   pub no_folder : IsNone call.templates → files ≡ []
-  pub taken : TakesFiles files (engine_for None []) folder
+  pub taken : TakesFiles files (tool_engine None []) folder
   pub checked : ChecksFiles folder call.files.items input status
   pub folder_checked : status ≡ 0 → EachFileIsRight folder files

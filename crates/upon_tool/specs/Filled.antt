@@ -20,8 +20,8 @@ abbrev pub standard_functions : Bool → List StandardFunction
 standard_functions wanted = if wanted then ALL else []
 
 -- what an engine holds before its templates: formatters and functions
-abbrev pub engine_for : Option Escape → List StandardFunction → Texts
-engine_for escape functions = with_functions functions (escaping_engine (language_for escape))
+abbrev pub tool_engine : Option Escape → List StandardFunction → Texts
+tool_engine escape functions = with_functions functions (escaping_engine (language_for escape))
 
 -- a text is held under a name, or it has no tree and nothing changes
 abbrev pub TakesText : List ℕ → List ℕ → Texts → Texts → Type 0
@@ -47,7 +47,7 @@ with_page (Some page) e = with_text page.0.now (string_bytes page.1) e
 -- an engine holds the files of a folder, and then a template in place of one of its name
 abbrev pub Fills : Templates → Texts → Type 0
 Fills templates e = (folder : Texts)
-    × TakesFiles templates.files.items (engine_for templates.escape templates.functions.now) folder
+    × TakesFiles templates.files.items (tool_engine templates.escape templates.functions.now) folder
     × (e ≡ with_page templates.page folder)
 
 -- each text that is held has a tree

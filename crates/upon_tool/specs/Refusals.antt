@@ -9,9 +9,9 @@ use Rattle.upon_tool_messages.specs.declared.failure.Failure.{Failure}
 use Rattle.upon_tool_messages.specs.declared.failure.Failure.TheVariants.{Unreadable, NotText, Data, Unwritable, Fault}
 
 -- There is no context; or a file that is named was not read, or is not UTF-8; or there is a fault, or memory was out.
-abbrev pub Refuses : (ContextFault → Type 0) → (Bor (List ℕ) → Type 0) → (Error → Type 0) → Failure → Type 0
-Refuses OfData Named Faulty (Data fault) = OfData fault
-Refuses OfData Named Faulty (Unreadable name error) = Named name
-Refuses OfData Named Faulty (NotText name) = Named name
-Refuses OfData Named Faulty (Unwritable name error) = ⊥
-Refuses OfData Named Faulty (Fault error) = (fault_of error ≡ out_of_memory) ⊎ Faulty error
+abbrev pub RefusesOrFails : (ContextFault → Type 0) → (Bor (List ℕ) → Type 0) → (Error → Type 0) → Failure → Type 0
+RefusesOrFails OfData Named Faulty (Data fault) = OfData fault
+RefusesOrFails OfData Named Faulty (Unreadable name error) = Named name
+RefusesOrFails OfData Named Faulty (NotText name) = Named name
+RefusesOrFails OfData Named Faulty (Unwritable name error) = ⊥
+RefusesOrFails OfData Named Faulty (Fault error) = (fault_of error ≡ out_of_memory) ⊎ Faulty error

@@ -11,7 +11,7 @@ use Rattle.upon_engine.specs.Texts.{Stored, Texts}
 use Rattle.upon_engine.specs.Theorem.{Sends}
 use Rattle.upon_engine.specs.Within.{SendsWithin}
 use Rattle.upon_calls.specs.Rendering.{is_limited}
-use Rattle.upon_tool_messages.specs.Status.{end_status}
+use Rattle.upon_tool_messages.specs.Status.{tool_end_status}
 use Rattle.upon_tool_messages.specs.declared.failure.Failure.{Failure}
 use Rattle.upon_tool_messages.specs.declared.failure.Failure.TheVariants.{Unreadable, NotText, Data, Unwritable, Fault}
 use Rattle.upon_tool.specs.declared.rendering.Page.{Page}
@@ -35,19 +35,19 @@ StaysWithin None old new = Unit {0}
 StaysWithin (Some limit) old new = GrowsWithin (Some limit) old new
 
 -- It is sent whole; or that ends with a fault.
-abbrev pub Renders : (Result (Unit {0}) Error → Type 0) → Result (Unit {0}) Failure → Type 0
-Renders Sent (Ok u) = Sent (Ok tt)
-Renders Sent (Err (Fault e)) = Sent (Err e)
-Renders Sent (Err (Data fault)) = ⊥
-Renders Sent (Err (Unreadable name error)) = ⊥
-Renders Sent (Err (NotText name)) = ⊥
-Renders Sent (Err (Unwritable name error)) = ⊥
+abbrev pub SendsWhole : (Result (Unit {0}) Error → Type 0) → Result (Unit {0}) Failure → Type 0
+SendsWhole Sent (Ok u) = Sent (Ok tt)
+SendsWhole Sent (Err (Fault e)) = Sent (Err e)
+SendsWhole Sent (Err (Data fault)) = ⊥
+SendsWhole Sent (Err (Unreadable name error)) = ⊥
+SendsWhole Sent (Err (NotText name)) = ⊥
+SendsWhole Sent (Err (Unwritable name error)) = ⊥
 
 -- A page is shown by an engine that holds these texts. If a text is held under its name, what its tree means was sent
 -- on the value, up to an end that has this status, and no more bytes than a limit allows.
 abbrev pub ShowsPage : Texts → Page → ℕ → Option (List ℕ) → Option (List ℕ) → Type 0
 ShowsPage e page status old new = (held : Stored) (tree : Statements) → e.texts page.name.now ≡ Some held
     → ∥ HasTree held.syntax held.text tree ∥₁
-    → (end : Result (Unit {0}) Failure) × (status ≡ end_status end)
-    × Renders (λ r. SendsPage page.limits e (Some page.name.now) held.text tree (view page.value.now) r old new) end
+    → (end : Result (Unit {0}) Failure) × (status ≡ tool_end_status end)
+    × SendsWhole (λ r. SendsPage page.limits e (Some page.name.now) held.text tree (view page.value.now) r old new) end
     × StaysWithin page.limits.output old new

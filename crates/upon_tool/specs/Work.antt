@@ -16,7 +16,7 @@ use Rattle.upon_tool.specs.Filled.{EachHasTree, Fills}
 use Rattle.upon_tool.specs.ManyPages.{BuildIsWell, EachIsWell}
 use Rattle.upon_tool.specs.Missing.{EachIsRight, EachName, HeldIsRight}
 use Rattle.upon_tool.specs.Names.{needs_text}
-use Rattle.upon_tool.specs.Refusals.{Refuses}
+use Rattle.upon_tool.specs.Refusals.{RefusesOrFails}
 use Rattle.upon_tool.specs.Rendering.{ShowsPage}
 use Rattle.upon_tool.specs.Sources.{AreTexts}
 use Rattle.upon_tool.specs.declared.sources.FolderFile.{FolderFile}
@@ -60,12 +60,12 @@ checked_files (BuildWork value asked terminal) = []
 
 -- one of some files was not read, or memory was out
 abbrev pub IsUnreadOf : List (Bor (List ℕ)) → Failure → Type 0
-IsUnreadOf names failure = Refuses (λ fault. ⊥) (Contains names) (λ error. ⊥) failure
+IsUnreadOf names failure = RefusesOrFails (λ fault. ⊥) (Contains names) (λ error. ⊥) failure
 
 -- Why work was not done: a file that is to be checked was not read; or the template's text has a fault; or memory was
 -- out.
 abbrev pub RefusesWork : Templates → Work → Failure → Type 0
-RefusesWork templates work failure = Refuses (λ fault. ⊥) (Contains (checked_files work))
+RefusesWork templates work failure = RefusesOrFails (λ fault. ⊥) (Contains (checked_files work))
     (λ error. IsSomeAnd templates.page
     (λ page. IsSyntaxErrorOf page.0.now default_delimiters (string_bytes page.1) error))
     failure

@@ -6,8 +6,8 @@ ghost use Rattle.std.specs.Cow.{cow_str_bytes};
 ghost use Rattle.upon_engine.specs.Engine.{engine_syntax, engine_templates};
 ghost use Rattle.upon_engine.specs.Names.{texts};
 ghost use Rattle.upon_engine.specs.Template.{template_tree};
-ghost use Rattle.upon_tool_messages.specs.Library.{refusal_of};
-ghost use Rattle.upon_tool.specs.Missing.{is_missing, IsRight};
+ghost use Rattle.upon_tool_messages.specs.Library.{refused_as};
+ghost use Rattle.upon_tool.specs.Missing.{is_nowhere, IsRightTemplate};
 
 use std::alloc::{AllocError, Global};
 use std::borrow::CowStr;
@@ -28,7 +28,7 @@ pub fn missing<'t>(
 ) -> Result<Vec<&'t str>, AllocError>
     ensures { let table = engine_templates engine.now in
         IfOk result (λ names. (name : List ℕ) → Contains (texts names.items) name
-        ↔ (Includes name (template_tree template.now) × (is_missing own.now table name ≡ true))) }
+        ↔ (Includes name (template_tree template.now) × (is_nowhere own.now table name ≡ true))) }
 {
     let mut missing = Vec::new(alloc);
     let names = template.includes()?;
@@ -43,7 +43,7 @@ pub fn missing<'t>(
 // Whether a name is neither this one nor of a template that the engine holds.
 fn is_missing(engine: &Engine<'_>, own: &str, name: &str) -> bool
     ensures { let table = engine_templates engine.now in
-        result ≡ is_missing own.now table name.now }
+        result ≡ is_nowhere own.now table name.now }
 {
     name != own && engine.get_template(name).is_none()
 }
@@ -60,7 +60,8 @@ pub fn check_text<E: io::Write>(
     err: &mut E,
 ) -> Result<bool, AllocError>
     ensures { IfOk result (λ is_right. (is_right ≡ true)
-        ↔ IsRight (engine_syntax engine.now) (engine_templates engine.now) name.now (cow_str_bytes source.entry)) }
+        ↔ IsRightTemplate (engine_syntax engine.now) (engine_templates engine.now) name.now
+        (cow_str_bytes source.entry)) }
 {
     let template = match engine.compile(source) {
         Ok(template) => template,
@@ -103,9 +104,9 @@ pub fn check_file<E: io::Write>(
     err: &mut E,
 ) -> Result<bool, AllocError>
     ensures { let table = engine_templates engine.now in
-        IfOk result (λ is_right. is_right ≡ true → (refusal_of library.now name.now ≡ None)
+        IfOk result (λ is_right. is_right ≡ true → (refused_as library.now name.now ≡ None)
         × ((t : TemplateMeant) → table name.now ≡ Some t
-        → IsRight (engine_syntax engine.now) table name.now t.source)) }
+        → IsRightTemplate (engine_syntax engine.now) table name.now t.source)) }
 {
     if let Some(refusal) = library.refusal(name) {
         report_refusal(alloc, name, refusal, err);

@@ -1,6 +1,6 @@
 // Checks on contexts: whether files end without a fault on them, and the shape that these have.
 ghost use Rattle.std.specs.Prelude.{◌≡◌, ◌≤◌, [], IfErr, IfOk, OnErr, true};
-ghost use Rattle.upon_shape.specs.View.{view};
+ghost use Rattle.upon_shape.specs.View.{shape_view};
 ghost use Rattle.upon_calls.specs.Templates.{lent_pairs};
 ghost use Rattle.upon_tool.specs.Calls.{RefusesCall};
 ghost use Rattle.upon_tool.specs.Fitting.{EachFits, FitsCall, WritesShape};
@@ -90,7 +90,7 @@ fn each_fits<'a, R: Files + AllocGlobal, I: Read, E: Write>(
     err: &mut E,
 ) -> Result<bool, Failure<'a>>
     ensures fits { IfOk result (λ each. each ≡ true → EachFits
-        on.entry.escape on.entry.standard (lent_pairs on.entry.folder.now) (view on.entry.shape.now) names.now) }
+        on.entry.escape on.entry.standard (lent_pairs on.entry.folder.now) (shape_view on.entry.shape.now) names.now) }
     ensures refused { IfErr result (IsUnreadOf names.now) }
 {
     let mut each = true;

@@ -4,7 +4,7 @@ ghost use Rattle.std.specs.Io.KnownBytes.{Appends};
 ghost use Rattle.upon_meaning_spec.specs.Engine.{Template as TemplateMeant};
 ghost use Rattle.upon_engine.specs.Engine.{engine_templates};
 ghost use Rattle.upon_engine.specs.declared.needs.Needs.{Needs as Listed};
-ghost use Rattle.upon_tool_messages.specs.Status.{status_of};
+ghost use Rattle.upon_tool_messages.specs.Status.{tool_status};
 ghost use Rattle.upon_calls.specs.Names.{NeededBy};
 ghost use Rattle.upon_tool.specs.Names.{needs_text};
 
@@ -21,10 +21,10 @@ pub fn needed<'n, 'a>(engine: &'n Engine<'_>, name: &'a str) -> Result<Needs<'n>
     ensures needed { let table = engine_templates engine.now in
         (t : TemplateMeant) → table name.entry.now ≡ Some t → IfOk result (NeededBy table t.tree) }
     ensures memory { let table = engine_templates engine.now in
-        (t : TemplateMeant) → table name.entry.now ≡ Some t → IfErr result (λ f. status_of f ≡ 1) }
+        (t : TemplateMeant) → table name.entry.now ≡ Some t → IfErr result (λ f. tool_status f ≡ 1) }
     // If it has none, there is an error.
     ensures absent { let table = engine_templates engine.now in
-        table name.entry.now ≡ None → IsErrAnd result (λ f. status_of f ≡ 2) }
+        table name.entry.now ≡ None → IsErrAnd result (λ f. tool_status f ≡ 2) }
 {
     match engine.needs(name) {
         Some(needs) => Ok(needs?),

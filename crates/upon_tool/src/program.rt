@@ -4,7 +4,7 @@ ghost use Rattle.upon_tool.specs.Checked.{ChecksCall};
 ghost use Rattle.upon_tool.specs.Filled.{standard_functions};
 ghost use Rattle.upon_tool.specs.ManyPages.{limits_set};
 ghost use Rattle.upon_tool.specs.Sources.{IsUnread};
-ghost use Rattle.upon_tool.specs.Calls.{is_input, limits_asked, AreWordsOf, BuildsCall, CallEnds, IsLayout, ListsCall, RefusesCall, RendersCall, RendersEachCall, Runs};
+ghost use Rattle.upon_tool.specs.Calls.{may_be_input, limits_asked, AreWordsOf, BuildsCall, CallEnds, IsLayout, ListsCall, RefusesCall, RendersCall, RendersEachCall, RunsCall};
 ghost use Rattle.upon_tool_io.specs.declared.arguments.Color.TheVariants.{Auto, Always, Never};
 ghost use Rattle.upon_tool_io.specs.declared.arguments.Call.TheVariants.{Render as RenderAsked, Check as CheckAsked, Names as NamesAsked, Each as EachAsked, Build as BuildAsked};
 
@@ -107,7 +107,7 @@ fn work_of<'a, R: Files + Env + Clock + AllocGlobal + Clone + Drop, I: Read, O: 
     is_terminal: bool,
 ) -> Result<u8, Failure<'a>>
     ensures range { IfOk result (λ status. status ≤ 2) }
-    ensures ends { Runs call.now (I.remaining input.old) result (O.contents out.old) (O.contents out.new) }
+    ensures ends { RunsCall call.now (I.remaining input.old) result (O.contents out.old) (O.contents out.new) }
 {
     match call {
         Call::Render(call) => run_render(rt, call, input, out, err),
@@ -367,7 +367,7 @@ fn data_words<'a, 'w>(call: &'w RenderCall<'a>) -> DataWords<'a, 'w>
 
 // Whether a file that may be named is standard input.
 fn is_input(name: Option<&str>) -> bool
-    ensures { result ≡ is_input name.entry }
+    ensures { result ≡ may_be_input name.entry }
 {
     match name {
         Some(name) => name == STANDARD,
@@ -382,7 +382,7 @@ fn layout_of<'a, R: Files + AllocGlobal, I: Read>(
     input: &mut I,
 ) -> Result<Option<(&'a str, String)>, Failure<'a>>
     ensures read { IfOk result (IsLayout name.entry (I.remaining input.old)) }
-    ensures kept { is_input name.entry ≡ false → I.remaining input.new ≡ I.remaining input.old }
+    ensures kept { may_be_input name.entry ≡ false → I.remaining input.new ≡ I.remaining input.old }
     ensures unread { IfErr result (λ failure. IsSomeAnd name.entry (λ name. IsUnread name failure)) }
 {
     match name {

@@ -4,9 +4,9 @@ ghost use Rattle.upon_types.specs.Tree.{Statements};
 ghost use Rattle.upon_types.specs.View.{view};
 ghost use Rattle.upon_language_spec.specs.Grammar.{HasTree};
 ghost use Rattle.upon_engine.specs.Texts.{Stored};
-ghost use Rattle.upon_tool_messages.specs.Status.{status_of};
+ghost use Rattle.upon_tool_messages.specs.Status.{tool_status};
 ghost use Rattle.upon_calls.specs.Rendering.{is_limited};
-ghost use Rattle.upon_tool.specs.Rendering.{Renders, SendsPage, ShowsPage, StaysWithin};
+ghost use Rattle.upon_tool.specs.Rendering.{SendsPage, SendsWhole, ShowsPage, StaysWithin};
 
 use std::alloc::Global;
 use std::io;
@@ -37,7 +37,7 @@ pub fn render<'a, O: io::Write>(
     ensures means { let texts = ⟦<AnyEngine as EngineTexts>⟧.texts engine.now in
         (held : Stored) (tree : Statements) → texts.texts page.now.name.now ≡ Some held
         → ∥ HasTree held.syntax held.text tree ∥₁
-        → Renders (λ r. SendsPage page.now.limits texts (Some page.now.name.now) held.text tree
+        → SendsWhole (λ r. SendsPage page.now.limits texts (Some page.now.name.now) held.text tree
         (view page.now.value.now) r (O.contents out.old) (O.contents out.new)) result }
     // It never receives more bytes than the limit is, if that is set.
     ensures bounded { StaysWithin page.now.limits.output (O.contents out.old) (O.contents out.new) }
@@ -93,7 +93,7 @@ pub fn send<'a, O: io::Write>(
     ensures means { let texts = ⟦<AnyEngine as EngineTexts>⟧.texts engine.now in
         (held : Stored) (tree : Statements) → texts.texts page.now.name.now ≡ Some held
         → ∥ HasTree held.syntax held.text tree ∥₁
-        → Renders (λ r. SendsPage page.now.limits texts (Some page.now.name.now) held.text tree
+        → SendsWhole (λ r. SendsPage page.now.limits texts (Some page.now.name.now) held.text tree
         (view page.now.value.now) r (O.contents out.old) (O.contents out.new)) result }
     // It never receives more bytes than the limit is, if that is set.
     ensures bounded { StaysWithin page.now.limits.output (O.contents out.old) (O.contents out.new) }
@@ -165,7 +165,7 @@ pub fn explain<E: io::Write>(
     failure: &Failure<'_>,
     err: &mut E,
 ) -> u8
-    ensures { result ≡ status_of failure.now }
+    ensures { result ≡ tool_status failure.now }
 {
     let Failure::Fault(error) = failure else {
         return report(alloc, failure, err);

@@ -3,8 +3,8 @@
 ghost use Rattle.std.specs.Prelude.{◌≡◌, ◌≤◌, ◌↔◌, ℕ, List, IfErr, IfOk, None, OnErr, Some, is_some, not, true};
 ghost use Rattle.upon_engine.specs.Engine.{engine_syntax, engine_templates};
 ghost use Rattle.upon_meaning_spec.specs.Engine.{Template as TemplateMeant};
-ghost use Rattle.upon_tool_messages.specs.Library.{library_names, refusal_of};
-ghost use Rattle.upon_tool.specs.Missing.{EachIsRight, EachName, IsRight, LibraryIsRight};
+ghost use Rattle.upon_tool_messages.specs.Library.{library_names, refused_as};
+ghost use Rattle.upon_tool.specs.Missing.{EachIsRight, EachName, IsRightTemplate, LibraryIsRight};
 ghost use Rattle.upon_tool.specs.Rendering.{ShowsPage};
 ghost use Rattle.upon_tool.specs.Sources.{AreTexts};
 ghost use Rattle.upon_tool.specs.Work.{checked_files, to_standard, CarriesOut, ChecksFiles, IsCheck, IsUnreadOf, ListsNames, RefusesWork, Works};
@@ -327,8 +327,8 @@ fn check_folder<E: Write>(
     err: &mut E,
 ) -> Result<bool, AllocError>
     ensures { let table = engine_templates engine.now in
-        IfOk result (λ is_right. is_right ≡ true → EachName (λ name. (refusal_of library.now name ≡ None)
-        × ((t : TemplateMeant) → table name ≡ Some t → IsRight (engine_syntax engine.now) table name t.source))
+        IfOk result (λ is_right. is_right ≡ true → EachName (λ name. (refused_as library.now name ≡ None)
+        × ((t : TemplateMeant) → table name ≡ Some t → IsRightTemplate (engine_syntax engine.now) table name t.source))
         (library_names library.now)) }
 {
     let names = library.names();

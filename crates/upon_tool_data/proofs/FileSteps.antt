@@ -3,8 +3,8 @@ use Rattle.std.proofs.Common.{◌≡◌, ◌<◌, ◌+◌, ℕ, List, [], ◌∷
 use Rattle.std.proofs.lemmas.List.{at_drop_more, take-append-drop, take_more}
 use Rattle.upon_types.specs.Val.{Val, Entries}
 use Rattle.upon_data.specs.declared.format.Format.{Format}
-use Rattle.upon_tool_data.specs.Files.{with_value, AddsFile, AddsFiles, IsRead, RefusesFile, RefusesFiles, RefusesPut, RefusesText}
-use Rattle.upon_tool_data.specs.Words.{file_of, format_for, key_of}
+use Rattle.upon_tool_data.specs.Files.{with_file_value, AddsFile, AddsFiles, IsRead, RefusesFile, RefusesFiles, RefusesPut, RefusesText}
+use Rattle.upon_tool_data.specs.Words.{file_of, format_for, word_key}
 use Rattle.upon_tool_data.specs.declared.fault.ContextFault.{ContextFault}
 
 -- a list around one of its items
@@ -23,14 +23,14 @@ on_error (Err fault) P Q weaker is = weaker fault is
 
 -- ---- one file
 module _ (given : Option Format) (word name : List ℕ) (input : Option (List ℕ)) (same : name ≡ file_of word) where
-  pub added : (key : Option (List ℕ)) (v : Val) (old : Entries) (later : Option (List ℕ)) (new : Entries) → key ≡ key_of word → IsRead (format_for given name) name input v later → with_value key v old ≡ Some new → AddsFile given word input old later new
+  pub added : (key : Option (List ℕ)) (v : Val) (old : Entries) (later : Option (List ℕ)) (new : Entries) → key ≡ word_key word → IsRead (format_for given name) name input v later → with_file_value key v old ≡ Some new → AddsFile given word input old later new
   added key v old later new keys is adds =
-      (v, subst (λ name. IsRead (format_for given name) name input v later) same is, subst (λ key. with_value key v old ≡ Some new) keys adds)
+      (v, subst (λ name. IsRead (format_for given name) name input v later) same is, subst (λ key. with_file_value key v old ≡ Some new) keys adds)
 
   pub text_refused : (es : Entries) (fault : ContextFault) → RefusesText (format_for given name) name input fault → RefusesFile given word input es fault
   text_refused es fault refused = inl (subst (λ name. RefusesText (format_for given name) name input fault) same refused)
 
-  pub put_refused : (key : Option (List ℕ)) (v : Val) (later : Option (List ℕ)) (es : Entries) (fault : ContextFault) → key ≡ key_of word → IsRead (format_for given name) name input v later → RefusesPut key name v es fault → RefusesFile given word input es fault
+  pub put_refused : (key : Option (List ℕ)) (v : Val) (later : Option (List ℕ)) (es : Entries) (fault : ContextFault) → key ≡ word_key word → IsRead (format_for given name) name input v later → RefusesPut key name v es fault → RefusesFile given word input es fault
   put_refused key v later es fault keys is refused =
       inr (v, later, subst (λ name. IsRead (format_for given name) name input v later) same is, subst (λ key. RefusesPut key (file_of word) v es fault) keys (subst (λ name. RefusesPut key name v es fault) same refused))
 

@@ -6,7 +6,7 @@ use Rattle.std.proofs.lemmas.List.Elements.{All-from_get_or}
 use Rattle.std.proofs.lemmas.List.Folds.{list_any-append, list_any_none}
 use Rattle.std.specs.List.{after_first, before_first, list_any, position_or_len}
 use Rattle.std.specs.Prelude.{if◌then◌else◌}
-use Rattle.upon_tool_data.specs.Words.{asks_again, file_of, has_equals, has_key, is_equals, is_input, is_key, key_of}
+use Rattle.upon_tool_data.specs.Words.{asks_again, file_of, has_equals, has_key, is_equals, is_input, is_key, word_key}
 
 -- ---- what a word that is cut says
 abbrev IsParted : List ℕ → Option (Bor (List ℕ) × Bor (List ℕ)) → Type 0
@@ -54,10 +54,10 @@ no_cut : (word : List ℕ) → has_equals word ≡ false → has_key word ≡ fa
 no_cut word lacks = ap (λ b. b && is_key (before_first is_equals word)) lacks
 
 module _ (word : List ℕ) where
-  with_key : has_key word ≡ true → key_of word ≡ Some (before_first is_equals word)
+  with_key : has_key word ≡ true → word_key word ≡ Some (before_first is_equals word)
   with_key is = ap (λ b. if b then Some (before_first is_equals word) else None) is
 
-  without_key : has_key word ≡ false → key_of word ≡ None
+  without_key : has_key word ≡ false → word_key word ≡ None
   without_key is = ap (λ b. if b then Some (before_first is_equals word) else None) is
 
   with_file : has_key word ≡ true → file_of word ≡ after_first is_equals word
@@ -66,19 +66,19 @@ module _ (word : List ℕ) where
   without_file : has_key word ≡ false → file_of word ≡ word
   without_file is = ap (λ b. if b then after_first is_equals word else word) is
 
-  pub key_is : (key : List ℕ) → has_equals word ≡ true → key ≡ before_first is_equals word → is_key key ≡ true → Some key ≡ key_of word
+  pub key_is : (key : List ℕ) → has_equals word ≡ true → key ≡ before_first is_equals word → is_key key ≡ true → Some key ≡ word_key word
   key_is key has same is = ap Some same ∙ sym (with_key (keyed word key has same is))
 
   pub file_is : (key file : List ℕ) → has_equals word ≡ true → key ≡ before_first is_equals word → is_key key ≡ true → file ≡ after_first is_equals word → file ≡ file_of word
   file_is key file has same is after = after ∙ sym (with_file (keyed word key has same is))
 
-  pub no_key_is : (key : List ℕ) → has_equals word ≡ true → key ≡ before_first is_equals word → is_key key ≡ false → None ≡ key_of word
+  pub no_key_is : (key : List ℕ) → has_equals word ≡ true → key ≡ before_first is_equals word → is_key key ≡ false → None ≡ word_key word
   no_key_is key has same is = sym (without_key (no_key word key has same is))
 
   pub whole_is : (key : List ℕ) → has_equals word ≡ true → key ≡ before_first is_equals word → is_key key ≡ false → word ≡ file_of word
   whole_is key has same is = sym (without_file (no_key word key has same is))
 
-  pub no_cut_key : has_equals word ≡ false → None ≡ key_of word
+  pub no_cut_key : has_equals word ≡ false → None ≡ word_key word
   no_cut_key lacks = sym (without_key (no_cut word lacks))
 
   pub no_cut_file : has_equals word ≡ false → word ≡ file_of word

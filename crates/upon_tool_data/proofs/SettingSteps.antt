@@ -4,7 +4,7 @@ use Rattle.std.proofs.lemmas.List.{take_more}
 use Rattle.std.specs.Prelude.{if◌then◌else◌}
 use Rattle.upon_types.specs.Val.{Val, Entries}
 use Rattle.upon_data.specs.Entries.{keys_of, with_member}
-use Rattle.upon_tool_data.specs.Settings.{path_in, set_each, set_one, value_in, value_written, LacksEquals, RefusesSetting, RefusesSettings, RefusesValue}
+use Rattle.upon_tool_data.specs.Settings.{path_in, set_each, set_one, value_text, value_written, LacksEquals, RefusesSetting, RefusesSettings, RefusesValue}
 use Rattle.upon_tool_data.specs.Words.{has_equals}
 use Rattle.upon_tool_data.specs.declared.fault.ContextFault.{ContextFault}
 use Rattle.upon_tool_data.specs.declared.fault.ContextFault.TheVariants.{LacksText, LacksValue, InputTwice, Unreadable, NotText}
@@ -14,9 +14,9 @@ use Rattle.upon_tool_data.specs.declared.settings.Writing.TheVariants.{Text, Jso
 use Rattle.upon_tool_data.proofs.FileSteps.{split_at}
 
 -- the value of a word is set
-pub one_set : (writing : Writing) (word path text : List ℕ) (v : Val) (old new : Entries) → has_equals word ≡ true → path ≡ path_in word → text ≡ value_in word → value_written writing text ≡ Some v → with_member (keys_of path) v old ≡ Some new → set_one writing word old ≡ Some new
+pub one_set : (writing : Writing) (word path text : List ℕ) (v : Val) (old new : Entries) → has_equals word ≡ true → path ≡ path_in word → text ≡ value_text word → value_written writing text ≡ Some v → with_member (keys_of path) v old ≡ Some new → set_one writing word old ≡ Some new
 one_set writing word path text v old new has paths texts written sets =
-    ap (λ b. if b then option_and_then (λ v. with_member (keys_of (path_in word)) v old) (value_written writing (value_in word)) else None) has
+    ap (λ b. if b then option_and_then (λ v. with_member (keys_of (path_in word)) v old) (value_written writing (value_text word)) else None) has
     ∙ ap (option_and_then (λ v. with_member (keys_of (path_in word)) v old)) (ap (value_written writing) (sym texts) ∙ written)
     ∙ ap (λ path. with_member (keys_of path) v old) (sym paths)
     ∙ sets
@@ -26,7 +26,7 @@ pub lacks_refused : (writing : Writing) (word : Bor (List ℕ)) (es : Entries) (
 lacks_refused Text word es fault is lacks = subst (RefusesSetting Text word es) (sym is) (refl, refl, lacks)
 lacks_refused Json word es fault is lacks = subst (RefusesSetting Json word es) (sym is) (refl, refl, lacks)
 
-pub value_refused : (writing : Writing) (word : Bor (List ℕ)) (text : List ℕ) (es : Entries) (fault : ContextFault) → text ≡ value_in word.now → RefusesValue writing word text fault → RefusesSetting writing word es fault
+pub value_refused : (writing : Writing) (word : Bor (List ℕ)) (text : List ℕ) (es : Entries) (fault : ContextFault) → text ≡ value_text word.now → RefusesValue writing word text fault → RefusesSetting writing word es fault
 value_refused writing word text es (NotJson told refusal) same is = (is.0, subst (λ text. value_written writing text ≡ None) same is.1)
 value_refused writing word text es OutOfMemory same is = tt
 value_refused writing word text es (LacksText told) same is = absurd is
@@ -38,7 +38,7 @@ value_refused writing word text es (NotOfFormat name refusal) same is = absurd i
 value_refused writing word text es (NotObject name) same is = absurd is
 value_refused writing word text es (NotMap told) same is = absurd is
 
-pub path_refused : (writing : Writing) (word : Bor (List ℕ)) (path text : List ℕ) (v : Val) (es : Entries) → path ≡ path_in word.now → text ≡ value_in word.now → value_written writing text ≡ Some v → with_member (keys_of path) v es ≡ None → RefusesSetting writing word es (NotMap word)
+pub path_refused : (writing : Writing) (word : Bor (List ℕ)) (path text : List ℕ) (v : Val) (es : Entries) → path ≡ path_in word.now → text ≡ value_text word.now → value_written writing text ≡ Some v → with_member (keys_of path) v es ≡ None → RefusesSetting writing word es (NotMap word)
 path_refused writing word path text v es paths texts written none =
     (refl, v, ap (value_written writing) (sym texts) ∙ written, ap (λ path. with_member (keys_of path) v es) (sym paths) ∙ none)
 

@@ -7,7 +7,7 @@ use Rattle.upon_data.specs.Entries.{merged}
 use Rattle.upon_data.specs.Format.{HasNoValue, IsValueIn}
 use Rattle.upon_data.specs.declared.format.Format.{Format}
 use Rattle.upon_tool_data.specs.Sources.{is_standard, IsTextOf}
-use Rattle.upon_tool_data.specs.Words.{file_of, format_for, key_of}
+use Rattle.upon_tool_data.specs.Words.{file_of, format_for, word_key}
 use Rattle.upon_tool_data.specs.declared.fault.ContextFault.{ContextFault}
 use Rattle.upon_tool_data.specs.declared.fault.ContextFault.TheVariants.{LacksText, LacksValue, InputTwice, Unreadable, NotText}
 use Rattle.upon_tool_data.specs.declared.fault.ContextFault.TheVariants.{NotOfFormat, NotObject, NotJson, NotMap, OutOfMemory}
@@ -19,15 +19,15 @@ IsRead format name input v later = (text : List ℕ) × IsTextOf name input text
     × (is_standard name ≡ false → later ≡ input)
 
 -- entries with a value put at a key, or merged in if no key is given
-abbrev pub with_value : Option (List ℕ) → Val → Entries → Option Entries
-with_value None v es = merged v es
-with_value (Some key) v es = Some (put key v es)
+abbrev pub with_file_value : Option (List ℕ) → Val → Entries → Option Entries
+with_file_value None v es = merged v es
+with_file_value (Some key) v es = Some (put key v es)
 
 -- the value of a word's file is added to entries
 abbrev pub AddsFile : Option Format → List ℕ → Option (List ℕ) → Entries → Option (List ℕ) → Entries → Type 0
 AddsFile given word input old later new =
     (v : Val) × IsRead (format_for given (file_of word)) (file_of word) input v later
-    × (with_value (key_of word) v old ≡ Some new)
+    × (with_file_value (word_key word) v old ≡ Some new)
 
 -- the values of the files are added, one after the other
 abbrev pub AddsFiles : Option Format → List (Bor (List ℕ)) → Option (List ℕ) → Entries → Option (List ℕ) → Entries
@@ -54,7 +54,7 @@ RefusesText format file input (NotMap word) = ⊥
 
 -- A file's value can't be merged into entries; or memory is out.
 abbrev pub RefusesPut : Option (List ℕ) → List ℕ → Val → Entries → ContextFault → Type 0
-RefusesPut key file v es (NotObject name) = (name.now ≡ file) × (with_value key v es ≡ None)
+RefusesPut key file v es (NotObject name) = (name.now ≡ file) × (with_file_value key v es ≡ None)
 RefusesPut key file v es OutOfMemory = Unit {0}
 RefusesPut key file v es (LacksText word) = ⊥
 RefusesPut key file v es (LacksValue word) = ⊥
@@ -69,7 +69,7 @@ RefusesPut key file v es (NotMap word) = ⊥
 abbrev pub RefusesFile : Option Format → List ℕ → Option (List ℕ) → Entries → ContextFault → Type 0
 RefusesFile given word input es fault = RefusesText (format_for given (file_of word)) (file_of word) input fault
     ⊎ ((v : Val) × (later : Option (List ℕ)) × IsRead (format_for given (file_of word)) (file_of word) input v later
-    × RefusesPut (key_of word) (file_of word) v es fault)
+    × RefusesPut (word_key word) (file_of word) v es fault)
 
 -- the file of one of the words is refused, after those before it were added
 abbrev pub RefusesFiles : Option Format → List (Bor (List ℕ)) → Option (List ℕ) → Entries → ContextFault → Type 0

@@ -17,8 +17,8 @@ abbrev pub path_in : List ℕ → List ℕ
 path_in word = before_first is_equals word
 
 -- what is written for the value in a word, after its first `=`
-abbrev pub value_in : List ℕ → List ℕ
-value_in word = after_first is_equals word
+abbrev pub value_text : List ℕ → List ℕ
+value_text word = after_first is_equals word
 
 -- the value that a text is
 abbrev pub value_written : Writing → List ℕ → Option Val
@@ -28,7 +28,7 @@ value_written Json text = text_value text
 -- entries with the value of a word set at its path
 abbrev pub set_one : Writing → List ℕ → Entries → Option Entries
 set_one writing word es = if has_equals word
-    then option_and_then (λ v. with_member (keys_of (path_in word)) v es) (value_written writing (value_in word))
+    then option_and_then (λ v. with_member (keys_of (path_in word)) v es) (value_written writing (value_text word))
     else None
 
 -- so for each of the words, one after the other
@@ -62,9 +62,9 @@ abbrev pub RefusesSetting : Writing → Bor (List ℕ) → Entries → ContextFa
 RefusesSetting writing word es (LacksText told) = (told ≡ word) × (writing ≡ Text) × (has_equals word.now ≡ false)
 RefusesSetting writing word es (LacksValue told) = (told ≡ word) × (writing ≡ Json) × (has_equals word.now ≡ false)
 RefusesSetting writing word es (NotJson told refusal) =
-    (told ≡ word) × (value_written writing (value_in word.now) ≡ None)
+    (told ≡ word) × (value_written writing (value_text word.now) ≡ None)
 RefusesSetting writing word es (NotMap told) = (told ≡ word) × (v : Val)
-    × (value_written writing (value_in word.now) ≡ Some v) × (with_member (keys_of (path_in word.now)) v es ≡ None)
+    × (value_written writing (value_text word.now) ≡ Some v) × (with_member (keys_of (path_in word.now)) v es ≡ None)
 RefusesSetting writing word es OutOfMemory = Unit {0}
 RefusesSetting writing word es InputTwice = ⊥
 RefusesSetting writing word es (Unreadable name error) = ⊥

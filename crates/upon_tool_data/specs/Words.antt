@@ -20,20 +20,20 @@ abbrev pub has_equals : List ℕ → Bool
 has_equals word = list_any is_equals word
 
 -- a `/` (47)
-abbrev pub is_slash : ℕ → Bool
-is_slash b = b == 47
+abbrev pub is_folder_end : ℕ → Bool
+is_folder_end b = b == 47
 
 -- a text that can be the key of a file: it is not empty, and has no `/`
 abbrev pub is_key : List ℕ → Bool
-is_key text = not (length text == 0) && not (list_any is_slash text)
+is_key text = not (length text == 0) && not (list_any is_folder_end text)
 
 -- whether a word is `KEY=FILE`: what is before its first `=` can be a key
 abbrev pub has_key : List ℕ → Bool
 has_key word = has_equals word && is_key (before_first is_equals word)
 
 -- the key of a word, if it has one
-abbrev pub key_of : List ℕ → Option (List ℕ)
-key_of word = if has_key word then Some (before_first is_equals word) else None
+abbrev pub word_key : List ℕ → Option (List ℕ)
+word_key word = if has_key word then Some (before_first is_equals word) else None
 
 -- the file of a word
 abbrev pub file_of : List ℕ → List ℕ
@@ -58,19 +58,19 @@ asks_again asked [] = false
 asks_again asked (word ∷ words) = (asked && is_input word.now) || asks_again (asked || is_input word.now) words
 
 -- Standard input is asked for once at most, and each word that is to set a value has a `=`.
-abbrev pub AreRight : Bool → List (Bor (List ℕ)) → List (Bor (List ℕ)) → List (Bor (List ℕ)) → Type 0
-AreRight taken files values texts = (asks_again taken files ≡ false)
+abbrev pub AreRightWords : Bool → List (Bor (List ℕ)) → List (Bor (List ℕ)) → List (Bor (List ℕ)) → Type 0
+AreRightWords taken files values texts = (asks_again taken files ≡ false)
     × All (λ word. has_equals word.now ≡ true) values × All (λ word. has_equals word.now ≡ true) texts
 
 -- it is not so, for this reason
-abbrev pub IsWrong : Bool → List (Bor (List ℕ)) → List (Bor (List ℕ)) → List (Bor (List ℕ)) → ContextFault → Type 0
-IsWrong taken files values texts InputTwice = asks_again taken files ≡ true
-IsWrong taken files values texts (LacksValue word) = Contains values word × (has_equals word.now ≡ false)
-IsWrong taken files values texts (LacksText word) = Contains texts word × (has_equals word.now ≡ false)
-IsWrong taken files values texts (Unreadable name error) = ⊥
-IsWrong taken files values texts (NotText name) = ⊥
-IsWrong taken files values texts (NotOfFormat name refusal) = ⊥
-IsWrong taken files values texts (NotObject name) = ⊥
-IsWrong taken files values texts (NotJson word refusal) = ⊥
-IsWrong taken files values texts (NotMap word) = ⊥
-IsWrong taken files values texts OutOfMemory = ⊥
+abbrev pub IsWordFault : Bool → List (Bor (List ℕ)) → List (Bor (List ℕ)) → List (Bor (List ℕ)) → ContextFault → Type 0
+IsWordFault taken files values texts InputTwice = asks_again taken files ≡ true
+IsWordFault taken files values texts (LacksValue word) = Contains values word × (has_equals word.now ≡ false)
+IsWordFault taken files values texts (LacksText word) = Contains texts word × (has_equals word.now ≡ false)
+IsWordFault taken files values texts (Unreadable name error) = ⊥
+IsWordFault taken files values texts (NotText name) = ⊥
+IsWordFault taken files values texts (NotOfFormat name refusal) = ⊥
+IsWordFault taken files values texts (NotObject name) = ⊥
+IsWordFault taken files values texts (NotJson word refusal) = ⊥
+IsWordFault taken files values texts (NotMap word) = ⊥
+IsWordFault taken files values texts OutOfMemory = ⊥

@@ -4,7 +4,7 @@ ghost use Rattle.upon_types.specs.View.{view};
 ghost use Rattle.upon_data.specs.Parts.{data_entries};
 ghost use Rattle.upon_data.specs.declared.format.Format.{Format as TextFormat};
 ghost use Rattle.upon_data.specs.Format.{IsValueIn};
-ghost use Rattle.upon_tool_data.specs.Files.{with_value, AddsFile, AddsFiles, IsRead, RefusesFile, RefusesFiles, RefusesPut, RefusesText};
+ghost use Rattle.upon_tool_data.specs.Files.{with_file_value, AddsFile, AddsFiles, IsRead, RefusesFile, RefusesFiles, RefusesPut, RefusesText};
 ghost use Rattle.upon_tool_data.specs.Sources.{is_standard, IsTextOf};
 ghost use Rattle.upon_tool_data.specs.Words.{format_for};
 
@@ -130,7 +130,8 @@ fn put<'a>(
     name: &'a str,
     value: Value,
 ) -> Result<(), ContextFault<'a>>
-    ensures put { OnOk result (with_value (option_map (λ key. key.now) key.entry) (view value) (data_entries data.old)
+    ensures put { OnOk result (with_file_value (option_map (λ key. key.now) key.entry) (view value)
+        (data_entries data.old)
         ≡ Some (data_entries data.new)) }
     ensures refused { IfErr result (RefusesPut
         (option_map (λ key. key.now) key.entry) name.entry.now (view value) (data_entries data.old)) }

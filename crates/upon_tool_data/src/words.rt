@@ -1,7 +1,7 @@
 // What the words of a call say of its data, and which words are refused before anything is read.
 ghost use Rattle.std.specs.Prelude.{◌≡◌, All, Contains, IfErr, IfNone, IfSome, IsNone, IsSome, OnOk, false, option_map, true};
 ghost use Rattle.std.specs.List.{after_first, before_first, list_any};
-ghost use Rattle.upon_tool_data.specs.Words.{asks_again, file_of, format_asked, format_for, has_equals, is_equals, is_input, is_key, is_slash, key_of, AreRight, IsWrong};
+ghost use Rattle.upon_tool_data.specs.Words.{asks_again, file_of, format_asked, format_for, has_equals, is_equals, is_input, is_key, is_folder_end, word_key, AreRightWords, IsWordFault};
 
 use crate::fault::ContextFault;
 use crate::sources::STANDARD;
@@ -27,8 +27,9 @@ pub struct DataWords<'a, 'w> {
 /// The error is `InputTwice` if standard input is asked for twice, and `LacksValue` or `LacksText` if a word that is
 /// to set a value has no `=`.
 pub fn check<'a>(words: &DataWords<'a, '_>, is_input_taken: bool) -> Result<(), ContextFault<'a>>
-    ensures right { OnOk result (AreRight is_input_taken words.now.files.now words.now.values.now words.now.texts.now) }
-    ensures refused { IfErr result (IsWrong is_input_taken words.now.files.now words.now.values.now
+    ensures right { OnOk result (AreRightWords is_input_taken words.now.files.now words.now.values.now
+        words.now.texts.now) }
+    ensures refused { IfErr result (IsWordFault is_input_taken words.now.files.now words.now.values.now
         words.now.texts.now) }
 {
     if asks_again(is_input_taken, words.files) {
@@ -101,7 +102,7 @@ pub(crate) fn parts<'w>(word: &'w str) -> Option<(&'w str, &'w str)>
 /// Returns the key and the file of a word of `--data`. What is before its first `=` is the key, unless that is empty or
 /// has a `/`; then the word is the file.
 pub(crate) fn key_and_file<'w>(word: &'w str) -> (Option<&'w str>, &'w str)
-    ensures key { option_map (λ key. key.now) result.0 ≡ key_of word.entry.now }
+    ensures key { option_map (λ key. key.now) result.0 ≡ word_key word.entry.now }
     ensures file { result.1.now ≡ file_of word.entry.now }
 {
     match parts(word) {
@@ -125,7 +126,7 @@ fn is_key(text: &str) -> bool
 
 // Whether a text has a `/`.
 fn has_slash(text: &str) -> bool
-    ensures { result ≡ list_any is_slash text.now }
+    ensures { result ≡ list_any is_folder_end text.now }
 {
     text.as_bytes().contains(&b'/')
 }

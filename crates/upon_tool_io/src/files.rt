@@ -1,7 +1,7 @@
 // Files that are read as texts.
 ghost use Rattle.std.specs.Prelude.{◌≡◌, Err, IfOk, IfSome, string_bytes};
 ghost use Rattle.std.specs.Str.{IsUtf8};
-ghost use Rattle.upon_tool_io.specs.Paths.{joined};
+ghost use Rattle.upon_tool_io.specs.Paths.{joined_path};
 ghost use Rattle.upon_tool_io.specs.declared.files.ReadFault.TheVariants.{NotText, OutOfMemory as MemoryIsOut};
 
 use std::alloc::{AllocError, AllocFailed, Global};
@@ -73,7 +73,7 @@ pub fn read_file<R: Files>(rt: &R, alloc: Global, path: &str) -> Result<String, 
 
 /// Returns the path of a name in a folder; if the folder's name is empty, the name. It fails if there is no memory.
 pub fn joined(alloc: Global, folder: &str, name: &str) -> Result<String, AllocError>
-    ensures { IfOk result (λ path. string_bytes path ≡ joined folder.now name.now) }
+    ensures { IfOk result (λ path. string_bytes path ≡ joined_path folder.now name.now) }
 {
     let mut path = String::from_str(alloc, folder)?;
     if !folder.is_empty() {

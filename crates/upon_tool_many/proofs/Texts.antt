@@ -8,7 +8,7 @@ use Rattle.upon_types.specs.Val.{Val}
 use Rattle.upon_types.specs.declared.error.Error.{Error}
 use Rattle.upon_vm.specs.declared.limits.Limits.{Limits}
 use Rattle.upon_engine.specs.Texts.{Texts}
-use Rattle.upon_engine.specs.Theorem.{Answers}
+use Rattle.upon_engine.specs.Theorem.{AnswersTree}
 use Rattle.upon_engine.specs.Within.{AnswersWithin}
 use Rattle.upon_tool_many.specs.Build.{FramesText}
 use Rattle.upon_tool_many.specs.Pages.{as_page, AnswersIn, IsHeldText, IsMemoryOut}
@@ -19,14 +19,14 @@ use Rattle.upon_tool_many.specs.declared.pages.PageFault.TheVariants.{Fault, NoT
 pub answers_within : (limits : Option Limits) (l : Limits) (e : Texts) (name : Option (List ℕ)) (text : List ℕ) (tree : Statements) (v : Val) (r : Result (String Global) Error) → limits ≡ Some l → AnswersWithin e l name text tree v r → AnswersIn limits e name text tree v r
 answers_within limits l e name text tree v r is said = subst (λ limits. AnswersIn limits e name text tree v r) (sym is) said
 
-pub answers_whole : (limits : Option Limits) (e : Texts) (name : Option (List ℕ)) (text : List ℕ) (tree : Statements) (v : Val) (r : Result (String Global) Error) → limits ≡ None → Answers e name text tree v r → AnswersIn limits e name text tree v r
+pub answers_whole : (limits : Option Limits) (e : Texts) (name : Option (List ℕ)) (text : List ℕ) (tree : Statements) (v : Val) (r : Result (String Global) Error) → limits ≡ None → AnswersTree e name text tree v r → AnswersIn limits e name text tree v r
 answers_whole limits e name text tree v r is said = subst (λ limits. AnswersIn limits e name text tree v r) (sym is) said
 
 -- the same of an answer that may not be there
 pub some_within : (limits : Option Limits) (l : Limits) (e : Texts) (name : Option (List ℕ)) (text : List ℕ) (tree : Statements) (v : Val) (r : Option (Result (String Global) Error)) → limits ≡ Some l → IsSomeAnd r (AnswersWithin e l name text tree v) → IsSomeAnd r (AnswersIn limits e name text tree v)
 some_within limits l e name text tree v r is said = subst (λ limits. IsSomeAnd r (AnswersIn limits e name text tree v)) (sym is) said
 
-pub some_whole : (limits : Option Limits) (e : Texts) (name : Option (List ℕ)) (text : List ℕ) (tree : Statements) (v : Val) (r : Option (Result (String Global) Error)) → limits ≡ None → IsSomeAnd r (Answers e name text tree v) → IsSomeAnd r (AnswersIn limits e name text tree v)
+pub some_whole : (limits : Option Limits) (e : Texts) (name : Option (List ℕ)) (text : List ℕ) (tree : Statements) (v : Val) (r : Option (Result (String Global) Error)) → limits ≡ None → IsSomeAnd r (AnswersTree e name text tree v) → IsSomeAnd r (AnswersIn limits e name text tree v)
 some_whole limits e name text tree v r is said = subst (λ limits. IsSomeAnd r (AnswersIn limits e name text tree v)) (sym is) said
 
 -- the fault of a text that has no tree is that of a page

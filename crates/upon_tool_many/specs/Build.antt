@@ -7,7 +7,7 @@ use Rattle.upon_tool_io.specs.declared.files.ReadFault.{ReadFault}
 use Rattle.upon_vm.specs.declared.limits.Limits.{Limits}
 use Rattle.upon_engine.specs.Texts.{Texts}
 use Rattle.upon_tool_many.specs.Names.{page_name, page_names, DifferBelow, IsFirstAgain}
-use Rattle.upon_tool_many.specs.Pages.{DoneInOrder, EachWith, EndsBy, IsHeldText, IsMemoryOut, IsOfWriting, IsSourceText}
+use Rattle.upon_tool_many.specs.Pages.{DoneInOrder, EachWith, IsHeldText, IsMemoryOut, IsOfWriting, IsSourceText, PageEndsBy}
 use Rattle.upon_tool_many.specs.Values.{IsContentValue}
 use Rattle.upon_tool_many.specs.declared.build.Build.{Build}
 use Rattle.upon_tool_many.specs.declared.build.BuildFault.{BuildFault}
@@ -44,15 +44,15 @@ IsPageText e asked context source result = (text : Result (String Global) PageFa
     × IsSourceText asked.limits e source context text × FramesText asked.limits e asked.layout context text result
 
 -- a page failed, as its file was not read
-abbrev pub IsUnread : PageEnd → Type 0
-IsUnread end = (fault : ReadFault) × (end ≡ Failed (Unread fault))
+abbrev pub IsUnreadPage : PageEnd → Type 0
+IsUnreadPage end = (fault : ReadFault) × (end ≡ Failed (Unread fault))
 
 -- How the page of a file ends, by whether that is a template: by the text of what was read; or by the bytes; or the
 -- file was not read.
 abbrev pub EndsOfRead : Bool → Texts → Build → Val → PageEnd → Type 0
-EndsOfRead false e asked context end = IsOfWriting end ⊎ IsUnread end
+EndsOfRead false e asked context end = IsOfWriting end ⊎ IsUnreadPage end
 EndsOfRead true e asked context end = ((source : List ℕ) × (text : Result (String Global) PageFault)
-    × IsPageText e asked context source text × EndsBy text end) ⊎ IsUnread end
+    × IsPageText e asked context source text × PageEndsBy text end) ⊎ IsUnreadPage end
 
 -- how the page of a file ends: if it is known why the file can't be read, it failed for that
 abbrev pub EndsOf : Option ReadFault → Bool → Texts → Build → Val → PageEnd → Type 0

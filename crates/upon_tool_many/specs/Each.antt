@@ -5,8 +5,8 @@ use Rattle.upon_types.specs.Val.{Val, Vals, Entries, key_of, list_val}
 use Rattle.upon_types.specs.View.{view, vals_view}
 use Rattle.upon_types.specs.declared.value.Value.{Value}
 use Rattle.upon_engine.specs.Texts.{Texts}
-use Rattle.upon_tool_many.specs.Names.{is_inside, page_names, DifferBelow, IsFirstAgain}
-use Rattle.upon_tool_many.specs.Pages.{DoneInOrder, EachWith, EndsBy, IsHeldText, IsMemoryOut, IsSourceText}
+use Rattle.upon_tool_many.specs.Names.{stays_inside, page_names, DifferBelow, IsFirstAgain}
+use Rattle.upon_tool_many.specs.Pages.{DoneInOrder, EachWith, IsHeldText, IsMemoryOut, IsSourceText, PageEndsBy}
 use Rattle.upon_tool_many.specs.Values.{IsItemValue, IsSplit}
 use Rattle.upon_tool_many.specs.declared.each.Each.{Each}
 use Rattle.upon_tool_many.specs.declared.each.EachFault.{EachFault}
@@ -33,12 +33,12 @@ IsItemText e asked others item result = IsItemAnswer (IsHeldText asked.limits e 
 abbrev pub NamesItem : Texts → Each → Entries → Value → Page Value → Type 0
 NamesItem e asked others item page = (page.from ≡ item)
     × IsItemName e asked others (view item) (Ok page.name)
-    × (is_inside (string_bytes page.name) ≡ true)
+    × (stays_inside (string_bytes page.name) ≡ true)
 
 -- the page of an item is done: it ends by its text
 abbrev pub DoesItem : Texts → Each → Entries → Page Value → DonePage → Type 0
 DoesItem e asked others page done = (done.name ≡ page.name) × ((text : Result (String Global) PageFault)
-    × IsItemText e asked others (view page.from) text × EndsBy text done.end)
+    × IsItemText e asked others (view page.from) text × PageEndsBy text done.end)
 
 -- the pages of items have names
 abbrev pub NamesItems : Texts → Each → Entries → List Value → List (Page Value) → Type 0
@@ -61,7 +61,7 @@ RefusesItem e asked others place item NoList = ⊥
 RefusesItem e asked others place item (Unnamed at fault) =
     (at ≡ place) × IsItemName e asked others (view item) (Err fault)
 RefusesItem e asked others place item (Outside at name) =
-    (at ≡ place) × IsItemName e asked others (view item) (Ok name) × (is_inside (string_bytes name) ≡ false)
+    (at ≡ place) × IsItemName e asked others (view item) (Ok name) × (stays_inside (string_bytes name) ≡ false)
 RefusesItem e asked others place item (Twice first second name) = ⊥
 RefusesItem e asked others place item OutOfMemory = ⊥
 

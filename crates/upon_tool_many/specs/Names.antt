@@ -5,8 +5,8 @@ use Rattle.std.specs.Str.{byte}
 use Rattle.upon_tool_many.specs.declared.pages.Page.{Page}
 
 -- a slash, which is between the parts of a path
-abbrev pub is_slash : ℕ → Bool
-is_slash b = b == byte "/"
+abbrev pub is_part_end : ℕ → Bool
+is_part_end b = b == byte "/"
 
 -- the name of a file in its folder (POSIX, 3.170 and 4.16): some bytes without NUL, that name neither the folder nor
 -- the one above it
@@ -15,8 +15,8 @@ is_file_name part = ((not (length part == 0) && not (bytes_eq part (codes ".")))
     && not (list_any (λ b. b == 0) part)
 
 -- a name that stays in its folder: each part between slashes is the name of a file
-abbrev pub is_inside : List ℕ → Bool
-is_inside name = list_all is_file_name (slice_split is_slash name)
+abbrev pub stays_inside : List ℕ → Bool
+stays_inside name = list_all is_file_name (slice_split is_part_end name)
 
 -- the extension of a template's file
 abbrev pub extension : List ℕ

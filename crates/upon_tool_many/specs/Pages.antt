@@ -11,7 +11,7 @@ use Rattle.upon_language_spec.specs.Grammar.{HasTree}
 use Rattle.upon_syntax.specs.TagReading.{IsSyntaxError}
 use Rattle.upon_vm.specs.declared.limits.Limits.{Limits}
 use Rattle.upon_engine.specs.Texts.{Stored, Texts}
-use Rattle.upon_engine.specs.Theorem.{Answers}
+use Rattle.upon_engine.specs.Theorem.{AnswersTree}
 use Rattle.upon_engine.specs.Within.{AnswersWithin}
 use Rattle.upon_tool_many.specs.declared.pages.DonePage.{DonePage}
 use Rattle.upon_tool_many.specs.declared.pages.PageEnd.{PageEnd}
@@ -28,7 +28,7 @@ as_page (Err error) = Err (Fault error)
 abbrev pub AnswersIn : Option Limits → Texts → Option (List ℕ) → List ℕ → Statements → Val
     → Result (String Global) Error
     → Type 0
-AnswersIn None e name text tree v answer = Answers e name text tree v answer
+AnswersIn None e name text tree v answer = AnswersTree e name text tree v answer
 AnswersIn (Some limits) e name text tree v answer = AnswersWithin e limits name text tree v answer
 
 -- this is what the template of a name answers on a value, if an engine holds a text of this name
@@ -66,9 +66,9 @@ IsOfWriting (Failed (Fault error)) = ⊥
 IsOfWriting (Failed NoTemplate) = ⊥
 
 -- a page ends by its text: that was to be written, or there is none and the page failed for that reason
-abbrev pub EndsBy : Result (String Global) PageFault → PageEnd → Type 0
-EndsBy (Ok text) end = IsOfWriting end
-EndsBy (Err fault) end = end ≡ Failed fault
+abbrev pub PageEndsBy : Result (String Global) PageFault → PageEnd → Type 0
+PageEndsBy (Ok text) end = IsOfWriting end
+PageEndsBy (Err fault) end = end ≡ Failed fault
 
 -- each of some things is in a relation to the one at its place among others, and there are as many
 abbrev pub EachWith : {A B : Type 0} → (A → B → Type 0) → List A → List B → Type 0

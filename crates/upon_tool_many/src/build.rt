@@ -1,7 +1,7 @@
 // A folder that is built into another: its templates are rendered, its other files are copied.
 ghost use Rattle.std.specs.Prelude.{◌⊎◌, IfErr, IfOk, Ok, OnOk, length, true};
 ghost use Rattle.upon_types.specs.View.{view};
-ghost use Rattle.upon_tool_many.specs.Build.{DoesBuild, DoesPage, EndsOf, EndsOfRead, FramesText, IsPageOf, IsPageText, IsUnread, RefusesBuild, RefusesSame};
+ghost use Rattle.upon_tool_many.specs.Build.{DoesBuild, DoesPage, EndsOf, EndsOfRead, FramesText, IsPageOf, IsPageText, IsUnreadPage, RefusesBuild, RefusesSame};
 ghost use Rattle.upon_tool_many.specs.Names.{page_names, DifferBelow};
 ghost use Rattle.upon_tool_many.specs.Pages.{DoneInOrder, EachWith, IsOfWriting};
 
@@ -269,7 +269,7 @@ fn read_source<R: Files + AllocGlobal>(
 
 // Copies a file, and answers how that ended.
 fn copy_file<R: Files + AllocGlobal>(rt: &R, asked: &Build<'_>, path: &str) -> PageEnd
-    ensures { IsOfWriting result ⊎ IsUnread result }
+    ensures { IsOfWriting result ⊎ IsUnreadPage result }
 {
     match read_bytes(rt, asked.source, path) {
         Ok(bytes) => end_of_write(rt, asked.out, path, bytes.as_slice()),

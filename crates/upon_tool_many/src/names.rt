@@ -2,7 +2,7 @@
 // twice.
 ghost use Rattle.std.specs.Prelude.{◌≡◌, [], None, Some, nat_eq, option_map, slice_index_or, string_bytes, IfOk, if◌then◌else◌};
 ghost use Rattle.std.specs.List.{ends_with};
-ghost use Rattle.upon_tool_many.specs.Names.{extension, is_file_name, is_inside, page_name, page_names, without_extension, IsFirstAgain};
+ghost use Rattle.upon_tool_many.specs.Names.{extension, is_file_name, stays_inside, page_name, page_names, without_extension, IsFirstAgain};
 
 use crate::pages::Page;
 use std::alloc::{AllocError, Global};
@@ -11,7 +11,7 @@ use std::collections::BTreeMap;
 /// Returns whether a name is one of a file in a folder or in its subfolders: each part of it, with slashes between
 /// them, is the name of a file.
 pub fn is_inside(name: &str) -> bool
-    ensures { result ≡ is_inside name.now }
+    ensures { result ≡ stays_inside name.now }
 {
     name.split('/').all(|part| is_file_name(part))
 }

@@ -6,7 +6,7 @@ ghost use Rattle.upon_types.specs.View.{view};
 ghost use Rattle.upon_language_spec.specs.Grammar.{HasTree};
 ghost use Rattle.upon_syntax.specs.TagReading.{IsSyntaxError};
 ghost use Rattle.upon_engine.specs.Texts.{Stored};
-ghost use Rattle.upon_tool_many.specs.Pages.{as_page, is_failed, AnswersIn, EndsBy, IsHeldText, IsOfWriting, IsSourceText};
+ghost use Rattle.upon_tool_many.specs.Pages.{as_page, is_failed, AnswersIn, PageEndsBy, IsHeldText, IsOfWriting, IsSourceText};
 ghost use Rattle.upon_tool_many.specs.declared.pages.PageFault.TheVariants.{NoTemplate};
 
 use crate::written::write_page;
@@ -187,7 +187,7 @@ pub fn end_with<R: Files + AllocGlobal>(
     name: &str,
     text: Result<String, PageFault>,
 ) -> PageEnd
-    ensures { EndsBy text result }
+    ensures { PageEndsBy text result }
 {
     match text {
         Ok(text) => end_of_write(rt, folder, name, text.as_bytes()),

@@ -5,7 +5,7 @@ use Rattle.upon_types.specs.declared.error.Error.{Error}
 use Rattle.upon_tool_io.specs.declared.files.ReadFault.{ReadFault}
 use Rattle.upon_tool_io.specs.declared.files.ReadFault.TheVariants.{Unreadable as FileUnreadable, NotText as FileNotText, Outside as FileOutside, OutOfMemory}
 use Rattle.upon_tool_calls.specs.declared.judge.Declared.{Declared}
-use Rattle.upon_tool_messages.specs.Status.{is_memory}
+use Rattle.upon_tool_messages.specs.Status.{is_memory_error}
 use Rattle.upon_tool_messages.specs.declared.library.Library.{Library}
 use Rattle.upon_tool_messages.specs.declared.library.Refusal.{Refusal}
 use Rattle.upon_tool_messages.specs.declared.library.Refusal.TheVariants.{Unreadable, NotText, Outside, Fault}
@@ -19,8 +19,8 @@ abbrev pub library_names : Library → List (List ℕ)
 library_names library = map string_bytes library.names.items
 
 -- why the file of a name is no template
-abbrev pub refusal_of : Library → List ℕ → Option Refusal
-refusal_of library name = get_by_text library.refused name
+abbrev pub refused_as : Library → List ℕ → Option Refusal
+refused_as library name = get_by_text library.refused name
 
 -- why a file is no template that was not read; none if memory was out
 abbrev pub read_refusal : ReadFault → Option Refusal
@@ -35,5 +35,5 @@ IsOfAdded (Ok u) (Ok None) = Unit {0}
 IsOfAdded (Ok u) (Ok (Some refusal)) = ⊥
 IsOfAdded (Ok u) (Err failed) = ⊥
 IsOfAdded (Err error) (Ok None) = ⊥
-IsOfAdded (Err error) (Ok (Some refusal)) = (refusal ≡ Fault error) × (is_memory error ≡ false)
-IsOfAdded (Err error) (Err failed) = is_memory error ≡ true
+IsOfAdded (Err error) (Ok (Some refusal)) = (refusal ≡ Fault error) × (is_memory_error error ≡ false)
+IsOfAdded (Err error) (Err failed) = is_memory_error error ≡ true

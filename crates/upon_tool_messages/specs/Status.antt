@@ -23,12 +23,12 @@ data_status (NotMap word) = 1
 data_status OutOfMemory = 1
 
 -- the status for a failure, so
-abbrev pub status_of : Failure → ℕ
-status_of (Unreadable name error) = 2
-status_of (NotText name) = 2
-status_of (Data fault) = data_status fault
-status_of (Unwritable name error) = 1
-status_of (Fault error) = 1
+abbrev pub tool_status : Failure → ℕ
+tool_status (Unreadable name error) = 2
+tool_status (NotText name) = 2
+tool_status (Data fault) = data_status fault
+tool_status (Unwritable name error) = 1
+tool_status (Fault error) = 1
 
 -- memory was out
 abbrev pub IsMemory : Failure → Type 0
@@ -39,20 +39,20 @@ IsMemory (Unwritable name error) = ⊥
 IsMemory (Fault error) = fault_of error ≡ out_of_memory
 
 -- the status by how the work ended: 0 if all went well
-abbrev pub end_status : Result (Unit {0}) Failure → ℕ
-end_status (Ok u) = 0
-end_status (Err failure) = status_of failure
+abbrev pub tool_end_status : Result (Unit {0}) Failure → ℕ
+tool_end_status (Ok u) = 0
+tool_end_status (Err failure) = tool_status failure
 
 -- whether it is said that memory is out
-abbrev pub is_memory_kind : Kind → Bool
-is_memory_kind syntax = false
-is_memory_kind serialize = false
-is_memory_kind render = false
-is_memory_kind function = false
-is_memory_kind format = false
-is_memory_kind io = false
-is_memory_kind memory = true
+abbrev pub says_memory : Kind → Bool
+says_memory syntax = false
+says_memory serialize = false
+says_memory render = false
+says_memory function = false
+says_memory format = false
+says_memory io = false
+says_memory memory = true
 
 -- so of an error
-abbrev pub is_memory : Error → Bool
-is_memory error = is_memory_kind (fault_of error).kind
+abbrev pub is_memory_error : Error → Bool
+is_memory_error error = says_memory (fault_of error).kind

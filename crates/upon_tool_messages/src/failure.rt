@@ -1,6 +1,6 @@
 // Why a run of the program fails, its status, and what is said of it.
 ghost use Rattle.std.specs.Prelude.{◌≡◌};
-ghost use Rattle.upon_tool_messages.specs.Status.{data_status, is_memory, status_of, IsMemory};
+ghost use Rattle.upon_tool_messages.specs.Status.{data_status, is_memory_error, tool_status, IsMemory};
 
 use crate::hints::hint_of;
 use crate::picture::shown;
@@ -47,7 +47,7 @@ impl<'a> From<ContextFault<'a>> for Failure<'a> {
 }
 
 impl<'a> From<AllocError> for Failure<'a> {
-    ghost from_gives = { λ _ failure. IsMemory failure × (status_of failure ≡ 1) };
+    ghost from_gives = { λ _ failure. IsMemory failure × (tool_status failure ≡ 1) };
 
     fn from(error: AllocError) -> Failure<'a> {
         Failure::Fault(error.into())
@@ -55,7 +55,7 @@ impl<'a> From<AllocError> for Failure<'a> {
 }
 
 impl<'a, T: Drop> From<AllocFailed<T>> for Failure<'a> {
-    ghost from_gives = { λ _ failure. IsMemory failure × (status_of failure ≡ 1) };
+    ghost from_gives = { λ _ failure. IsMemory failure × (tool_status failure ≡ 1) };
 
     fn from(error: AllocFailed<T>) -> Failure<'a> {
         AllocError::from(error).into()
@@ -64,7 +64,7 @@ impl<'a, T: Drop> From<AllocFailed<T>> for Failure<'a> {
 
 /// Says why a run failed, and returns its status. A failed write is ignored.
 pub fn report<E: Write>(alloc: Global, failure: &Failure<'_>, err: &mut E) -> u8
-    ensures { result ≡ status_of failure.now }
+    ensures { result ≡ tool_status failure.now }
 {
     match failure {
         Failure::Unreadable(name, error) => {
@@ -166,7 +166,7 @@ fn told(alloc: Global, error: &Error, hint: Option<&str>) -> Result<String, Allo
 
 /// Returns whether an error says that memory is out.
 pub fn is_memory(error: &Error) -> bool
-    ensures { result ≡ is_memory error.now }
+    ensures { result ≡ is_memory_error error.now }
 {
     match error.kind() {
         ErrorKind::OutOfMemory => true,

@@ -2,7 +2,7 @@
 ghost use Rattle.std.specs.Prelude.{◌≡◌, ◌++◌, ◌∷◌, [], ℕ, List, map, None, Some, IfOk, OnErr, OnOk, option_map, bytes_eq, string_bytes};
 ghost use Rattle.std.specs.Map.{update};
 ghost use Rattle.upon_types.specs.Conversions.{or_else};
-ghost use Rattle.upon_tool_messages.specs.Library.{library_callables, library_names, refusal_of, read_refusal, IsOfAdded};
+ghost use Rattle.upon_tool_messages.specs.Library.{library_callables, library_names, refused_as, read_refusal, IsOfAdded};
 
 use crate::failure::{is_memory, report_fault};
 use crate::includes::including;
@@ -89,7 +89,7 @@ impl Library {
     pub fn new(alloc: Global, callables: Declared<'static>) -> Library
         ensures callables { library_callables result ≡ callables.entry }
         ensures names { library_names result ≡ [] }
-        ensures refused { (name : List ℕ) → refusal_of result name ≡ None }
+        ensures refused { (name : List ℕ) → refused_as result name ≡ None }
     {
         Library {
             alloc,
@@ -115,7 +115,7 @@ impl Library {
 
     /// Returns why the file of a name is no template, or `None` if it is one or is not there.
     pub fn refusal(&self, name: &str) -> Option<&Refusal>
-        ensures { option_map (λ refusal. refusal.now) result ≡ refusal_of self.now name.now }
+        ensures { option_map (λ refusal. refusal.now) result ≡ refused_as self.now name.now }
     {
         self.refused.get(name)
     }
@@ -126,8 +126,8 @@ impl Library {
         // The name is the last of its names.
         ensures names { OnOk result (library_names self.new ≡ library_names self.old ++ name.now ∷ []) }
         // At the name is the reason, if one is given, and else what was there; at each other name is what was there.
-        ensures refused { OnOk result ((other : List ℕ) → refusal_of self.new other
-            ≡ update bytes_eq (refusal_of self.old) name.now (or_else refusal (refusal_of self.old name.now)) other) }
+        ensures refused { OnOk result ((other : List ℕ) → refused_as self.new other
+            ≡ update bytes_eq (refused_as self.old) name.now (or_else refusal (refused_as self.old name.now)) other) }
     {
         self.names.push(String::from_str(self.alloc, name)?)?;
         if let Some(refusal) = refusal {

@@ -1,6 +1,6 @@
 // What is known of the contexts of a check: the shape of samples, or of what is valid by a schema.
 ghost use Rattle.std.specs.Prelude.{◌≡◌, IfOk, IfSome};
-ghost use Rattle.upon_shape.specs.View.{view};
+ghost use Rattle.upon_shape.specs.View.{shape_view};
 ghost use Rattle.upon_tool_shapes.specs.Contexts.{AreSampleWords, HasShape, EachSampleFits, SchemaFits};
 
 use std::env::Env;
@@ -25,7 +25,7 @@ pub fn shape_of<'a, R: Files + Env + AllocGlobal, I: Read, E: Write>(
     input: &mut I,
     err: &mut E,
 ) -> Result<Option<Shape>, ContextFault<'a>>
-    ensures { IfOk result (λ shape. IfSome shape (λ s. HasShape contexts.now (I.remaining input.old) (view s))) }
+    ensures { IfOk result (λ shape. IfSome shape (λ s. HasShape contexts.now (I.remaining input.old) (shape_view s))) }
 {
     match contexts.schema {
         Some(name) => by_schema(rt, name, input, err),
@@ -39,7 +39,7 @@ fn of_samples<'a, R: Files + Env + AllocGlobal, I: Read>(
     contexts: &ContextsCall<'a>,
     input: &mut I,
 ) -> Result<Shape, ContextFault<'a>>
-    ensures { IfOk result (λ s. EachSampleFits contexts.now (I.remaining input.old) (view s)) }
+    ensures { IfOk result (λ s. EachSampleFits contexts.now (I.remaining input.old) (shape_view s)) }
 {
     let words = data_words(contexts);
     check(&words, false)?;
@@ -67,7 +67,8 @@ fn by_schema<'a, R: Files + AllocGlobal, I: Read, E: Write>(
     input: &mut I,
     err: &mut E,
 ) -> Result<Option<Shape>, ContextFault<'a>>
-    ensures { IfOk result (λ shape. IfSome shape (λ s. SchemaFits name.entry.now (I.remaining input.old) (view s))) }
+    ensures { IfOk result (λ shape. IfSome shape (λ s. SchemaFits name.entry.now (I.remaining input.old)
+        (shape_view s))) }
 {
     let alloc = rt.alloc();
     let schema = read_value(rt, name, Some(Format::Json), input)?;

@@ -1,6 +1,6 @@
 // Whether a template ends without a fault on each value of a shape, and the pictures of where it may fail.
 ghost use Rattle.std.specs.Prelude.{◌≡◌, ◌++◌, [], ◌∷◌, IfOk, true};
-ghost use Rattle.upon_shape.specs.View.{view};
+ghost use Rattle.upon_shape.specs.View.{shape_view};
 ghost use Rattle.upon_calls.specs.Asked.{asked_by};
 ghost use Rattle.upon_calls.specs.Templates.{lent_pairs};
 ghost use Rattle.upon_tool_shapes.specs.Fitting.{asked_of, language_for, FileFits};
@@ -40,7 +40,7 @@ pub fn fits<E: Write>(
     err: &mut E,
 ) -> Result<bool, AllocError>
     ensures { IfOk result (λ fits. fits ≡ true → FileFits on.entry.escape on.entry.standard
-        (lent_pairs on.entry.folder.now) (view on.entry.shape.now) file.entry.0.now) }
+        (lent_pairs on.entry.folder.now) (shape_view on.entry.shape.now) file.entry.0.now) }
 {
     let sources = with_file(alloc, on.folder, file)?;
     let options = options_of(on.escape, on.standard);

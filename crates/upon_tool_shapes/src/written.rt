@@ -3,7 +3,7 @@ ghost use Rattle.std.specs.Prelude.{◌≡◌, ◌++◌, [], ◌∷◌, IfOk, On
 ghost use Rattle.std.specs.Str.{byte};
 ghost use Rattle.std.specs.Io.KnownBytes.{Appends};
 ghost use Rattle.upon_types.specs.View.{view as value_view};
-ghost use Rattle.upon_shape.specs.View.{view};
+ghost use Rattle.upon_shape.specs.View.{shape_view};
 ghost use Rattle.upon_std_writing.specs.JsonText.{json_text};
 ghost use Rattle.upon_tool_shapes.specs.Written.{schema_line};
 
@@ -25,7 +25,7 @@ pub fn send_schema<'a, O: Write>(
     shape: &Shape,
     out: &mut O,
 ) -> Result<(), Failure<'a>>
-    ensures { OnOk result (Appends (O.contents out.old) (O.contents out.new) (schema_line (view shape.now))) }
+    ensures { OnOk result (Appends (O.contents out.old) (O.contents out.new) (schema_line (shape_view shape.now))) }
 {
     let text = schema_text(alloc, shape)?;
     match write_flushed(text.as_str(), out) {
@@ -36,7 +36,7 @@ pub fn send_schema<'a, O: Write>(
 
 // The line.
 fn schema_text(alloc: Global, shape: &Shape) -> Result<String, AllocError>
-    ensures { IfOk result (λ text. string_bytes text ≡ schema_line (view shape.now)) }
+    ensures { IfOk result (λ text. string_bytes text ≡ schema_line (shape_view shape.now)) }
 {
     let schema = schema_of(alloc, shape)?;
     let mut text = json_of(alloc, schema)?;

@@ -17,7 +17,7 @@ use Rattle.upon_woven_spec.specs.Marks.{FromRawParts}
 use Rattle.upon_woven_spec.specs.Parts.{by_default, by_name}
 use Rattle.upon_engine.specs.Answers.{AnswersText}
 use Rattle.upon_engine.specs.Texts.{Texts, texts_of}
-use Rattle.upon_engine.specs.Theorem.{IsTable, rendering, meaning, Answers}
+use Rattle.upon_engine.specs.Theorem.{IsTable, rendering, meaning, AnswersTree}
 use Rattle.upon_engine.specs.declared.engine.Engine.{Engine as Held}
 use Rattle.upon_html.specs.Escape.{is_markup}
 use Rattle.upon_html.specs.Escaped.{escaped}
@@ -53,7 +53,7 @@ of_its_own e source tree v r is has said =
 
 -- of an engine
 module _ {X Y : Type 0} {P : X → Type 0} {Q : Y → Type 0} (formats : DynBox X Global P → Formatter) (answers : DynBox Y Global Q → Function) (h : Held X Y P Q) where
-  pub markup_answered : (table : Table) (source : List ℕ) (tree : Statements) (v : Val) (r : Result (String Global) Error) → Answers (texts_of formats answers h) None source tree v r → IsTable (texts_of formats answers h).texts table → CallsEscape (texts_of formats answers h) table source tree → MarkupIsRaw (texts_of formats answers h) table None source tree v r
+  pub markup_answered : (table : Table) (source : List ℕ) (tree : Statements) (v : Val) (r : Result (String Global) Error) → AnswersTree (texts_of formats answers h) None source tree v r → IsTable (texts_of formats answers h).texts table → CallsEscape (texts_of formats answers h) table source tree → MarkupIsRaw (texts_of formats answers h) table None source tree v r
   markup_answered table source tree v r said it all = raw_answer (texts_of formats answers h) table source tree v r all (said table it)
 
   pub calls_escape : (table : Table) (source : List ℕ) (tree : Statements) → OnlyEscapes (texts_of formats answers h) → CallsEscape (texts_of formats answers h) table source tree

@@ -11,7 +11,7 @@ use Rattle.upon_types.specs.Tree.{Statements}
 use Rattle.upon_types.specs.declared.error.Error.{Error}
 use Rattle.upon_language_spec.specs.Search.{DelimiterText}
 use Rattle.upon_syntax.specs.TagReading.{IsSyntaxError}
-use Rattle.upon_render.specs.Asked.{never}
+use Rattle.upon_render.specs.Asked.{refuses_all}
 use Rattle.upon_render.specs.Environment.{Root}
 use Rattle.upon_meaning_spec.specs.Alone.{alone}
 use Rattle.upon_meaning_spec.specs.Engine.{Engine, Template, calls_of, rendering_of}
@@ -41,16 +41,16 @@ module _ {X Y : Type 0} {P : X → Type 0} {Q : Y → Type 0} (formats : DynBox 
   abbrev pub Answered : Held X Y P Q → Root → TableBefore → TemplateBefore → Result (String Global) Error → Type 0
   Answered h root before t r =
       let e : Engine = engine_of formats answers h in
-      AnswersText e.depth (alone_before (rendering_before e never before) t None root (states (tt {0}) (tt {0}))) r
+      AnswersText e.depth (alone_before (rendering_before e refuses_all before) t None root (states (tt {0}) (tt {0}))) r
 
   -- a rendering of a template of before
   pub answers_before : (h : Held X Y P Q) (held : Template) (root : Root) (r : Result (String Global) Error) (before : TableBefore) (t : TemplateBefore) → held ≡ template_now t → HoldAlike t.tree before (engine_of formats answers h).templates
-      → AnswersText (engine_of formats answers h).depth (alone (rendering_of (engine_of formats answers h) never None) held None root (states (tt {0}) (tt {0}))) r
+      → AnswersText (engine_of formats answers h).depth (alone (rendering_of (engine_of formats answers h) refuses_all None) held None root (states (tt {0}) (tt {0}))) r
       → Answered h root before t r
   answers_before h held root r before t is alike says =
       let e : Engine = engine_of formats answers h in
-      let kept = rendering_kept (calls_of e never) before e.templates t alike e.depth None root (states (tt {0}) (tt {0})) in
-      subst (λ o. AnswersText e.depth o r) (ap (λ z. alone (rendering_of e never None) z None root (states (tt {0}) (tt {0}))) is ∙ kept) says
+      let kept = rendering_kept (calls_of e refuses_all) before e.templates t alike e.depth None root (states (tt {0}) (tt {0})) in
+      subst (λ o. AnswersText e.depth o r) (ap (λ z. alone (rendering_of e refuses_all None) z None root (states (tt {0}) (tt {0}))) is ∙ kept) says
 
   -- that memory is out, which `?` hands on
   pub memory_answered : (h : Held X Y P Q) (root : Root) (before : TableBefore) (t : TemplateBefore) (e : Error) (r : Result (String Global) Error) → IsErrAnd r (λ x. x ≡ e) → fault_of e ≡ out_of_memory → Answered h root before t r

@@ -15,9 +15,9 @@ use Rattle.upon_meaning_spec.specs.Engine.{Table, Template}
 use Rattle.upon_meaning_spec.specs.Outcome.{good, Outcome}
 use Rattle.upon_engine.specs.Answers.{AnswersText}
 use Rattle.upon_engine.specs.Faults.{IsSyntaxErrorOf}
-use Rattle.upon_engine.specs.RenderingLaws.{IsText}
+use Rattle.upon_engine.specs.RenderingLaws.{IsTextOrMemory}
 use Rattle.upon_engine.specs.Texts.{Stored, Texts}
-use Rattle.upon_engine.specs.Theorem.{Answers, IsTemplateOf, IsTable}
+use Rattle.upon_engine.specs.Theorem.{AnswersTree, IsTemplateOf, IsTable}
 
 -- one entry more on both sides
 put_at : (here : Bool) (s : Stored) (t : Statements) → ∥ HasTree s.syntax s.text t ∥₁ → (o : Option Stored) (u : Option Template) → IsTemplateOf o u
@@ -41,16 +41,16 @@ handed_out e (Ok a) is out = absurd is
 handed_out e (Err x) is out = ap fault_of is ∙ out
 
 -- memory that is out is an answer to each meaning
-pub out_is_text : (text : List ℕ) (r : Result (String Global) Error) → IsErrAnd r (λ e. fault_of e ≡ out_of_memory) → IsText text r
+pub out_is_text : (text : List ℕ) (r : Result (String Global) Error) → IsErrAnd r (λ e. fault_of e ≡ out_of_memory) → IsTextOrMemory text r
 out_is_text text (Ok s) is = absurd is
 out_is_text text (Err e) is = is
 
-pub out_answers : (e : Texts) (name : Option (List ℕ)) (source : List ℕ) (tree : Statements) (v : Val) (r : Result (String Global) Error) → IsErrAnd r (λ e. fault_of e ≡ out_of_memory) → Answers e name source tree v r
+pub out_answers : (e : Texts) (name : Option (List ℕ)) (source : List ℕ) (tree : Statements) (v : Val) (r : Result (String Global) Error) → IsErrAnd r (λ e. fault_of e ≡ out_of_memory) → AnswersTree e name source tree v r
 out_answers e name source tree v (Ok s) is table it = absurd is
 out_answers e name source tree v (Err x) is table it = inr is
 
 -- where the meaning ends well, its text is answered
-pub good_only : {Q : Type 0} (limit : ℕ) (o : Outcome Q) (text : List ℕ) → o.end ≡ good → o.text ≡ text → (r : Result (String Global) Error) → AnswersText limit o r → IsText text r
+pub good_only : {Q : Type 0} (limit : ℕ) (o : Outcome Q) (text : List ℕ) → o.end ≡ good → o.text ≡ text → (r : Result (String Global) Error) → AnswersText limit o r → IsTextOrMemory text r
 good_only limit o text ends is (Ok s) said = said.1 ∙ is
 good_only limit o text ends is (Err e) (inr out) = out
 good_only limit o text ends is (Err e) (inl fault) =

@@ -17,9 +17,9 @@ use Rattle.upon_language_spec.proofs.Examples.ShortTrees.{lex, three, shows}
 use Rattle.upon_meaning_spec.specs.Engine.{Table}
 use Rattle.upon_meaning_spec.specs.Outcome.{good}
 use Rattle.upon_engine.specs.Changes.{empty_engine, with_text}
-use Rattle.upon_engine.specs.RenderingLaws.{IsText}
+use Rattle.upon_engine.specs.RenderingLaws.{IsTextOrMemory}
 use Rattle.upon_engine.specs.Texts.{Texts}
-use Rattle.upon_engine.specs.Theorem.{IsTable, meaning, Answers, Sends}
+use Rattle.upon_engine.specs.Theorem.{IsTable, meaning, AnswersTree, Sends}
 use Rattle.upon_users.specs.Greeting.{names}
 use Rattle.upon_users.proofs.BuiltEngines.{put_in, good_only}
 
@@ -49,9 +49,9 @@ hello_means : (x : List ℕ) → ((meaning built table (Some (codes "hello")) he
 hello_means x = (refl, refl)
 
 pub hello_said : (e : Texts) (x : List ℕ) (v : Val) (r : Result (String Global) Error) → e ≡ built → v ≡ names x
-    → Answers e (Some (codes "hello")) hello_text tree v r → IsText (codes "Hello " ++ x ++ codes "!") r
+    → AnswersTree e (Some (codes "hello")) hello_text tree v r → IsTextOrMemory (codes "Hello " ++ x ++ codes "!") r
 hello_said e x v r is vs said =
-    let it : Answers built (Some (codes "hello")) hello_text tree (names x) r = subst (λ z. Answers built (Some (codes "hello")) hello_text tree z r) vs (subst (λ z. Answers z (Some (codes "hello")) hello_text tree v r) is said) in
+    let it : AnswersTree built (Some (codes "hello")) hello_text tree (names x) r = subst (λ z. AnswersTree built (Some (codes "hello")) hello_text tree z r) vs (subst (λ z. AnswersTree z (Some (codes "hello")) hello_text tree v r) is said) in
     let m = hello_means x in
     good_only 64 (meaning built table (Some (codes "hello")) hello_text tree (names x)) (codes "Hello " ++ x ++ codes "!") m.0 m.1 r (it table is_table)
 

@@ -13,7 +13,7 @@ use Rattle.upon_engine.specs.Answers.{AnswersText}
 use Rattle.upon_engine.specs.Base.{on_root}
 use Rattle.upon_engine.specs.Calls.{Call, outcome, on_base}
 use Rattle.upon_engine.specs.KeepsLaws.{KeepsLaws}
-use Rattle.upon_engine.specs.Pieces.{pieces}
+use Rattle.upon_engine.specs.Pieces.{pieces_of_call}
 
 -- an end that is good is not that includes are too deep
 not_deep : (e : End) → e ≡ good → e ≡ too_deep → ⊥
@@ -45,6 +45,6 @@ on_maps call table v w these those a b laws by root one other is are agree =
 -- a text that is there is the call's pieces joined
 pub woven_text : {V T : Type 0} (call : Call V T) (limit : ℕ) (r : Result (String Global) Error)
     → AnswersText limit (outcome call) r → KeepsLaws call
-    → IfOk r (λ text. WovenOf call.rendering.calls call.rendering.resolve call.template (pieces call) (string_bytes text))
-woven_text call limit (Ok text) said laws = subst (λ x. WovenOf call.rendering.calls call.rendering.resolve call.template (pieces call) x) (sym said.1) laws.woven
+    → IfOk r (λ text. WovenOf call.rendering.calls call.rendering.resolve call.template (pieces_of_call call) (string_bytes text))
+woven_text call limit (Ok text) said laws = subst (λ x. WovenOf call.rendering.calls call.rendering.resolve call.template (pieces_of_call call) x) (sym said.1) laws.woven
 woven_text call limit (Err e) said laws = tt

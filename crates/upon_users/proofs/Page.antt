@@ -14,8 +14,8 @@ use Rattle.upon_language_spec.proofs.Computation.HasTreeTests.{has_tree_tested}
 use Rattle.upon_language_spec.proofs.Examples.ShortTrees.{lex}
 use Rattle.upon_meaning_spec.specs.Engine.{Table}
 use Rattle.upon_meaning_spec.specs.Outcome.{good}
-use Rattle.upon_engine.specs.RenderingLaws.{IsText}
-use Rattle.upon_engine.specs.Theorem.{IsTable, meaning, Answers}
+use Rattle.upon_engine.specs.RenderingLaws.{IsTextOrMemory}
+use Rattle.upon_engine.specs.Theorem.{IsTable, meaning, AnswersTree}
 use Rattle.upon_users.specs.Greeting.{names}
 use Rattle.upon_users.specs.Page.{angles, name_text, page_text, name_tree, page_tree, name_engine, page_engine}
 use Rattle.upon_users.proofs.BuiltEngines.{put_in, good_only}
@@ -46,9 +46,9 @@ page_means : (x : List ℕ) → ((meaning page_engine table (Some (codes "page")
     × ((meaning page_engine table (Some (codes "page")) page_text page_tree (names x)).text ≡ codes "Hello *" ++ x ++ codes "!")
 page_means x = (refl, ap (λ z. codes "Hello *" ++ z) (append-nil (x ++ codes "!")))
 
-pub page_said : (x : List ℕ) (v : Val) (r : Result (String Global) Error) → v ≡ names x → Answers page_engine (Some (codes "page")) page_text page_tree v r
-    → IsText (codes "Hello *" ++ x ++ codes "!") r
+pub page_said : (x : List ℕ) (v : Val) (r : Result (String Global) Error) → v ≡ names x → AnswersTree page_engine (Some (codes "page")) page_text page_tree v r
+    → IsTextOrMemory (codes "Hello *" ++ x ++ codes "!") r
 page_said x v r vs said =
-    let it : Answers page_engine (Some (codes "page")) page_text page_tree (names x) r = subst (λ z. Answers page_engine (Some (codes "page")) page_text page_tree z r) vs said in
+    let it : AnswersTree page_engine (Some (codes "page")) page_text page_tree (names x) r = subst (λ z. AnswersTree page_engine (Some (codes "page")) page_text page_tree z r) vs said in
     let m = page_means x in
     good_only 64 (meaning page_engine table (Some (codes "page")) page_text page_tree (names x)) (codes "Hello *" ++ x ++ codes "!") m.0 m.1 r (it table is_table)

@@ -11,7 +11,7 @@ use Rattle.upon_language_spec.proofs.Computation.Computing.{computing}
 use Rattle.upon_language_spec.proofs.Computation.HasTreeTests.{has_tree_tested}
 use Rattle.upon_language_spec.specs.ShortTrees.{at, name}
 use Rattle.upon_language_spec.proofs.Examples.ShortTrees.{lex, three, shows}
-use Rattle.upon_render.specs.Asked.{never}
+use Rattle.upon_render.specs.Asked.{refuses_all}
 use Rattle.upon_render.specs.Environment.{context}
 use Rattle.upon_meaning_spec.specs.Alone.{alone}
 use Rattle.upon_meaning_spec.specs.Engine.{Resolver, Table, Template, rendering_by}
@@ -19,7 +19,7 @@ use Rattle.upon_meaning_spec.specs.Outcome.{Outcome, States, states}
 use Rattle.upon_engine.specs.Changes.{empty_engine}
 use Rattle.upon_engine.specs.Texts.{Texts}
 use Rattle.upon_engine.specs.Theorem.{engine_meant}
-use Rattle.upon_store.specs.Stored.{HoldsTemplate, Renders}
+use Rattle.upon_store.specs.Stored.{HoldsTemplate, RendersStored}
 use Rattle.upon_store.specs.declared.store.StoreError.{StoreError}
 use Rattle.upon_users.specs.Greeting.{names}
 
@@ -35,7 +35,7 @@ hello_tree = has_tree_tested _ _ (lex Raw 0 6 ∷ lex BeginExpr 6 8 ∷ lex Whit
 
 -- what a template means on a value, with a store's answers to its includes
 abbrev pub means : Texts → Table → Resolver (Unit {0}) → Val → Template → Outcome (States (Unit {0}) (Unit {0}))
-means e table resolve v t = alone (rendering_by (engine_meant e table) never resolve None) t None (context v) (states (tt {0}) (tt {0}))
+means e table resolve v t = alone (rendering_by (engine_meant e table) refuses_all resolve None) t None (context v) (states (tt {0}) (tt {0}))
 
 -- the template that is held is this text with this tree
 held_is : (d : List DelimiterText) (t : Template) → d ≡ default_delimiters → HoldsTemplate d hello_text (Some t) → t ≡ record { source = hello_text; tree = tree }
@@ -45,7 +45,7 @@ held_is d t same holds =
 
 -- so its text is received whole, if the store's rendering ends well
 pub hello_sent : (e : Texts) (d : List DelimiterText) (table : Table) (resolve : Resolver (Unit {0})) (v : Val) (x : List ℕ) (is_path : Bool) (held : Option Template) (limit : ℕ) (r : Result (Unit {0}) StoreError) (old new : Option (List ℕ))
-    → e ≡ empty_engine → d ≡ default_delimiters → v ≡ names x → HoldsTemplate d hello_text held → Renders is_path held limit r old new (means e table resolve v) → OnOk r (Appends old new (codes "Hello " ++ x ++ codes "!"))
+    → e ≡ empty_engine → d ≡ default_delimiters → v ≡ names x → HoldsTemplate d hello_text held → RendersStored is_path held limit r old new (means e table resolve v) → OnOk r (Appends old new (codes "Hello " ++ x ++ codes "!"))
 hello_sent e d table resolve v x is_path held limit (Err error) old new empty same vs holds said = tt
 hello_sent e d table resolve v x is_path held limit (Ok u) old new empty same vs holds said =
     let is = held_is d said.0 same (subst (HoldsTemplate d hello_text) said.2 holds) in

@@ -3,8 +3,8 @@ ghost use Rattle.std.specs.Prelude.{◌≡◌, ◌++◌, Some, IfOk, OnOk, codes
 ghost use Rattle.std.specs.Io.KnownBytes.{Appends};
 ghost use Rattle.upon_types.specs.View.{view};
 ghost use Rattle.upon_lexer.specs.Syntax.{syntax_delimiters};
-ghost use Rattle.upon_engine.specs.RenderingLaws.{IsText};
-ghost use Rattle.upon_engine.specs.Theorem.{Answers};
+ghost use Rattle.upon_engine.specs.RenderingLaws.{IsTextOrMemory};
+ghost use Rattle.upon_engine.specs.Theorem.{AnswersTree};
 ghost use Rattle.upon_users.specs.Greeting.{names};
 ghost use Rattle.upon_users.specs.Page.{angles, page_engine, page_text, page_tree};
 
@@ -30,7 +30,7 @@ fn named(alloc: Global, name: &str) -> std::result::Result<Value, AllocError>
 
 /// Greets by a template that it adds.
 pub fn hello(alloc: Global, name: &str) -> Result<String>
-    ensures { IsText (codes "Hello " ++ name.now ++ codes "!") result }
+    ensures { IsTextOrMemory (codes "Hello " ++ name.now ++ codes "!") result }
 {
     let context = named(alloc, name)?;
     let mut engine = Engine::new(alloc);
@@ -92,7 +92,7 @@ fn in_angles(alloc: Global) -> std::result::Result<Syntax, AllocError>
 
 /// Renders a page on a value, by two templates of two syntaxes, one in the other, with a formatter and a function.
 pub fn page(alloc: Global, value: &Value) -> Result<String>
-    ensures { Answers page_engine (Some (codes "page")) page_text page_tree (view value.now) result }
+    ensures { AnswersTree page_engine (Some (codes "page")) page_text page_tree (view value.now) result }
 {
     let mut engine = Engine::new(alloc);
     let star = Box::new(alloc, Star)?;
@@ -117,7 +117,7 @@ pub fn page(alloc: Global, value: &Value) -> Result<String>
 
 /// Greets by that page.
 pub fn page_of(alloc: Global, name: &str) -> Result<String>
-    ensures { IsText (codes "Hello *" ++ name.now ++ codes "!") result }
+    ensures { IsTextOrMemory (codes "Hello *" ++ name.now ++ codes "!") result }
 {
     let context = named(alloc, name)?;
     page(alloc, &context)

@@ -5,7 +5,7 @@ ghost use Rattle.upon_types.specs.Path.{Ident};
 ghost use Rattle.upon_types.specs.Tree.{include};
 ghost use Rattle.upon_types.specs.Val.{Val, Entries, entry_at, map_val};
 ghost use Rattle.upon_types.specs.View.{view};
-ghost use Rattle.upon_render.specs.Asked.{never};
+ghost use Rattle.upon_render.specs.Asked.{refuses_all};
 ghost use Rattle.upon_render.specs.Environment.{Environment, context};
 ghost use Rattle.upon_meaning_spec.specs.Alone.{included};
 ghost use Rattle.upon_meaning_spec.specs.Engine.{Table, Template as Meant, calls_of, from_table};
@@ -17,10 +17,10 @@ ghost use Rattle.upon_meaning_spec.specs.Outcome.{States, too_deep};
 ghost use Rattle.upon_woven_spec.specs.Parts.{WovenOf};
 ghost use Rattle.upon_engine.specs.Answers.{AnswersText};
 ghost use Rattle.upon_engine.specs.Base.{on_root};
-ghost use Rattle.upon_engine.specs.Calls.{at_depth, call_of, outcome, values_in};
+ghost use Rattle.upon_engine.specs.Calls.{at_depth, call_of, outcome, renderer_values};
 ghost use Rattle.upon_engine.specs.KeepsLaws.{KeepsLaws};
 ghost use Rattle.upon_engine.specs.Engine.{engine_templates};
-ghost use Rattle.upon_engine.specs.Pieces.{pieces};
+ghost use Rattle.upon_engine.specs.Pieces.{pieces_of_call};
 ghost use Rattle.upon_engine.specs.Template.{template_of};
 ghost use Rattle.upon_engine.specs.Theorem.{engine_meant};
 ghost use Rattle.upon_users.specs.OnValue.{call_on};
@@ -69,7 +69,7 @@ pub fn numbered(engine: &Engine<'_>, template: &Template<'_>, value: &Value) -> 
 /// Renders a template. An include with a value in it means the same, whatever is bound around it.
 pub fn of_others(engine: &Engine<'_>, template: &Template<'_>, value: &Value) -> Result<String>
     ensures { let e = engine_meant (⟦<AnyEngine as EngineTexts>⟧.texts engine.now) (engine_templates engine.now) in
-        let calls = calls_of e never in
+        let calls = calls_of e refuses_all in
         let resolve = from_table e.templates in
         (running : RunningTemplate) (left : ℕ) (word : Ident) (given : Expression) (one other : Environment)
         (s next : States (Unit {0}) (Unit {0})) (v : Val) (t : Meant)
@@ -113,7 +113,7 @@ pub fn with_others(engine: &Engine<'_>, template: &Template<'_>, value: &Value) 
 pub fn woven(engine: &Engine<'_>, template: &Template<'_>, value: &Value) -> Result<String>
     ensures { let e = engine_meant (⟦<AnyEngine as EngineTexts>⟧.texts engine.now) (engine_templates engine.now) in
         let call = call_on e (template_of template.now) (view value.now) in
-        IfOk result (λ text. WovenOf call.rendering.calls call.rendering.resolve call.template (pieces call)
+        IfOk result (λ text. WovenOf call.rendering.calls call.rendering.resolve call.template (pieces_of_call call)
         (string_bytes text)) }
 {
     rendered(engine, template, value)
@@ -126,7 +126,7 @@ pub fn unasked<'r, E: Callables + Drop, V: Values<'r, T>, T: TemplateSource<'r>>
     ensures { let call = call_of E.callables E.default_formatter V.asks V.root V.values_state T.resolve
         T.template_state page.entry in
         (v : Val) → call.base ≡ on_root (context v)
-        → (outcome call).next.values ≡ V.values_state (values_in page.entry) }
+        → (outcome call).next.values ≡ V.values_state (renderer_values page.entry) }
 {
     page.to_string()
 }

@@ -3,7 +3,7 @@ ghost use Rattle.std.specs.Prelude.{◌≡◌, ℕ, List, Contains, Some, None, 
 ghost use Rattle.std.specs.Cow.{cow_str_bytes};
 ghost use Rattle.upon_types.specs.Val.{Entries, entry_at, map_val};
 ghost use Rattle.upon_types.specs.View.{view};
-ghost use Rattle.upon_render.specs.Asked.{never};
+ghost use Rattle.upon_render.specs.Asked.{refuses_all};
 ghost use Rattle.upon_render.specs.Environment.{context, value_source};
 ghost use Rattle.upon_meaning_spec.specs.Alone.{alone};
 ghost use Rattle.upon_meaning_spec.specs.Engine.{Template as TemplateMeant, rendering_of};
@@ -14,12 +14,12 @@ ghost use Rattle.upon_before_spec.specs.Grammar.{HasTree as HadTree};
 ghost use Rattle.upon_before_spec.specs.Kept.{HoldAlike, rendering_before};
 ghost use Rattle.upon_before_spec.specs.Now.{template_now};
 ghost use Rattle.upon_before_spec.specs.Tree.{Statements as StatementsBefore};
-ghost use Rattle.upon_vm.specs.Reports.{IsTaken, WriteMarks, WritesAndLeaves};
+ghost use Rattle.upon_vm.specs.Reports.{IsTakenError, WriteMarks, WritesAndLeaves};
 ghost use Rattle.upon_engine.specs.Answers.{AnswersText};
-ghost use Rattle.upon_engine.specs.Base.{Base, IsContextOf, outcome_over};
+ghost use Rattle.upon_engine.specs.Base.{ContextBase, IsContextOf, outcome_over};
 ghost use Rattle.upon_engine.specs.Engine.{engine_depth, engine_syntax, engine_templates};
 ghost use Rattle.upon_engine.specs.EngineNeeds.{needed_names};
-ghost use Rattle.upon_engine.specs.RenderingLaws.{IsPlain, IsText};
+ghost use Rattle.upon_engine.specs.RenderingLaws.{IsPlainText, IsTextOrMemory};
 ghost use Rattle.upon_engine.specs.Template.{template_of};
 ghost use Rattle.upon_engine.specs.Theorem.{engine_meant, rendering};
 
@@ -57,7 +57,8 @@ pub fn as_before(engine: &Engine<'_>, template: &Template<'_>, value: &Value) ->
         → HoldAlike t.tree before e.templates
         → AnswersText
         e.depth
-        (alone_before (rendering_before e never before) t None (context (view value.now)) (states (tt {0}) (tt {0})))
+        (alone_before (rendering_before e refuses_all before) t None (context (view value.now))
+        (states (tt {0}) (tt {0})))
         result }
 {
     on_value(engine, template, value)
@@ -72,7 +73,7 @@ pub fn compiled_as_before(engine: &Engine<'_>, source: CowStr<'_>, value: &Value
         → HoldAlike tree before e.templates
         → AnswersText
         e.depth
-        (alone_before (rendering_before e never before) (record { source = s; tree = tree }) None
+        (alone_before (rendering_before e refuses_all before) (record { source = s; tree = tree }) None
         (context (view value.now)) (states (tt {0}) (tt {0})))
         result }
 {
@@ -86,7 +87,7 @@ pub fn on_data<S: Serialize + Drop>(
     template: &Template<'_>,
     context: S,
 ) -> Result<String>
-    ensures { (base : Base) × IsContextOf (λ old new. S.writes context old new) base × AnswersText
+    ensures { (base : ContextBase) × IsContextOf (λ old new. S.writes context old new) base × AnswersText
         (engine_depth engine.now)
         (outcome_over (rendering (⟦<AnyEngine as EngineTexts>⟧.texts engine.now) (engine_templates engine.now))
         (template_of template.now) None base (states (tt {0}) (tt {0})))
@@ -106,7 +107,7 @@ pub fn on_source<S: ValueSource, O: Output>(
     ensures mark { WriteMarks result (O.mark out.old) (O.mark out.new) }
     ensures means { WritesAndLeaves
         (engine_depth engine.now)
-        (IsTaken (O.mark out.new))
+        (IsTakenError (O.mark out.new))
         result
         (O.given out.old)
         (O.given out.new)
@@ -134,8 +135,8 @@ pub fn rendered_twice(engine: &Engine<'_>, source: &str, value: &Value) -> Resul
 
 /// Renders a text. If no delimiter is in it, that is the text itself.
 pub fn rendered_plain(engine: &Engine<'_>, source: &str, value: &Value) -> Result<String>
-    ensures { IsPlain (engine_syntax engine.now) source.now
-        → IsText source.now result }
+    ensures { IsPlainText (engine_syntax engine.now) source.now
+        → IsTextOrMemory source.now result }
 {
     plain_text(engine);
     engine.render_text(source, value)
@@ -151,8 +152,8 @@ pub fn needs_of<'n>(
         (t : TemplateMeant) → e.templates name.now ≡ Some t → IsSomeAnd result (λ r. IfOk r (λ needs.
         (these those : Entries) → AgreeOn (Contains (needed_names needs)) (λ n. entry_at n these)
         (λ n. entry_at n those)
-        → alone (rendering_of e never None) t None (context (map_val these)) (states (tt {0}) (tt {0}))
-        ≡ alone (rendering_of e never None) t None (context (map_val those)) (states (tt {0}) (tt {0})))) }
+        → alone (rendering_of e refuses_all None) t None (context (map_val these)) (states (tt {0}) (tt {0}))
+        ≡ alone (rendering_of e refuses_all None) t None (context (map_val those)) (states (tt {0}) (tt {0})))) }
 {
     names_needed::<(), ()>();
     engine.needs(name)

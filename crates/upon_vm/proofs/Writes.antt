@@ -8,7 +8,7 @@ use Rattle.upon_meaning_spec.specs.Outcome.{Outcome}
 use Rattle.upon_fmt.specs.Mark.{LeftOut, set_aside}
 use Rattle.upon_fmt.specs.declared.output.Mark.{Mark}
 use Rattle.upon_fmt.specs.declared.output.Mark.TheVariants.{Clear, Waits, Taken}
-use Rattle.upon_vm.specs.Reports.{IsReport, OutputReport, ReportMarks, IsAnyIo, IsTaken, Writes, WritesAndLeaves, FaultMarks, WriteMarks}
+use Rattle.upon_vm.specs.Reports.{IsReport, OutputReport, ReportMarks, IsAnyIo, IsTakenError, WritesReported, WritesAndLeaves, FaultMarks, WriteMarks}
 use Rattle.upon_vm.specs.Runs.{Ran, RunMarks}
 use Rattle.upon_vm.specs.declared.failure.Failure.{Failure}
 use Rattle.upon_vm.specs.declared.failure.Failure.TheVariants.{Error as ErrorFailure, Output as OutputFailure}
@@ -16,14 +16,14 @@ use Rattle.upon_vm.specs.declared.run.Ending.{Ending}
 use Rattle.upon_vm.specs.declared.run.Ending.TheVariants.{Good, TooDeep}
 
 -- the error that waited, by the mark after it was taken
-pub taken : (mid new : Mark) (e : Error) → new ≡ set_aside mid → OutputReport mid e → (error_of e ≡ out_of_memory) ⊎ IsTaken new e
+pub taken : (mid new : Mark) (e : Error) → new ≡ set_aside mid → OutputReport mid e → (error_of e ≡ out_of_memory) ⊎ IsTakenError new e
 taken Clear new e is out = inl out
-taken (Waits error) new e is told = inr (subst (λ m. IsTaken m e) (sym is) told)
+taken (Waits error) new e is told = inr (subst (λ m. IsTakenError m e) (sym is) told)
 taken (Taken error) new e is out = inl out
 
 module _ {Q : Type 0} (limit : ℕ) (mid mark : Mark) (old new : Option (List ℕ)) (o : Outcome Q) (next : Q) where
   pub writes : (ended : Result Ending Failure) (r : Result (Unit {0}) Error) → Ran ended old new o next → IsReport limit ended mid r → ReportMarks ended mid mark
-      → WritesAndLeaves limit (IsTaken mark) r old new o next
+      → WritesAndLeaves limit (IsTakenError mark) r old new o next
   writes (Ok Good) (Ok u) h is marks = h
   writes (Ok Good) (Err e) h is marks = absurd is
   writes (Ok TooDeep) (Ok u) h is marks = absurd is
@@ -36,19 +36,19 @@ module _ {Q : Type 0} (limit : ℕ) (mid mark : Mark) (old new : Option (List �
 
 module _ {Q : Type 0} (limit : ℕ) (IsOwn : Error → Type 0) (old new : Option (List ℕ)) (o : Outcome Q) (next : Q) where
   -- without the next states
-  pub writes_alone : (r : Result (Unit {0}) Error) → WritesAndLeaves limit IsOwn r old new o next → Writes limit IsOwn r old new o
+  pub writes_alone : (r : Result (Unit {0}) Error) → WritesAndLeaves limit IsOwn r old new o next → WritesReported limit IsOwn r old new o
   writes_alone (Ok u) h = (h.0, h.1)
   writes_alone (Err e) (inl h) = inl (h.0, h.1)
   writes_alone (Err e) (inr h) = inr h
 
-pub taken_any : (mark : Mark) (e : Error) → IsTaken mark e → IsAnyIo e
+pub taken_any : (mark : Mark) (e : Error) → IsTakenError mark e → IsAnyIo e
 taken_any Clear e is = absurd is
 taken_any (Waits error) e is = absurd is
 taken_any (Taken error) e is = is.0
 
 module _ {Q : Type 0} (limit : ℕ) (mark : Mark) (old new : Option (List ℕ)) (o : Outcome Q) where
   -- without the mark
-  pub writes_any : (r : Result (Unit {0}) Error) → Writes limit (IsTaken mark) r old new o → Writes limit IsAnyIo r old new o
+  pub writes_any : (r : Result (Unit {0}) Error) → WritesReported limit (IsTakenError mark) r old new o → WritesReported limit IsAnyIo r old new o
   writes_any (Ok u) h = h
   writes_any (Err e) (inl h) = inl h
   writes_any (Err e) (inr (inl out, part)) = inr (inl out, part)

@@ -9,7 +9,7 @@ use Rattle.upon_types.specs.declared.error.ErrorKind.TheVariants.{Io}
 use Rattle.upon_meaning_spec.specs.Alone.{fault_of_end}
 use Rattle.upon_meaning_spec.specs.CallFaults.{depth_reached}
 use Rattle.upon_meaning_spec.specs.Outcome.{good, Outcome}
-use Rattle.upon_fmt.specs.Given.{Part}
+use Rattle.upon_fmt.specs.Given.{ReceivesPart}
 use Rattle.upon_fmt.specs.Mark.{set_aside}
 use Rattle.upon_fmt.specs.declared.output.Mark.{Mark}
 use Rattle.upon_fmt.specs.declared.output.Mark.TheVariants.{Clear, Waits, Taken}
@@ -57,10 +57,10 @@ ReportMarks (Ok end) old new = new ≡ old
 ReportMarks (Err failure) old new = FailureMarks failure old new
 
 -- the error is the one that an output's last failed write answered, and was taken
-abbrev pub IsTaken : Mark → Error → Type 0
-IsTaken Clear e = ⊥
-IsTaken (Waits error) e = ⊥
-IsTaken (Taken error) e = IsIo error e
+abbrev pub IsTakenError : Mark → Error → Type 0
+IsTakenError Clear e = ⊥
+IsTakenError (Waits error) e = ⊥
+IsTakenError (Taken error) e = IsIo error e
 
 -- the error is one of a write
 abbrev pub IsAnyIo : Error → Type 0
@@ -68,12 +68,12 @@ IsAnyIo e = error_of e ≡ fault_of_kind io
 
 -- The output received the whole text, and the fault of the outcome's end is reported if it has one. Or it received a
 -- beginning of the text, and memory is out, or its own error is reported, of which this holds.
-abbrev pub Writes : {Q : Type 0} → ℕ → (Error → Type 0) → Result (Unit {0}) Error → Option (List ℕ)
+abbrev pub WritesReported : {Q : Type 0} → ℕ → (Error → Type 0) → Result (Unit {0}) Error → Option (List ℕ)
     → Option (List ℕ) → Outcome Q → Type 0
-Writes limit IsOwn (Ok u) old new o = (o.end ≡ good) × Appends old new o.text
-Writes limit IsOwn (Err e) old new o =
+WritesReported limit IsOwn (Ok u) old new o = (o.end ≡ good) × Appends old new o.text
+WritesReported limit IsOwn (Err e) old new o =
     ((fault_of_end limit o.end ≡ Some (error_of e)) × Appends old new o.text)
-    ⊎ (((error_of e ≡ out_of_memory) ⊎ IsOwn e) × Part old new o.text)
+    ⊎ (((error_of e ≡ out_of_memory) ⊎ IsOwn e) × ReceivesPart old new o.text)
 
 -- the same, and if the whole text was received, the sources are in the outcome's next states
 abbrev pub WritesAndLeaves : {Q : Type 0} → ℕ → (Error → Type 0) → Result (Unit {0}) Error → Option (List ℕ)
@@ -81,7 +81,7 @@ abbrev pub WritesAndLeaves : {Q : Type 0} → ℕ → (Error → Type 0) → Res
 WritesAndLeaves limit IsOwn (Ok u) old new o next = (o.end ≡ good) × Appends old new o.text × (o.next ≡ next)
 WritesAndLeaves limit IsOwn (Err e) old new o next =
     ((fault_of_end limit o.end ≡ Some (error_of e)) × Appends old new o.text × (o.next ≡ next))
-    ⊎ (((error_of e ≡ out_of_memory) ⊎ IsOwn e) × Part old new o.text)
+    ⊎ (((error_of e ≡ out_of_memory) ⊎ IsOwn e) × ReceivesPart old new o.text)
 
 -- by the kind of the fault: if memory is out, an error of before may be put aside; and but for a fault of a write, the
 -- mark stays

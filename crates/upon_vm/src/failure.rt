@@ -4,7 +4,7 @@ ghost use Rattle.upon_types.specs.Error.{fault_of as error_of, kind_of as error_
 ghost use Rattle.upon_types.specs.Fault.{fault_with_picture, OrMemory};
 ghost use Rattle.upon_types.specs.Span.{LiesIn};
 ghost use Rattle.upon_meaning_spec.specs.Meaning.{fault_in};
-ghost use Rattle.upon_vm_calls.specs.Halt.{fault_of, kind_of};
+ghost use Rattle.upon_vm_calls.specs.Halt.{halt_fault, halt_kind};
 ghost use Rattle.upon_vm.specs.Acts.{stop_or_memory};
 ghost use Rattle.upon_vm.specs.Failures.{FailsBy, FailsSo, HaltLies, Names, StopLies, is_memory};
 ghost use Rattle.upon_vm.specs.Machine.{active_of};
@@ -52,7 +52,7 @@ fn halted(alloc: Global, running: Running, halt: Halt) -> Failure
 /// Returns the error of a fault in a template that runs, with its name and the picture of its text.
 pub(crate) fn in_template(alloc: Global, running: Running, fault: Fault) -> Error
     requires { LiesIn running.program.source.now fault.span }
-    ensures { OrMemory (fault_in (active_of running.entry).running (fault_of fault)) (error_of result) }
+    ensures { OrMemory (fault_in (active_of running.entry).running (halt_fault fault)) (error_of result) }
 {
     let error = with_picture(alloc, running.program.source, fault);
     with_name(alloc, running.name, error)
@@ -61,7 +61,7 @@ pub(crate) fn in_template(alloc: Global, running: Running, fault: Fault) -> Erro
 // A fault with the picture of its span.
 fn with_picture(alloc: Global, source: &str, fault: Fault) -> Error
     requires { LiesIn source.now fault.span }
-    ensures { OrMemory (fault_with_picture source.now (fault_of fault)) (error_of result) }
+    ensures { OrMemory (fault_with_picture source.now (halt_fault fault)) (error_of result) }
 {
     let kind = error_kind(fault.kind);
     Error::from_owned_parts(alloc, kind, fault.reason, Some((source, fault.span)))
@@ -69,7 +69,7 @@ fn with_picture(alloc: Global, source: &str, fault: Fault) -> Error
 
 // The kind of its error.
 fn error_kind(kind: FaultKind) -> ErrorKind
-    ensures { error_kind_of result ≡ kind_of kind }
+    ensures { error_kind_of result ≡ halt_kind kind }
 {
     match kind {
         FaultKind::Render => ErrorKind::Render,

@@ -1,14 +1,14 @@
 // Where a program is, as a span of its text.
 ghost use Rattle.std.specs.Prelude.{◌≡◌, option_and_then, slice_get};
 ghost use Rattle.upon_instructions.specs.Program.{instr_of, program_view};
-ghost use Rattle.upon_vm.specs.Place.{place, span_of};
+ghost use Rattle.upon_vm.specs.Place.{instruction_span, nearest_span};
 
 use upon_instructions::types::program::Instr;
 use upon_types::types::Span;
 
 // The span of an instruction, if it has one.
 fn span_of(instr: &Instr) -> Option<Span>
-    ensures { result ≡ span_of (instr_of instr.now) }
+    ensures { result ≡ instruction_span (instr_of instr.now) }
 {
     match instr {
         Instr::EmitRaw(span) => Some(*span),
@@ -29,7 +29,7 @@ fn span_of(instr: &Instr) -> Option<Span>
 
 // The span of the instruction of a number, if it is there and has one.
 fn span_at(instrs: &[Instr], position: usize) -> Option<Span>
-    ensures { result ≡ option_and_then span_of (slice_get (program_view instrs.now) position) }
+    ensures { result ≡ option_and_then instruction_span (slice_get (program_view instrs.now) position) }
 {
     match instrs.get(position) {
         Some(instr) => span_of(instr),
@@ -40,7 +40,7 @@ fn span_at(instrs: &[Instr], position: usize) -> Option<Span>
 /// Returns the span of the instruction of a number, or of the nearest one before it that has a span; or else the
 /// source's end.
 pub(crate) fn place(source: &str, instrs: &[Instr], position: usize) -> Span
-    ensures { result ≡ place source.now (program_view instrs.now) position }
+    ensures { result ≡ nearest_span source.now (program_view instrs.now) position }
 {
     let mut at = position;
     loop {

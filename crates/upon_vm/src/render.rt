@@ -7,7 +7,7 @@ ghost use Rattle.upon_render.specs.Stack.{frames_of, root_of};
 ghost use Rattle.upon_meaning_spec.specs.Alone.{alone_within};
 ghost use Rattle.upon_meaning_spec.specs.Engine.{Template};
 ghost use Rattle.upon_meaning_spec.specs.Outcome.{states};
-ghost use Rattle.upon_vm.specs.Acts.{calls_of};
+ghost use Rattle.upon_vm.specs.Acts.{calls_on};
 ghost use Rattle.upon_vm.specs.Keeps.{HasState, SourceHas};
 ghost use Rattle.upon_vm.specs.Machine.{source_state};
 ghost use Rattle.upon_vm.specs.Program.{IsProgramOf};
@@ -48,7 +48,7 @@ pub fn render<'r, V: ValueSource, T: ProgramSource<'r>, C: Callables, W: Output>
         result.0
         (W.given out.old)
         (W.given out.new)
-        (alone_within (calls_of (C.callables callables.now) (C.default_formatter callables.now) ask)
+        (alone_within (calls_on (C.callables callables.now) (C.default_formatter callables.now) ask)
         (T.resolve templates) running.entry.left t (option_map (λ name. name.now) running.entry.name)
         (pure_root (root_of stack.entry)) (states (source_state V.value_state q (root_of stack.entry))
         (T.template_state templates)))

@@ -2,7 +2,7 @@
 ghost use Rattle.std.specs.Prelude.{◌≡◌};
 ghost use Rattle.upon_vm.specs.Keeps.{Kept};
 ghost use Rattle.upon_vm.specs.Machine.{state_of};
-ghost use Rattle.upon_vm.specs.Runs.{Known, Ran, RunMarks, Starts, ending_of};
+ghost use Rattle.upon_vm.specs.Runs.{KnownRun, Ran, RunMarks, Starts, ending_of};
 
 use crate::failure::{Failure, stopped};
 use crate::machine::{Flow, Machine};
@@ -44,13 +44,13 @@ pub(crate) fn run<'r, V: ValueSource, T: ProgramSource<'r>, C: Callables, W: Out
     machine: &mut Machine<'r, V, T>,
     out: &mut W,
 ) -> Result<Ending, Failure>
-    requires starts { (known : Known V.State T.State)
+    requires starts { (known : KnownRun V.State T.State)
         × Starts V.ask V.value_state T.template_state (T.resolve machine.old.templates) (C.callables callables.now)
         (C.default_formatter callables.now) known machine.old }
     ensures same { W.holds out.new ≡ W.holds out.old }
     ensures mark { RunMarks result (W.mark out.old) (W.mark out.new) }
     ensures kept { Kept V.ask V.holds T.resolve T.holds machine.old machine.new }
-    ensures ran { (known : Known V.State T.State)
+    ensures ran { (known : KnownRun V.State T.State)
         → Starts V.ask V.value_state T.template_state (T.resolve machine.old.templates) (C.callables callables.now)
         (C.default_formatter callables.now) known machine.old → Ran
         result

@@ -16,12 +16,12 @@ ghost use Rattle.upon_machine_spec.specs.Spans.{CodeSpans};
 ghost use Rattle.upon_machine_spec.specs.State.{at_start};
 ghost use Rattle.upon_instructions.specs.Program.{program_view};
 ghost use Rattle.upon_fmt.specs.declared.output.Mark.{Mark};
-ghost use Rattle.upon_vm.specs.Acts.{calls_of};
+ghost use Rattle.upon_vm.specs.Acts.{calls_on};
 ghost use Rattle.upon_vm.specs.Keeps.{HasState, Kept, SourceHas};
 ghost use Rattle.upon_vm.specs.Limits.{GrowsWithin};
 ghost use Rattle.upon_vm.specs.Machine.{active_of, source_state, state_of};
 ghost use Rattle.upon_vm.specs.Program.{IsProgramOf};
-ghost use Rattle.upon_vm.specs.Runs.{Known, Starts};
+ghost use Rattle.upon_vm.specs.Runs.{KnownRun, Starts};
 ghost use Rattle.upon_vm.specs.Within.{IsAtLimit, IsReportWithin, MarksWithin, RanWithin, ReportMarksWithin, limit_reached};
 
 use crate::failure::{Failure, in_template, stopped};
@@ -102,7 +102,7 @@ pub(crate) fn run_within<'r, V: ValueSource, T: ProgramSource<'r>, C: Callables,
     limits: Limits,
     out: &mut W,
 ) -> Within
-    requires starts { (known : Known V.State T.State)
+    requires starts { (known : KnownRun V.State T.State)
         × Starts V.ask V.value_state T.template_state (T.resolve machine.old.templates) (C.callables callables.now)
         (C.default_formatter callables.now) known machine.old }
     ensures same { W.holds out.new ≡ W.holds out.old }
@@ -110,11 +110,11 @@ pub(crate) fn run_within<'r, V: ValueSource, T: ProgramSource<'r>, C: Callables,
     ensures kept { Kept V.ask V.holds T.resolve T.holds machine.old machine.new }
     // No more bytes are written than the limit is.
     ensures bounded { GrowsWithin limits.output (W.given out.old) (W.given out.new) }
-    ensures ran { (known : Known V.State T.State)
+    ensures ran { (known : KnownRun V.State T.State)
         → Starts V.ask V.value_state T.template_state (T.resolve machine.old.templates) (C.callables callables.now)
         (C.default_formatter callables.now) known machine.old → RanWithin
         limits
-        (λ n. run (calls_of (C.callables callables.now) (C.default_formatter callables.now) known.ask)
+        (λ n. run (calls_on (C.callables callables.now) (C.default_formatter callables.now) known.ask)
         (T.resolve machine.old.templates) (pure_root (root_of machine.old.stack)) n
         (state_of V.value_state T.template_state known.values machine.old))
         result
@@ -180,14 +180,14 @@ pub fn render_within<'r, V: ValueSource, T: ProgramSource<'r>, C: Callables, W: 
     ensures ran { (t : Template) (ask : Source V.State) (q : V.State) → IsProgramOf running.entry.program t
         → SourceHas V.ask (root_of stack.entry) ask → RanWithin
         limits
-        (λ n. run (calls_of (C.callables callables.now) (C.default_formatter callables.now) ask)
+        (λ n. run (calls_on (C.callables callables.now) (C.default_formatter callables.now) ask)
         (T.resolve templates) (pure_root (root_of stack.entry)) n
         (at_start t (option_map (λ name. name.now) running.entry.name) running.entry.left
         (states (source_state V.value_state q (root_of stack.entry)) (T.template_state templates))))
         result.0
         (W.given out.old)
         (W.given out.new)
-        (alone_within (calls_of (C.callables callables.now) (C.default_formatter callables.now) ask)
+        (alone_within (calls_on (C.callables callables.now) (C.default_formatter callables.now) ask)
         (T.resolve templates) running.entry.left t (option_map (λ name. name.now) running.entry.name)
         (pure_root (root_of stack.entry)) (states (source_state V.value_state q (root_of stack.entry))
         (T.template_state templates)))

@@ -7,7 +7,7 @@ ghost use Rattle.upon_types.specs.Val.{int_val};
 ghost use Rattle.upon_types.specs.View.{view};
 ghost use Rattle.upon_meaning_spec.specs.CallFaults.{argument_misfits, number_text};
 ghost use Rattle.upon_meaning_spec.specs.Evaluation.{answer_value, call_value, misfit_at, operand};
-ghost use Rattle.upon_vm_calls.specs.Halt.{IsHalt, Finds};
+ghost use Rattle.upon_vm_calls.specs.Halt.{IsHalt, GivesFinding};
 ghost use Rattle.upon_vm_calls.specs.Operands.{row};
 
 use crate::callables::{Callables, Called};
@@ -32,7 +32,7 @@ pub fn call<C: Callables>(
     whole: Span,
 ) -> Result<Value, Halt>
     requires { length values.now ≡ length spans.now }
-    ensures { Finds
+    ensures { GivesFinding
         result
         (call_value (ident_of name.now) whole (row values.now spans.now)
         (C.callables callables.now name.now.name)) }
@@ -58,7 +58,7 @@ pub fn call_on<C: Callables>(
     span: Span,
     whole: Span,
 ) -> Result<Value, Halt>
-    ensures { Finds
+    ensures { GivesFinding
         result
         (call_value (ident_of name.now) whole (operand (view value.now) span ∷ [])
         (C.callables callables.now name.now.name)) }
@@ -80,7 +80,7 @@ pub(crate) fn report(
     whole: Span,
 ) -> Result<Value, Halt>
     requires { length values.now ≡ length spans.now }
-    ensures { (a : Answer) → Says answer a → Finds result
+    ensures { (a : Answer) → Says answer a → GivesFinding result
         (answer_value (ident_of name.now) whole (row values.now spans.now) a) }
 {
     match answer {
@@ -102,7 +102,7 @@ fn refused(
     whole: Span,
 ) -> Halt
     requires { length values.now ≡ length spans.now }
-    ensures { (a : Answer) → Says (Err error) a → Finds (Err result)
+    ensures { (a : Answer) → Says (Err error) a → GivesFinding (Err result)
         (answer_value (ident_of name.now) whole (row values.now spans.now) a) }
 {
     match error {

@@ -2,7 +2,7 @@
 ghost use Rattle.std.specs.Prelude.{◌≡◌, string_bytes};
 ghost use Rattle.upon_render.specs.LookupFaults.{wrong};
 ghost use Rattle.upon_meaning_spec.specs.CallFaults.{formatter_expects, function_declined, function_expects};
-ghost use Rattle.upon_vm_calls.specs.Halt.{IsHalt, IsWrong};
+ghost use Rattle.upon_vm_calls.specs.Halt.{IsHalt, IsWrongHalt};
 
 use std::alloc::{AllocError, Global};
 use upon_types::types::Span;
@@ -48,7 +48,7 @@ pub fn wrong(alloc: Global, reason: &str, span: Span) -> Halt
 
 /// Does the same with a reason that was made for it, if it could be.
 pub fn wrong_owned(reason: Result<String, AllocError>, span: Span) -> Halt
-    ensures { IsWrong reason span result }
+    ensures { IsWrongHalt reason span result }
 {
     match reason {
         Ok(reason) => Halt::Fault(Fault {

@@ -4,7 +4,7 @@ ghost use Rattle.upon_types.specs.AstPath.{string_of};
 ghost use Rattle.upon_types.specs.Cow.{cow_view};
 ghost use Rattle.upon_types.specs.View.{view};
 ghost use Rattle.upon_meaning_spec.specs.Evaluation.{operand};
-ghost use Rattle.upon_vm_calls.specs.Items.{with_item, with_pair};
+ghost use Rattle.upon_vm_calls.specs.Items.{with_item, with_operand_pair};
 ghost use Rattle.upon_vm_calls.specs.Operands.{operands_of};
 
 use crate::depth::{DEPTH_LIMIT, fits};
@@ -49,8 +49,8 @@ pub fn push_copy(operands: &mut Operands, item: &Value) -> Result<Option<()>, Al
 pub fn insert_entry(operands: &mut Operands, key: &Quoted) -> Result<Option<()>, AllocError>
     ensures { IfOk result (λ inserted. MatchOption
         inserted
-        (with_pair (string_of key.now) (operands_of operands.old) ≡ None)
-        (λ _. with_pair (string_of key.now) (operands_of operands.old) ≡ Some (operands_of operands.new))) }
+        (with_operand_pair (string_of key.now) (operands_of operands.old) ≡ None)
+        (λ _. with_operand_pair (string_of key.now) (operands_of operands.old) ≡ Some (operands_of operands.new))) }
 {
     let Some((value, _)) = operands.pop() else {
         return Ok(None);
@@ -69,8 +69,8 @@ pub fn insert_copy(
 ) -> Result<Option<()>, AllocError>
     ensures { (at : Span) → IfOk result (λ inserted. MatchOption
         inserted
-        (with_pair (string_of key.now) (operand (view value.now) at ∷ operands_of operands.old) ≡ None)
-        (λ _. with_pair (string_of key.now) (operand (view value.now) at ∷ operands_of operands.old)
+        (with_operand_pair (string_of key.now) (operand (view value.now) at ∷ operands_of operands.old) ≡ None)
+        (λ _. with_operand_pair (string_of key.now) (operand (view value.now) at ∷ operands_of operands.old)
         ≡ Some (operands_of operands.new))) }
 {
     if !fits(value, DEPTH_LIMIT - 1) {

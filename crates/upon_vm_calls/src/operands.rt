@@ -5,7 +5,7 @@ ghost use Rattle.upon_types.specs.Cow.{cow_view};
 ghost use Rattle.upon_types.specs.Val.{map_val, no_entries};
 ghost use Rattle.upon_types.specs.View.{view};
 ghost use Rattle.upon_meaning_spec.specs.Evaluation.{Operand, operand};
-ghost use Rattle.upon_vm_calls.specs.Items.{list_with, map_with};
+ghost use Rattle.upon_vm_calls.specs.Items.{list_with, map_with_operand};
 
 use std::alloc::{AllocError, Global};
 use std::mem;
@@ -29,7 +29,7 @@ impl<'a> Operands<'a> {
     ghost use Rattle.upon_meaning_spec.specs.Evaluation.{Operand, operand};
     ghost use Rattle.upon_machine_spec.specs.Operands.{taken};
     ghost use Rattle.upon_types.specs.View.{view};
-    ghost use Rattle.upon_vm_calls.specs.Items.{with_item, with_pair};
+    ghost use Rattle.upon_vm_calls.specs.Items.{with_item, with_operand_pair};
     ghost use Rattle.upon_vm_calls.specs.Operands.{IsOnlyEntry, row, operands_of};
 
     /// No operand.
@@ -142,8 +142,8 @@ impl<'a> Operands<'a> {
     ) -> Result<Option<()>, AllocError>
         ensures { (at : Span) → IfOk result (λ inserted. MatchOption
             inserted
-            (with_pair (string_of key.now) (operand (view value) at ∷ operands_of self.old) ≡ None)
-            (λ _. with_pair (string_of key.now) (operand (view value) at ∷ operands_of self.old)
+            (with_operand_pair (string_of key.now) (operand (view value) at ∷ operands_of self.old) ≡ None)
+            (λ _. with_operand_pair (string_of key.now) (operand (view value) at ∷ operands_of self.old)
             ≡ Some (operands_of self.new))) }
     {
         let len = self.values.len();
@@ -215,8 +215,8 @@ fn push_to_owned(list: &mut Value, item: Value) -> Result<Option<()>, AllocError
 fn insert_into(map: &mut ValueCow, key: &Quoted, value: Value) -> Result<Option<()>, AllocError>
     ensures { (at : Span) (ops : List Operand) → IfOk result (λ inserted. MatchOption
         inserted
-        (map_with (cow_view map.old) (string_of key.now) (view value) at ops ≡ None)
-        (λ _. map_with (cow_view map.old) (string_of key.now) (view value) at ops
+        (map_with_operand (cow_view map.old) (string_of key.now) (view value) at ops ≡ None)
+        (λ _. map_with_operand (cow_view map.old) (string_of key.now) (view value) at ops
         ≡ Some (operand (cow_view map.new) at ∷ ops))) }
 {
     match map {
@@ -235,8 +235,8 @@ fn insert_into(map: &mut ValueCow, key: &Quoted, value: Value) -> Result<Option<
 fn insert_into_owned(map: &mut Value, key: &Quoted, value: Value) -> Result<Option<()>, AllocError>
     ensures { (at : Span) (ops : List Operand) → IfOk result (λ inserted. MatchOption
         inserted
-        (map_with (view map.old) (string_of key.now) (view value) at ops ≡ None)
-        (λ _. map_with (view map.old) (string_of key.now) (view value) at ops
+        (map_with_operand (view map.old) (string_of key.now) (view value) at ops ≡ None)
+        (λ _. map_with_operand (view map.old) (string_of key.now) (view value) at ops
         ≡ Some (operand (view map.new) at ∷ ops))) }
 {
     match mem::replace(map, Value::None) {

@@ -17,13 +17,13 @@ use Rattle.upon_meaning_spec.specs.Engine.{Template, Calls, Resolver, Rendering}
 use Rattle.upon_meaning_spec.specs.Evaluation.{Operand, values_of, answer_value, append_operand, evaluate, evaluate_base, evaluate_arguments}
 use Rattle.upon_meaning_spec.specs.Meaning.{RunningTemplate, Inclusion, Body, choose, condition, each, each_or, on_value, statement_means, statements_mean, else_means}
 use Rattle.upon_meaning_spec.specs.Outcome.{End, good, fails, too_deep, Outcome, States, states, go_on, then_do}
-use Rattle.upon_woven_spec.specs.Pieces.{Piece, written, piece_text, joined, if_found, formatter_pieces, callable_pieces, call_pieces, value_pieces, emit_pieces, emit_base_pieces, pieces_on, then_pieces, BodyPieces, each_pieces, over_pieces, InclusionPieces, statement_pieces, statements_pieces, else_pieces, template_pieces, included_pieces, pieces_within, pieces_of}
+use Rattle.upon_woven_spec.specs.Pieces.{TextPiece, written, piece_text, joined, if_found, formatter_pieces, callable_pieces, call_pieces, value_pieces, emit_pieces, emit_base_pieces, pieces_on, then_pieces, BodyPieces, each_pieces, over_pieces, InclusionPieces, statement_pieces, statements_pieces, else_pieces, template_pieces, included_pieces, pieces_within, pieces_of}
 
-joined_append : (ps qs : List Piece) → joined (ps ++ qs) ≡ joined ps ++ joined qs
+joined_append : (ps qs : List TextPiece) → joined (ps ++ qs) ≡ joined ps ++ joined qs
 joined_append [] qs = refl
 joined_append (p ∷ ps) qs = ap (λ x. piece_text p ++ x) (joined_append ps qs) ∙ sym (append_assoc (piece_text p) (joined ps) (joined qs))
 
-found_joined : {A : Type 0} (x : Finding A) (go : A → Emission) (pieces : A → List Piece) → ((a : A) → (go a).text ≡ joined (pieces a)) → (or_fault x go).text ≡ joined (if_found x pieces)
+found_joined : {A : Type 0} (x : Finding A) (go : A → Emission) (pieces : A → List TextPiece) → ((a : A) → (go a).text ≡ joined (pieces a)) → (or_fault x go).text ≡ joined (if_found x pieces)
 found_joined (found a) go pieces h = h a
 found_joined (at_fault f) go pieces h = refl
 
@@ -33,12 +33,12 @@ formatted_joined f name (o ∷ []) = sym (append-nil (f o.value).text)
 formatted_joined f name (o ∷ p ∷ given) = refl
 
 -- one outcome after another
-on_joined : {Q : Type 0} (text : List ℕ) (ps : List Piece) (end : End) (q : Q) (go : Q → Outcome Q) (pieces : Q → List Piece) → text ≡ joined ps → ((q : Q) → (go q).text ≡ joined (pieces q)) → (go_on text end q go).text ≡ joined (pieces_on ps end q pieces)
+on_joined : {Q : Type 0} (text : List ℕ) (ps : List TextPiece) (end : End) (q : Q) (go : Q → Outcome Q) (pieces : Q → List TextPiece) → text ≡ joined ps → ((q : Q) → (go q).text ≡ joined (pieces q)) → (go_on text end q go).text ≡ joined (pieces_on ps end q pieces)
 on_joined text ps good q go pieces h k = (λ i. h i ++ k q i) ∙ sym (joined_append ps (pieces q))
 on_joined text ps (fails f) q go pieces h k = h
 on_joined text ps too_deep q go pieces h k = h
 
-then_joined : {Q : Type 0} (o : Outcome Q) (ps : List Piece) (go : Q → Outcome Q) (pieces : Q → List Piece) → o.text ≡ joined ps → ((q : Q) → (go q).text ≡ joined (pieces q)) → (then_do o go).text ≡ joined (then_pieces ps o pieces)
+then_joined : {Q : Type 0} (o : Outcome Q) (ps : List TextPiece) (go : Q → Outcome Q) (pieces : Q → List TextPiece) → o.text ≡ joined ps → ((q : Q) → (go q).text ≡ joined (pieces q)) → (then_do o go).text ≡ joined (then_pieces ps o pieces)
 then_joined o ps go pieces h k = on_joined o.text ps o.end o.next go pieces h k
 
 abbrev BodyJoined : {Q : Type 0} → Body Q → BodyPieces Q → Type 0
@@ -50,7 +50,7 @@ each_joined body pieces h count index (bs ∷ items) env q =
     then_joined (body (iteration index count bs env) q) (pieces (iteration index count bs env) q) _ (λ q'. each_pieces body pieces count (index + 1) items env q')
     (h (iteration index count bs env) q) (each_joined body pieces h count (index + 1) items env)
 
-choose_joined : {Q : Type 0} (test : Bool) (f g : Q → Outcome Q) (ps qs : Q → List Piece) → ((q : Q) → (f q).text ≡ joined (ps q)) → ((q : Q) → (g q).text ≡ joined (qs q)) → (q : Q) → (choose test f g q).text ≡ joined (choose test ps qs q)
+choose_joined : {Q : Type 0} (test : Bool) (f g : Q → Outcome Q) (ps qs : Q → List TextPiece) → ((q : Q) → (f q).text ≡ joined (ps q)) → ((q : Q) → (g q).text ≡ joined (qs q)) → (q : Q) → (choose test f g q).text ≡ joined (choose test ps qs q)
 choose_joined true f g ps qs h k q = h q
 choose_joined false f g ps qs h k q = k q
 
@@ -80,7 +80,7 @@ module _ {V : Type 0} (calls : Calls V) where
     base_joined (mapping items span) env q = value_joined (evaluate_base calls (mapping items span) env q)
 
   module _ {T : Type 0} (i : Inclusion V T) (j : InclusionPieces V T) (from : RunningTemplate) where
-    then_value : (x : Finding Operand) (s : States V T) (go : Val → States V T → Outcome (States V T)) (pieces : Val → States V T → List Piece) → ((v : Val) (s : States V T) → (go v s).text ≡ joined (pieces v s)) → (on_value from x s go).text ≡ joined (if_found x (λ o. pieces o.value s))
+    then_value : (x : Finding Operand) (s : States V T) (go : Val → States V T → Outcome (States V T)) (pieces : Val → States V T → List TextPiece) → ((v : Val) (s : States V T) → (go v s).text ≡ joined (pieces v s)) → (on_value from x s go).text ≡ joined (if_found x (λ o. pieces o.value s))
     then_value (found o) s go pieces k = k o.value s
     then_value (at_fault f) s go pieces k = refl
 
@@ -89,7 +89,7 @@ module _ {V : Type 0} (calls : Calls V) where
     items_joined body other ps qs h k (found (bs ∷ items)) env s = each_joined body ps h (length (bs ∷ items)) 0 (bs ∷ items) env s
     items_joined body other ps qs h k (at_fault f) env s = refl
 
-    in_expression : (e : Expression) (env : Environment) (s : States V T) (go : Val → States V T → Outcome (States V T)) (pieces : Val → States V T → List Piece) → ((v : Val) (s : States V T) → (go v s).text ≡ joined (pieces v s)) → (on_value from (evaluate calls e env s.values).answer (states (evaluate calls e env s.values).next s.templates) go).text ≡ joined (if_found (evaluate calls e env s.values).answer (λ o. pieces o.value (states (evaluate calls e env s.values).next s.templates)))
+    in_expression : (e : Expression) (env : Environment) (s : States V T) (go : Val → States V T → Outcome (States V T)) (pieces : Val → States V T → List TextPiece) → ((v : Val) (s : States V T) → (go v s).text ≡ joined (pieces v s)) → (on_value from (evaluate calls e env s.values).answer (states (evaluate calls e env s.values).next s.templates) go).text ≡ joined (if_found (evaluate calls e env s.values).answer (λ o. pieces o.value (states (evaluate calls e env s.values).next s.templates)))
     in_expression e env s go pieces k = then_value (evaluate calls e env s.values).answer _ go pieces k
 
     -- where it is so of includes
@@ -120,7 +120,7 @@ module _ {V : Type 0} (calls : Calls V) where
         else_joined (otherwise body) env s = statements_joined body env s
 
 module _ {V T : Type 0} (calls : Calls V) (resolve : Resolver T) where
-  template_joined : {Q : Type 0} (from : RunningTemplate) (word : Ident) (x : SourceAnswer Template) (q : Q) (go : Template → Q → Outcome Q) (pieces : Template → Q → List Piece) → ((w : Template) → (go w q).text ≡ joined (pieces w q)) → (on_template from word x q go).text ≡ joined (template_pieces x q pieces)
+  template_joined : {Q : Type 0} (from : RunningTemplate) (word : Ident) (x : SourceAnswer Template) (q : Q) (go : Template → Q → Outcome Q) (pieces : Template → Q → List TextPiece) → ((w : Template) → (go w q).text ≡ joined (pieces w q)) → (on_template from word x q go).text ≡ joined (template_pieces x q pieces)
   template_joined from word (says w) q go pieces k = k w
   template_joined from word (refuses text) q go pieces k = refl
 

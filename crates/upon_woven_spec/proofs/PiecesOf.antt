@@ -16,12 +16,12 @@ use Rattle.upon_meaning_spec.specs.Evaluation.{Operand, values_of, answer_value,
 use Rattle.upon_meaning_spec.specs.Includes.{StatementIncludes, Includes, ElseIncludes}
 use Rattle.upon_meaning_spec.specs.Meaning.{RunningTemplate, Inclusion, Body, choose, condition, statement_means, statements_mean}
 use Rattle.upon_meaning_spec.specs.Outcome.{End, good, fails, too_deep, Outcome, States, states}
-use Rattle.upon_woven_spec.specs.Parts.{StatementHasRaw, HasRaw, ElseHasRaw, WritesBy, BaseWritesBy, StatementNames, NamesFormatter, ElseNames, Reached, itself, included_by, by_default, by_name, IsPieceOf, Each, Writes, WritesOnly, WovenOf}
-use Rattle.upon_woven_spec.specs.Pieces.{Piece, raw_part, written, if_found, formatter_pieces, callable_pieces, call_pieces, value_pieces, emit_pieces, emit_base_pieces, pieces_on, then_pieces, BodyPieces, each_pieces, over_pieces, InclusionPieces, statement_pieces, statements_pieces, else_pieces, template_pieces, included_pieces, pieces_within, pieces_of}
+use Rattle.upon_woven_spec.specs.Parts.{StatementHasRaw, HasRaw, ElseHasRaw, WritesBy, BaseWritesBy, StatementNames, NamesFormatter, ElseNames, Reached, itself, included_by, by_default, by_name, IsPieceOf, Each, WroteSuch, WritesOnly, WovenOf}
+use Rattle.upon_woven_spec.specs.Pieces.{TextPiece, raw_part, written, if_found, formatter_pieces, callable_pieces, call_pieces, value_pieces, emit_pieces, emit_base_pieces, pieces_on, then_pieces, BodyPieces, each_pieces, over_pieces, InclusionPieces, statement_pieces, statements_pieces, else_pieces, template_pieces, included_pieces, pieces_within, pieces_of}
 use Rattle.upon_woven_spec.proofs.PiecesJoined.{within_joined}
 
-module _ (P : Piece → Type 0) where
-  each_append : (ps qs : List Piece) → Each P ps → Each P qs → Each P (ps ++ qs)
+module _ (P : TextPiece → Type 0) where
+  each_append : (ps qs : List TextPiece) → Each P ps → Each P qs → Each P (ps ++ qs)
   each_append [] qs h k = k
   each_append (p ∷ ps) qs h k = (h.0, each_append ps qs h.1 k)
 
@@ -30,7 +30,7 @@ module _ (P : Piece → Type 0) where
     abbrev pub NamedWrites : List ℕ → Type 0
     NamedWrites name = (f : Formatter) → calls.callables name ≡ Some (formatter f) → (v : Val) → P (written f v)
 
-    found_each : {A : Type 0} (x : Finding A) (go : A → List Piece) → ((a : A) → Each P (go a)) → Each P (if_found x go)
+    found_each : {A : Type 0} (x : Finding A) (go : A → List TextPiece) → ((a : A) → Each P (go a)) → Each P (if_found x go)
     found_each (found a) go h = h a
     found_each (at_fault f) go h = tt
 
@@ -64,12 +64,12 @@ module _ (P : Piece → Type 0) where
       base_each (mapping items span) env q h = value_each (evaluate_base calls (mapping items span) env q).answer
 
     -- one outcome after another
-    on_each : {Q : Type 0} (ps : List Piece) (end : End) (q : Q) (go : Q → List Piece) → Each P ps → ((q : Q) → Each P (go q)) → Each P (pieces_on ps end q go)
+    on_each : {Q : Type 0} (ps : List TextPiece) (end : End) (q : Q) (go : Q → List TextPiece) → Each P ps → ((q : Q) → Each P (go q)) → Each P (pieces_on ps end q go)
     on_each ps good q go h k = each_append ps (go q) h (k q)
     on_each ps (fails f) q go h k = h
     on_each ps too_deep q go h k = h
 
-    then_each : {Q : Type 0} (ps : List Piece) (o : Outcome Q) (go : Q → List Piece) → Each P ps → ((q : Q) → Each P (go q)) → Each P (then_pieces ps o go)
+    then_each : {Q : Type 0} (ps : List TextPiece) (o : Outcome Q) (go : Q → List TextPiece) → Each P ps → ((q : Q) → Each P (go q)) → Each P (then_pieces ps o go)
     then_each ps o go h k = on_each ps o.end o.next go h k
 
     abbrev BodyEach : {Q : Type 0} → BodyPieces Q → Type 0
@@ -79,7 +79,7 @@ module _ (P : Piece → Type 0) where
     loop_each body pieces h count index [] env q = tt
     loop_each body pieces h count index (bs ∷ items) env q = then_each (pieces (iteration index count bs env) q) (body (iteration index count bs env) q) _ (h (iteration index count bs env) q) (loop_each body pieces h count (index + 1) items env)
 
-    choose_each : {Q : Type 0} (test : Bool) (f g : Q → List Piece) → ((q : Q) → Each P (f q)) → ((q : Q) → Each P (g q)) → (q : Q) → Each P (choose test f g q)
+    choose_each : {Q : Type 0} (test : Bool) (f g : Q → List TextPiece) → ((q : Q) → Each P (f q)) → ((q : Q) → Each P (g q)) → (q : Q) → Each P (choose test f g q)
     choose_each true f g h k q = h q
     choose_each false f g h k q = k q
 
@@ -90,7 +90,7 @@ module _ (P : Piece → Type 0) where
 
     -- where includes of these names give such pieces
     module _ {T : Type 0} (i : Inclusion V T) (j : InclusionPieces V T) (from : RunningTemplate) where
-      in_expression : (e : Expression) (env : Environment) (s : States V T) (go : Val → States V T → List Piece) → ((v : Val) (s : States V T) → Each P (go v s)) → Each P (if_found (evaluate calls e env s.values).answer (λ o. go o.value (states (evaluate calls e env s.values).next s.templates)))
+      in_expression : (e : Expression) (env : Environment) (s : States V T) (go : Val → States V T → List TextPiece) → ((v : Val) (s : States V T) → Each P (go v s)) → Each P (if_found (evaluate calls e env s.values).answer (λ o. go o.value (states (evaluate calls e env s.values).next s.templates)))
       in_expression e env s go k = found_each (evaluate calls e env s.values).answer _ (λ o. k o.value (states (evaluate calls e env s.values).next s.templates))
 
       abbrev IncludeEach : List ℕ → Type 0
@@ -127,7 +127,7 @@ module _ (P : Piece → Type 0) where
         else_each (otherwise body) r w c env s = statements_each body r w c env s
 
 module _ {V T : Type 0} (calls : Calls V) (resolve : Resolver T) (t : Template) where
-  abbrev Theirs : List Piece → Type 0
+  abbrev Theirs : List TextPiece → Type 0
   Theirs ps = Each (IsPieceOf calls resolve t) ps
 
   -- a template that is reached, where its includes give such pieces
@@ -138,7 +138,7 @@ module _ {V T : Type 0} (calls : Calls V) (resolve : Resolver T) (t : Template) 
       (λ n h f is v. by_name u n f reached h is)
       c env s
 
-  template_theirs : {Q : Type 0} (x : SourceAnswer Template) (q : Q) (go : Template → Q → List Piece) → ((w : Template) → x ≡ says w → Theirs (go w q)) → Theirs (template_pieces x q go)
+  template_theirs : {Q : Type 0} (x : SourceAnswer Template) (q : Q) (go : Template → Q → List TextPiece) → ((w : Template) → x ≡ says w → Theirs (go w q)) → Theirs (template_pieces x q go)
   template_theirs (says w) q go k = k w refl
   template_theirs (refuses text) q go k = tt
 
@@ -158,15 +158,15 @@ module _ {V T : Type 0} (calls : Calls V) (resolve : Resolver T) (t : Template) 
   within_woven left name root s = record { joins = within_joined calls resolve left t name root s; parts = within_theirs left name root s }
 
   -- where formatters write only such texts
-  writes_one : (P : List ℕ → Type 0) → WritesOnly calls resolve t P → (p : Piece) → IsPieceOf calls resolve t p → Writes P p
+  writes_one : (P : List ℕ → Type 0) → WritesOnly calls resolve t P → (p : TextPiece) → IsPieceOf calls resolve t p → WroteSuch P p
   writes_one P only (raw_part from span) h = tt
   writes_one P only (written f v) h = only f h v
 
-  pub writes_each : (P : List ℕ → Type 0) → WritesOnly calls resolve t P → (ps : List Piece) → Each (IsPieceOf calls resolve t) ps → Each (Writes P) ps
+  pub writes_each : (P : List ℕ → Type 0) → WritesOnly calls resolve t P → (ps : List TextPiece) → Each (IsPieceOf calls resolve t) ps → Each (WroteSuch P) ps
   writes_each P only [] h = tt
   writes_each P only (p ∷ ps) h = (writes_one P only p h.0, writes_each P only ps h.1)
 
-pub only_written : {V T : Type 0} (P : List ℕ → Type 0) (rendering : Rendering V T) (t : Template) (name : Option (List ℕ)) (root : Root) (s : States V T) → WritesOnly rendering.calls rendering.resolve t P → Each (Writes P) (pieces_of rendering t name root s)
+pub only_written : {V T : Type 0} (P : List ℕ → Type 0) (rendering : Rendering V T) (t : Template) (name : Option (List ℕ)) (root : Root) (s : States V T) → WritesOnly rendering.calls rendering.resolve t P → Each (WroteSuch P) (pieces_of rendering t name root s)
 only_written P rendering t name root s only =
     writes_each rendering.calls rendering.resolve t P only (pieces_of rendering t name root s)
     (within_woven rendering.calls rendering.resolve t (includes_left rendering.limit) name root s).parts

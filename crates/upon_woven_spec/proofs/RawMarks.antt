@@ -6,8 +6,8 @@ use Rattle.upon_meaning_spec.specs.Alone.{alone}
 use Rattle.upon_meaning_spec.specs.Engine.{Template, Rendering}
 use Rattle.upon_meaning_spec.specs.Outcome.{States}
 use Rattle.upon_woven_spec.specs.Marks.{has, only, raw_text, FromRawParts}
-use Rattle.upon_woven_spec.specs.Parts.{Each, Writes, WritesOnly}
-use Rattle.upon_woven_spec.specs.Pieces.{Piece, raw_part, written, joined, pieces_of}
+use Rattle.upon_woven_spec.specs.Parts.{Each, WritesOnly, WroteSuch}
+use Rattle.upon_woven_spec.specs.Pieces.{TextPiece, raw_part, written, joined, pieces_of}
 use Rattle.upon_woven_spec.proofs.PiecesJoined.{alone_joined}
 use Rattle.upon_woven_spec.proofs.PiecesOf.{only_written}
 
@@ -28,7 +28,7 @@ module _ (p : ℕ → Bool) where
   only_none [] h = refl
   only_none (x ∷ a) h = none_kept (p x) x a h (only_none a)
 
-  in_raw_parts : (ps : List Piece) → Each (Writes (λ w. has p w ≡ false)) ps → only p (joined ps) ≡ only p (raw_text ps)
+  in_raw_parts : (ps : List TextPiece) → Each (WroteSuch (λ w. has p w ≡ false)) ps → only p (joined ps) ≡ only p (raw_text ps)
   in_raw_parts [] h = refl
   in_raw_parts (raw_part from span ∷ ps) h =
       let text = slice from.source span in

@@ -10,7 +10,7 @@ use Rattle.upon_render.specs.Source.{says}
 use Rattle.upon_meaning_spec.specs.Engine.{Template, Calls, Resolver}
 use Rattle.upon_meaning_spec.specs.Includes.{Includes}
 use Rattle.upon_meaning_spec.specs.Meaning.{RunningTemplate}
-use Rattle.upon_woven_spec.specs.Pieces.{Piece, raw_part, written, joined}
+use Rattle.upon_woven_spec.specs.Pieces.{TextPiece, raw_part, written, joined}
 
 -- a raw part of the tree is at this span
 abbrev mutual
@@ -91,26 +91,26 @@ pub data CanFormat {V T : Type 0} (calls : Calls V) (resolve : Resolver T) (t : 
       → calls.callables name ≡ Some (formatter f) → CanFormat calls resolve t f
 
 -- a raw part of the template or of one that it reaches, or what the default formatter, or one that they name, wrote
-abbrev pub IsPieceOf : {V T : Type 0} → Calls V → Resolver T → Template → Piece → Type 0
+abbrev pub IsPieceOf : {V T : Type 0} → Calls V → Resolver T → Template → TextPiece → Type 0
 IsPieceOf calls resolve t (raw_part from span) = IsRawPart resolve t from span
 IsPieceOf calls resolve t (written format v) = CanFormat calls resolve t format
 
 -- each of the pieces
-abbrev pub Each : (Piece → Type 0) → List Piece → Type 0
+abbrev pub Each : (TextPiece → Type 0) → List TextPiece → Type 0
 Each P [] = Unit {0}
 Each P (p ∷ ps) = P p × Each P ps
 
 -- The text is these pieces joined, in their order. Each is a raw part of the template or of one that it reaches, or
 -- what the default formatter, or one that they name, wrote for a value.
-pub record WovenOf {V T : Type 0} (calls : Calls V) (resolve : Resolver T) (t : Template) (pieces : List Piece)
+pub record WovenOf {V T : Type 0} (calls : Calls V) (resolve : Resolver T) (t : Template) (pieces : List TextPiece)
     (text : List ℕ) : Type 0 where
   pub joins : text ≡ joined pieces
   pub parts : Each (IsPieceOf calls resolve t) pieces
 
 -- if the piece was written for a value, its text is such a text
-abbrev pub Writes : (List ℕ → Type 0) → Piece → Type 0
-Writes P (raw_part from span) = Unit {0}
-Writes P (written format v) = P (format v).text
+abbrev pub WroteSuch : (List ℕ → Type 0) → TextPiece → Type 0
+WroteSuch P (raw_part from span) = Unit {0}
+WroteSuch P (written format v) = P (format v).text
 
 -- each formatter that can be called writes only such texts
 abbrev pub WritesOnly : {V T : Type 0} → Calls V → Resolver T → Template → (List ℕ → Type 0) → Type 0

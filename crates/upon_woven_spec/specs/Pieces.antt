@@ -18,32 +18,32 @@ use Rattle.upon_meaning_spec.specs.Meaning.{RunningTemplate, Inclusion, Body, ch
 use Rattle.upon_meaning_spec.specs.Outcome.{End, good, fails, too_deep, Outcome, States, states}
 
 -- a piece of a text: what the template that runs has at the span of a raw part, or what a formatter wrote for a value
-pub data Piece : Type 0 where
-  raw_part : RunningTemplate → Span → Piece
-  written : Formatter → Val → Piece
+pub data TextPiece : Type 0 where
+  raw_part : RunningTemplate → Span → TextPiece
+  written : Formatter → Val → TextPiece
 
 -- its text, also if the formatter refused after it
-abbrev pub piece_text : Piece → List ℕ
+abbrev pub piece_text : TextPiece → List ℕ
 piece_text (raw_part from span) = slice from.source span
 piece_text (written format v) = (format v).text
 
 -- the texts of pieces, one after another
-abbrev pub joined : List Piece → List ℕ
+abbrev pub joined : List TextPiece → List ℕ
 joined [] = []
 joined (p ∷ ps) = piece_text p ++ joined ps
 
 -- the pieces for what was found, or none
-abbrev pub if_found : {A : Type 0} → Finding A → (A → List Piece) → List Piece
+abbrev pub if_found : {A : Type 0} → Finding A → (A → List TextPiece) → List TextPiece
 if_found (found a) go = go a
 if_found (at_fault f) go = []
 
 -- what a formatter writes, which takes one value
-abbrev pub formatter_pieces : Formatter → List Operand → List Piece
+abbrev pub formatter_pieces : Formatter → List Operand → List TextPiece
 formatter_pieces f (o ∷ []) = written f o.value ∷ []
 formatter_pieces f given = []
 
 -- what is written for values by what a name calls: a function's value goes through the default formatter
-abbrev pub callable_pieces : Formatter → Ident → List Operand → Option Callable → List Piece
+abbrev pub callable_pieces : Formatter → Ident → List Operand → Option Callable → List TextPiece
 callable_pieces default name given None = []
 callable_pieces default name given (Some (formatter f)) = formatter_pieces f given
 callable_pieces default name given (Some (function f)) =
@@ -51,24 +51,24 @@ callable_pieces default name given (Some (function f)) =
 
 module _ {V : Type 0} (calls : Calls V) where
   -- what a filter or call writes
-  abbrev pub call_pieces : Ident → Finding (List Operand) → List Piece
+  abbrev pub call_pieces : Ident → Finding (List Operand) → List TextPiece
   call_pieces name x =
       if_found x (λ given. callable_pieces calls.default_formatter name given (calls.callables name.text))
 
   -- what the default formatter writes for a value
-  abbrev pub value_pieces : Finding Operand → List Piece
+  abbrev pub value_pieces : Finding Operand → List TextPiece
   value_pieces x = if_found x (λ o. written calls.default_formatter o.value ∷ [])
 
   -- what an expression in a tag of its own writes
   abbrev mutual
     -- what an expression writes; parentheses around it make no difference
-    pub emit_pieces : Expression → Environment → V → List Piece
+    pub emit_pieces : Expression → Environment → V → List TextPiece
     emit_pieces (base b) env q = emit_base_pieces b env q
     emit_pieces (filtered receiver name args span) env q =
         call_pieces name (append_operand (evaluate calls receiver env q) (evaluate_arguments calls args env)).answer
 
     -- the same of an expression without a filter
-    pub emit_base_pieces : Base → Environment → V → List Piece
+    pub emit_base_pieces : Base → Environment → V → List TextPiece
     emit_base_pieces (paren e span) env q = emit_pieces e env q
     emit_base_pieces (call name args span) env q = call_pieces name (evaluate_arguments calls args env q).answer
     emit_base_pieces (var first rest) env q = value_pieces (evaluate_base calls (var first rest) env q).answer
@@ -77,18 +77,18 @@ module _ {V : Type 0} (calls : Calls V) where
     emit_base_pieces (mapping items span) env q = value_pieces (evaluate_base calls (mapping items span) env q).answer
 
 -- pieces whose text ends so, and then others if it ends well
-abbrev pub pieces_on : {Q : Type 0} → List Piece → End → Q → (Q → List Piece) → List Piece
+abbrev pub pieces_on : {Q : Type 0} → List TextPiece → End → Q → (Q → List TextPiece) → List TextPiece
 pieces_on ps good q go = ps ++ go q
 pieces_on ps (fails f) q go = ps
 pieces_on ps too_deep q go = ps
 
 -- the pieces of an outcome, and then others, up to the first fault
-abbrev pub then_pieces : {Q : Type 0} → List Piece → Outcome Q → (Q → List Piece) → List Piece
+abbrev pub then_pieces : {Q : Type 0} → List TextPiece → Outcome Q → (Q → List TextPiece) → List TextPiece
 then_pieces ps first go = pieces_on ps first.end first.next go
 
 -- the pieces of a body in an environment
 abbrev pub BodyPieces : Type 0 → Type 0
-BodyPieces Q = Environment → Q → List Piece
+BodyPieces Q = Environment → Q → List TextPiece
 
 -- the pieces of the body for each item from this index on, of so many in all, up to the first fault
 abbrev pub each_pieces : {Q : Type 0} → Body Q → BodyPieces Q → ℕ → ℕ → List (List Binding) → BodyPieces Q
@@ -106,13 +106,13 @@ over_pieces body pieces other (found (bs ∷ items)) env q =
 over_pieces body pieces other (at_fault f) env q = []
 
 -- the pieces for the value that an expression gives, with the next state of the value source
-abbrev pub value_then_pieces : {V T : Type 0} → T → Reply V (Finding Operand) → (Val → States V T → List Piece)
-    → List Piece
+abbrev pub value_then_pieces : {V T : Type 0} → T → Reply V (Finding Operand) → (Val → States V T → List TextPiece)
+    → List TextPiece
 value_then_pieces templates r go = if_found r.answer (λ o. go o.value (states r.next templates))
 
 -- the pieces of an include of a name in an environment, where this template runs
 abbrev pub InclusionPieces : Type 0 → Type 0 → Type 0
-InclusionPieces V T = RunningTemplate → Ident → Environment → States V T → List Piece
+InclusionPieces V T = RunningTemplate → Ident → Environment → States V T → List TextPiece
 
 module _ {V T : Type 0} (calls : Calls V) (include_means : Inclusion V T) (include_pieces : InclusionPieces V T)
     (running : RunningTemplate) where
@@ -150,7 +150,7 @@ module _ {V T : Type 0} (calls : Calls V) (include_means : Inclusion V T) (inclu
     else_pieces (otherwise body) env s = statements_pieces body env s
 
 -- the pieces of the template that a source answers, or none
-abbrev pub template_pieces : {Q : Type 0} → SourceAnswer Template → Q → (Template → Q → List Piece) → List Piece
+abbrev pub template_pieces : {Q : Type 0} → SourceAnswer Template → Q → (Template → Q → List TextPiece) → List TextPiece
 template_pieces (says t) q go = go t q
 template_pieces (refuses text) q go = []
 
@@ -165,11 +165,11 @@ module _ {V T : Type 0} (calls : Calls V) (resolve : Resolver T) where
       t.tree env s')
 
   -- the pieces of a template by itself over a root, where so many includes may be one inside another
-  abbrev pub pieces_within : ℕ → Template → Option (List ℕ) → Root → States V T → List Piece
+  abbrev pub pieces_within : ℕ → Template → Option (List ℕ) → Root → States V T → List TextPiece
   pieces_within left t name root s = statements_pieces calls (included calls resolve left) (included_pieces left)
       (running t name) t.tree (root_environment root) s
 
 -- the pieces of a rendering, in their order
-abbrev pub pieces_of : {V T : Type 0} → Rendering V T → Template → Option (List ℕ) → Root → States V T → List Piece
+abbrev pub pieces_of : {V T : Type 0} → Rendering V T → Template → Option (List ℕ) → Root → States V T → List TextPiece
 pieces_of rendering t name root s = pieces_within rendering.calls rendering.resolve
     (includes_left rendering.limit) t name root s

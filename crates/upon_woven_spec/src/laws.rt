@@ -5,7 +5,7 @@ ghost use Rattle.upon_meaning_spec.specs.Alone.{alone_within, alone};
 ghost use Rattle.upon_meaning_spec.specs.Engine.{Template, Calls, Resolver, Rendering};
 ghost use Rattle.upon_meaning_spec.specs.Outcome.{States};
 ghost use Rattle.upon_woven_spec.specs.Marks.{has, FromRawParts};
-ghost use Rattle.upon_woven_spec.specs.Parts.{Each, Writes, WovenOf, WritesOnly};
+ghost use Rattle.upon_woven_spec.specs.Parts.{Each, WroteSuch, WovenOf, WritesOnly};
 ghost use Rattle.upon_woven_spec.specs.Pieces.{pieces_within, pieces_of};
 
 /// States that the text of a rendering, up to its end, is its pieces joined, in their order: each is a raw part of the
@@ -26,7 +26,7 @@ pub fn woven<V, T>()
 pub fn written_only<V, T>()
     ensures { (P : List ℕ → Bool) (rendering : Rendering V T) (t : Template) (name : Option (List ℕ)) (root : Root)
         (s : States V T) → WritesOnly rendering.calls rendering.resolve t (λ text. IsTrue (P text))
-        → Each (Writes (λ text. IsTrue (P text))) (pieces_of rendering t name root s) }
+        → Each (WroteSuch (λ text. IsTrue (P text))) (pieces_of rendering t name root s) }
 {}
 
 /// Bytes that no formatter writes are in raw parts alone: those of the text are those of the raw parts that it is made

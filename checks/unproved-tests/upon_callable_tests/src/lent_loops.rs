@@ -3,7 +3,7 @@ ghost use Rattle.std.specs.Prelude.{◌≡◌, map, IsTrue};
 ghost use Rattle.upon_types.specs.AstPath.{loop_vars_of, member_of, rest_members};
 ghost use Rattle.upon_types.specs.Span.{LiesIn};
 ghost use Rattle.upon_render.specs.Loop.{names_span};
-ghost use Rattle.upon_render.specs.PathSpans.{StepsLieIn};
+ghost use Rattle.upon_render.specs.PathSpans.{MembersLieIn};
 
 use crate::starved::{Hoard, is_starved};
 use std::alloc::{AllocError, Global};
@@ -55,7 +55,7 @@ fn lies_in(source: &str, span: Span) -> bool
 }
 
 fn all_lie_in(source: &str, path: &[Member]) -> bool
-    ensures { IsTrue result → StepsLieIn source.now (map member_of path.now) }
+    ensures { IsTrue result → MembersLieIn source.now (map member_of path.now) }
 {
     match path {
         [] => true,
@@ -87,7 +87,7 @@ fn over<'a>(
 
 // Whether the path finds the text, and finds it lent.
 fn finds_lent(alloc: Global, state: &LoopState<'_>, var: &Var) -> bool
-    requires { StepsLieIn SOURCE.now (rest_members var.now) }
+    requires { MembersLieIn SOURCE.now (rest_members var.now) }
 {
     match state.lookup_var(alloc, SOURCE, var) {
         Ok(Some(ValueCow::Borrowed(value))) => match value {
@@ -100,7 +100,7 @@ fn finds_lent(alloc: Global, state: &LoopState<'_>, var: &Var) -> bool
 
 // How many items the loop has, each found lent.
 fn count_lent(alloc: Global, state: &mut LoopState<'_>, var: &Var) -> u32
-    requires { StepsLieIn SOURCE.now (rest_members var.now) }
+    requires { MembersLieIn SOURCE.now (rest_members var.now) }
 {
     let mut count = 0u32;
     for _ in 0..2000u32 {

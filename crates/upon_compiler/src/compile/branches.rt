@@ -3,7 +3,7 @@ ghost use Rattle.std.specs.Prelude.{◌≡◌, [], OnOk, IfOk, length};
 ghost use Rattle.upon_types.specs.AstPath.{loop_vars_of};
 ghost use Rattle.upon_machine_spec.specs.Code.{jump_unless};
 ghost use Rattle.upon_instructions.specs.Program.{instr_of, program_view};
-ghost use Rattle.upon_compiler.specs.After.{after, between, branch_ended, else_if_begun, else_ifs_ended};
+ghost use Rattle.upon_compiler.specs.After.{after_event, between_branches, branch_ended, else_if_begun, else_ifs_ended};
 ghost use Rattle.upon_compiler.specs.Events.{if_event, else_if_event, else_event, endif_event, for_event, endfor_event};
 
 use super::{Compiler, OpenBlock};
@@ -36,13 +36,13 @@ impl OpenBlock {
 
 impl Compiler {
     ghost use Rattle.upon_compiler.specs.After.{LeavesElseIf};
-    ghost use Rattle.upon_compiler.specs.Compiler.{code_of, blocks_of, state_of};
+    ghost use Rattle.upon_compiler.specs.Compiler.{code_of, blocks_of, compiler_state};
 
     /// Begins an `if`, whose condition has these instructions and may be negated, and leaves none of them behind. It
     /// fails if memory is out.
     pub fn begin_if(&mut self, code: &mut Vec<Instr>, not: bool) -> Result<(), AllocError>
-        ensures state { OnOk result (state_of self.new
-            ≡ after (if_event not (program_view code.old.items)) (state_of self.old)) }
+        ensures state { OnOk result (compiler_state self.new
+            ≡ after_event (if_event not (program_view code.old.items)) (compiler_state self.old)) }
         ensures moved { OnOk result (code.new.items ≡ []) }
     {
         self.append(code)?;
@@ -55,8 +55,8 @@ impl Compiler {
     /// Goes on with an `else if` after the first branch of the innermost block, which is an `if`. The condition has
     /// these instructions and may be negated; none of them is left behind. It fails if memory is out.
     pub fn else_if(&mut self, code: &mut Vec<Instr>, not: bool) -> Result<(), AllocError>
-        ensures state { OnOk result (state_of self.new
-            ≡ after (else_if_event not (program_view code.old.items)) (state_of self.old)) }
+        ensures state { OnOk result (compiler_state self.new
+            ≡ after_event (else_if_event not (program_view code.old.items)) (compiler_state self.old)) }
         ensures moved { OnOk result (code.new.items ≡ []) }
     {
         self.end_first_branch()?;
@@ -66,7 +66,7 @@ impl Compiler {
 
     /// Goes on with the other branch of the innermost block, which is an `if` or a `for`. It fails if memory is out.
     pub fn begin_else(&mut self) -> Result<(), AllocError>
-        ensures { OnOk result (state_of self.new ≡ after else_event (state_of self.old)) }
+        ensures { OnOk result (compiler_state self.new ≡ after_event else_event (compiler_state self.old)) }
     {
         let Some(block) = self.leave() else {
             return Ok(());
@@ -89,7 +89,7 @@ impl Compiler {
 
     /// Ends the innermost block, which is an `if`, and each `if` that went on with an `else if` that ends so.
     pub fn end_if(&mut self)
-        ensures { state_of self.new ≡ after endif_event (state_of self.old) }
+        ensures { compiler_state self.new ≡ after_event endif_event (compiler_state self.old) }
     {
         let Some(block) = self.leave() else {
             return;
@@ -106,8 +106,9 @@ impl Compiler {
         vars: Box<LoopVars>,
         span: Span,
     ) -> Result<(), AllocError>
-        ensures state { OnOk result (state_of self.new
-            ≡ after (for_event (loop_vars_of vars.value) span (program_view code.old.items)) (state_of self.old)) }
+        ensures state { OnOk result (compiler_state self.new
+            ≡ after_event (for_event (loop_vars_of vars.value) span (program_view code.old.items))
+            (compiler_state self.old)) }
         ensures moved { OnOk result (code.new.items ≡ []) }
     {
         self.append(code)?;
@@ -120,7 +121,7 @@ impl Compiler {
 
     /// Ends the innermost block, which is a loop. It fails if memory is out.
     pub fn end_for(&mut self) -> Result<(), AllocError>
-        ensures { OnOk result (state_of self.new ≡ after endfor_event (state_of self.old)) }
+        ensures { OnOk result (compiler_state self.new ≡ after_event endfor_event (compiler_state self.old)) }
     {
         let Some(block) = self.leave() else {
             return Ok(());
@@ -143,7 +144,7 @@ impl Compiler {
 
     /// Ends the first branch of the innermost block, which is an `if`, where an `else if` comes next.
     fn end_first_branch(&mut self) -> Result<(), AllocError>
-        ensures { OnOk result (state_of self.new ≡ else_if_begun (code_of self.old) (blocks_of self.old)) }
+        ensures { OnOk result (compiler_state self.new ≡ else_if_begun (code_of self.old) (blocks_of self.old)) }
     {
         let Some(block) = self.leave() else {
             return Ok(());
@@ -160,7 +161,7 @@ impl Compiler {
     /// the first number goes to the other branch.
     fn go_past(&mut self, not: bool, start: usize) -> Result<usize, AllocError>
         ensures number { IfOk result (λ past. past ≡ length (code_of self.old)) }
-        ensures code { OnOk result (code_of self.new ≡ between not start (code_of self.old)) }
+        ensures code { OnOk result (code_of self.new ≡ between_branches not start (code_of self.old)) }
         ensures blocks { blocks_of self.new ≡ blocks_of self.old }
     {
         let past = self.len();
@@ -186,7 +187,7 @@ impl Compiler {
 
     /// Ends each `if` that went on with an `else if` that ends here.
     fn end_else_ifs(&mut self)
-        ensures { state_of self.new ≡ else_ifs_ended (code_of self.old) (blocks_of self.old) }
+        ensures { compiler_state self.new ≡ else_ifs_ended (code_of self.old) (blocks_of self.old) }
     {
         while let Some(block) = self.leave_else_if() {
             self.end_branch(block);

@@ -2,7 +2,7 @@
 ghost use Rattle.std.specs.Prelude.{◌≡◌, ◌∷◌, [], List};
 ghost use Rattle.upon_function_adapters.specs.Adapters.{adapter_answer};
 ghost use Rattle.upon_types.specs.Misfits.{str_misfit, list_misfit, any_misfit};
-ghost use Rattle.upon_functions.specs.Outcome.{Outcome, Gives};
+ghost use Rattle.upon_functions.specs.Outcome.{Returned, Gives};
 ghost use Rattle.upon_types.specs.Val.{Val, text_val, list_val};
 ghost use Rattle.upon_types.specs.View.{view, vals_view};
 
@@ -16,7 +16,7 @@ use upon_types::value::{Value, ValueCow};
 /// A callable of a lent list and an owned argument.
 pub trait Call2LO<A: OwnedArgument, R: FunctionReturn>: Drop {
     // Its outcome, by what its arguments denote.
-    ghost meaning: { Self → List Val → Outcome };
+    ghost meaning: { Self → List Val → Returned };
 
     /// Calls it.
     fn call(&self, alloc: Global, first: &[Value], second: A) -> R
@@ -61,7 +61,7 @@ impl<C: Call2LO<A, R>, A: OwnedArgument + Drop, R: FunctionReturn + Drop> Functi
 /// A callable of a lent list and a lent text.
 pub trait Call2LS<R: FunctionReturn>: Drop {
     // Its outcome, by what its arguments denote.
-    ghost meaning: { Self → List Val → Outcome };
+    ghost meaning: { Self → List Val → Returned };
 
     /// Calls it.
     fn call(&self, alloc: Global, first: &[Value], second: &str) -> R
@@ -105,7 +105,7 @@ impl<C: Call2LS<R>, R: FunctionReturn + Drop> Function for Fn2LS<C, R> {
 /// A callable of a lent list and a lent value.
 pub trait Call2LV<R: FunctionReturn>: Drop {
     // Its outcome, by what its arguments denote.
-    ghost meaning: { Self → List Val → Outcome };
+    ghost meaning: { Self → List Val → Returned };
 
     /// Calls it.
     fn call(&self, alloc: Global, first: &[Value], second: &Value) -> R

@@ -2,7 +2,7 @@
 ghost use Rattle.std.specs.Prelude.{◌≡◌, ◌∷◌, [], List};
 ghost use Rattle.upon_function_adapters.specs.Adapters.{adapter_answer};
 ghost use Rattle.upon_types.specs.Misfits.{str_misfit, map_misfit, any_misfit};
-ghost use Rattle.upon_functions.specs.Outcome.{Outcome, Gives};
+ghost use Rattle.upon_functions.specs.Outcome.{Returned, Gives};
 ghost use Rattle.upon_types.specs.Val.{Val, text_val, map_val};
 ghost use Rattle.upon_types.specs.View.{view, entries_view};
 
@@ -17,7 +17,7 @@ use upon_types::value::{Value, ValueCow};
 /// A callable of a lent map and an owned argument.
 pub trait Call2MO<A: OwnedArgument, R: FunctionReturn>: Drop {
     // Its outcome, by what its arguments denote.
-    ghost meaning: { Self → List Val → Outcome };
+    ghost meaning: { Self → List Val → Returned };
 
     /// Calls it.
     fn call(&self, alloc: Global, first: &BTreeMap<String, Value>, second: A) -> R
@@ -62,7 +62,7 @@ impl<C: Call2MO<A, R>, A: OwnedArgument + Drop, R: FunctionReturn + Drop> Functi
 /// A callable of a lent map and a lent text.
 pub trait Call2MS<R: FunctionReturn>: Drop {
     // Its outcome, by what its arguments denote.
-    ghost meaning: { Self → List Val → Outcome };
+    ghost meaning: { Self → List Val → Returned };
 
     /// Calls it.
     fn call(&self, alloc: Global, first: &BTreeMap<String, Value>, second: &str) -> R
@@ -106,7 +106,7 @@ impl<C: Call2MS<R>, R: FunctionReturn + Drop> Function for Fn2MS<C, R> {
 /// A callable of a lent map and a lent value.
 pub trait Call2MV<R: FunctionReturn>: Drop {
     // Its outcome, by what its arguments denote.
-    ghost meaning: { Self → List Val → Outcome };
+    ghost meaning: { Self → List Val → Returned };
 
     /// Calls it.
     fn call(&self, alloc: Global, first: &BTreeMap<String, Value>, second: &Value) -> R

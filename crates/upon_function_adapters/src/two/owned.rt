@@ -2,7 +2,7 @@
 ghost use Rattle.std.specs.Prelude.{◌≡◌, ◌∷◌, [], List};
 ghost use Rattle.upon_function_adapters.specs.Adapters.{adapter_answer};
 ghost use Rattle.upon_types.specs.Misfits.{str_misfit, any_misfit};
-ghost use Rattle.upon_functions.specs.Outcome.{Outcome, Gives};
+ghost use Rattle.upon_functions.specs.Outcome.{Returned, Gives};
 ghost use Rattle.upon_types.specs.Val.{Val, text_val};
 ghost use Rattle.upon_types.specs.View.{view};
 
@@ -16,7 +16,7 @@ use upon_types::value::{Value, ValueCow};
 /// A callable of an owned argument and a lent text.
 pub trait Call2OS<A: OwnedArgument, R: FunctionReturn>: Drop {
     // Its outcome, by what its arguments denote.
-    ghost meaning: { Self → List Val → Outcome };
+    ghost meaning: { Self → List Val → Returned };
 
     /// Calls it.
     fn call(&self, alloc: Global, first: A, second: &str) -> R
@@ -60,7 +60,7 @@ impl<C: Call2OS<A, R>, A: OwnedArgument + Drop, R: FunctionReturn + Drop> Functi
 /// A callable of an owned argument and a lent value.
 pub trait Call2OV<A: OwnedArgument, R: FunctionReturn>: Drop {
     // Its outcome, by what its arguments denote.
-    ghost meaning: { Self → List Val → Outcome };
+    ghost meaning: { Self → List Val → Returned };
 
     /// Calls it.
     fn call(&self, alloc: Global, first: A, second: &Value) -> R

@@ -2,7 +2,7 @@
 ghost use Rattle.std.specs.Prelude.{◌≡◌, ◌∷◌, [], List};
 ghost use Rattle.upon_function_adapters.specs.Adapters.{adapter_answer};
 ghost use Rattle.upon_types.specs.Misfits.{str_misfit, any_misfit};
-ghost use Rattle.upon_functions.specs.Outcome.{Outcome, Gives};
+ghost use Rattle.upon_functions.specs.Outcome.{Returned, Gives};
 ghost use Rattle.upon_types.specs.Val.{Val, text_val};
 ghost use Rattle.upon_types.specs.View.{view};
 
@@ -16,7 +16,7 @@ use upon_types::value::{Value, ValueCow};
 /// A callable of a lent text and an owned argument.
 pub trait Call2SO<A: OwnedArgument, R: FunctionReturn>: Drop {
     // Its outcome, by what its arguments denote.
-    ghost meaning: { Self → List Val → Outcome };
+    ghost meaning: { Self → List Val → Returned };
 
     /// Calls it.
     fn call(&self, alloc: Global, first: &str, second: A) -> R
@@ -60,7 +60,7 @@ impl<C: Call2SO<A, R>, A: OwnedArgument + Drop, R: FunctionReturn + Drop> Functi
 /// A callable of two lent texts.
 pub trait Call2SS<R: FunctionReturn>: Drop {
     // Its outcome, by what its arguments denote.
-    ghost meaning: { Self → List Val → Outcome };
+    ghost meaning: { Self → List Val → Returned };
 
     /// Calls it.
     fn call(&self, alloc: Global, first: &str, second: &str) -> R
@@ -103,7 +103,7 @@ impl<C: Call2SS<R>, R: FunctionReturn + Drop> Function for Fn2SS<C, R> {
 /// A callable of a lent text and a lent value.
 pub trait Call2SV<R: FunctionReturn>: Drop {
     // Its outcome, by what its arguments denote.
-    ghost meaning: { Self → List Val → Outcome };
+    ghost meaning: { Self → List Val → Returned };
 
     /// Calls it.
     fn call(&self, alloc: Global, first: &str, second: &Value) -> R

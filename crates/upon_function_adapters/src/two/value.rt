@@ -2,7 +2,7 @@
 ghost use Rattle.std.specs.Prelude.{◌≡◌, ◌∷◌, [], List};
 ghost use Rattle.upon_function_adapters.specs.Adapters.{adapter_answer};
 ghost use Rattle.upon_types.specs.Misfits.{str_misfit, any_misfit};
-ghost use Rattle.upon_functions.specs.Outcome.{Outcome, Gives};
+ghost use Rattle.upon_functions.specs.Outcome.{Returned, Gives};
 ghost use Rattle.upon_types.specs.Val.{Val, text_val};
 ghost use Rattle.upon_types.specs.View.{view};
 
@@ -16,7 +16,7 @@ use upon_types::value::{Value, ValueCow};
 /// A callable of a lent value and an owned argument.
 pub trait Call2VO<A: OwnedArgument, R: FunctionReturn>: Drop {
     // Its outcome, by what its arguments denote.
-    ghost meaning: { Self → List Val → Outcome };
+    ghost meaning: { Self → List Val → Returned };
 
     /// Calls it.
     fn call(&self, alloc: Global, first: &Value, second: A) -> R
@@ -59,7 +59,7 @@ impl<C: Call2VO<A, R>, A: OwnedArgument + Drop, R: FunctionReturn + Drop> Functi
 /// A callable of a lent value and a lent text.
 pub trait Call2VS<R: FunctionReturn>: Drop {
     // Its outcome, by what its arguments denote.
-    ghost meaning: { Self → List Val → Outcome };
+    ghost meaning: { Self → List Val → Returned };
 
     /// Calls it.
     fn call(&self, alloc: Global, first: &Value, second: &str) -> R
@@ -101,7 +101,7 @@ impl<C: Call2VS<R>, R: FunctionReturn + Drop> Function for Fn2VS<C, R> {
 /// A callable of two lent values.
 pub trait Call2VV<R: FunctionReturn>: Drop {
     // Its outcome, by what its arguments denote.
-    ghost meaning: { Self → List Val → Outcome };
+    ghost meaning: { Self → List Val → Returned };
 
     /// Calls it.
     fn call(&self, alloc: Global, first: &Value, second: &Value) -> R

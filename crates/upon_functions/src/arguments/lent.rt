@@ -1,6 +1,6 @@
 // Arguments that are lent: a text, a list or a map inside a value. Nothing is copied, so no memory is taken.
 ghost use Rattle.upon_types.specs.Misfits.{str_misfit, list_misfit, map_misfit};
-ghost use Rattle.upon_functions.specs.Says.{Lends};
+ghost use Rattle.upon_functions.specs.Says.{TakesLent};
 ghost use Rattle.upon_types.specs.Val.{text_val, list_val, map_val};
 ghost use Rattle.upon_types.specs.View.{view, vals_view, entries_view};
 
@@ -10,7 +10,7 @@ use upon_types::value::Value;
 
 /// Returns the text that a value is.
 pub fn text(index: usize, from: &Value) -> Result<&str, CallError>
-    ensures { Lends (λ text. text_val text.now) (str_misfit (view from.now)) index (view from.now) result }
+    ensures { TakesLent (λ text. text_val text.now) (str_misfit (view from.now)) index (view from.now) result }
 {
     match from {
         Value::String(text) => Ok(text),
@@ -20,7 +20,7 @@ pub fn text(index: usize, from: &Value) -> Result<&str, CallError>
 
 /// Returns the items of the list that a value is.
 pub fn list(index: usize, from: &Value) -> Result<&[Value], CallError>
-    ensures { Lends (λ items. list_val (vals_view items.now)) (list_misfit (view from.now)) index
+    ensures { TakesLent (λ items. list_val (vals_view items.now)) (list_misfit (view from.now)) index
         (view from.now) result }
 {
     match from {
@@ -31,7 +31,7 @@ pub fn list(index: usize, from: &Value) -> Result<&[Value], CallError>
 
 /// Returns the map that a value is.
 pub fn map(index: usize, from: &Value) -> Result<&BTreeMap<String, Value>, CallError>
-    ensures { Lends (λ entries. map_val (entries_view entries.now.entries)) (map_misfit (view from.now)) index
+    ensures { TakesLent (λ entries. map_val (entries_view entries.now.entries)) (map_misfit (view from.now)) index
         (view from.now) result }
 {
     match from {

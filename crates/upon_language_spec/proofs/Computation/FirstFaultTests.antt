@@ -15,7 +15,7 @@ use Rattle.upon_language_spec.specs.Reading.{last_of}
 use Rattle.upon_language_spec.specs.Faults.{span_of, lexeme_at, tag_tokens, closes_first}
 use Rattle.upon_language_spec.specs.LaterFaults.{number_report, UnexpectedBlock}
 use Rattle.upon_language_spec.specs.Blocks.{Closer, closer_of}
-use Rattle.upon_language_spec.specs.LexStep.{Fits as BracketsFit}
+use Rattle.upon_language_spec.specs.LexStep.{BracketsFit}
 use Rattle.upon_language_spec.specs.Lexing.{brackets_in}
 use Rattle.upon_language_spec.specs.Parts.{Part, tag_start, Path, after_symbol}
 use Rattle.upon_language_spec.proofs.OneCut.Token.{step_ends}

@@ -19,7 +19,7 @@ use Rattle.upon_language_spec.specs.FirstFault.{SyntaxFault, unexpected_end, unc
 use Rattle.upon_language_spec.specs.CutFaults.{ends_cutting, NoCutFault, ClearTo}
 use Rattle.upon_language_spec.proofs.NoTreeWithFault.Cut.{no_step_at_end, no_step_at_begin, no_step_at_character, no_step_at_quote}
 use Rattle.upon_language_spec.specs.Lexing.{LexerState, HasRead}
-use Rattle.upon_language_spec.specs.LexStep.{IsNext, Fits}
+use Rattle.upon_language_spec.specs.LexStep.{IsNext, BracketsFit}
 
 -- the text reads to the point of each such fault
 pub reads_of : (delimiters : List DelimiterText) (s : List ℕ) (row : SyntaxFault) (p : ℕ) (place : Span) (reason : List ℕ) → ends_cutting row ≡ true → Holds delimiters s row p place reason → (ls : List Lexeme) × (mode : Mode) × ReadsTo delimiters s ls mode p
@@ -66,14 +66,14 @@ module _ (delimiters : List DelimiterText) (s : List ℕ) (texts : HasTexts deli
       step_in mode e = let F : Mode → Type 0 = λ m. IsToken delimiters s m l.token l.hyphen left.offset l.span.n in subst F e next.step
 
       end_with_brackets : (sort : Sort) → l.token ≡ end_token sort → (bracket : Lexeme) (others : List Lexeme) → left.brackets ≡ bracket ∷ others → ⊥
-      end_with_brackets sort e bracket others brackets = by_sort sort (subst (Fits left.brackets) e next.fits)
+      end_with_brackets sort e bracket others brackets = by_sort sort (subst (BracketsFit left.brackets) e next.fits)
         where
-          by_sort : (sort : Sort) → Fits left.brackets (end_token sort) → ⊥
+          by_sort : (sort : Sort) → BracketsFit left.brackets (end_token sort) → ⊥
           by_sort expression fits = let none = sym fits ∙ brackets in cc
           by_sort block fits = let none = sym fits ∙ brackets in cc
           by_sort comment fits = let none = sym fits ∙ brackets in cc
 
-      close_fits : (t : Token) → is_close t ≡ true → Fits left.brackets t → closes_first left.brackets t ≡ true
+      close_fits : (t : Token) → is_close t ≡ true → BracketsFit left.brackets t → closes_first left.brackets t ≡ true
       close_fits CloseBracket c fits = fits
       close_fits CloseBrace c fits = fits
       close_fits CloseParen c fits = fits
@@ -96,7 +96,7 @@ module _ (delimiters : List DelimiterText) (s : List ℕ) (texts : HasTexts deli
             | inl end ↦ not_bare delimiters s end.1.kind left.offset l.span.n end.1.occurs f.occurs.bare
             | inr inner ↦
                 let same = one_inner delimiters s f.in_path l.token f.t left.offset l.span.n f.to inner.1 f.occurs in
-                let closes : closes_first left.brackets f.t ≡ true = close_fits f.t f.close (subst (Fits left.brackets) same.0 next.fits) in
+                let closes : closes_first left.brackets f.t ≡ true = close_fits f.t f.close (subst (BracketsFit left.brackets) same.0 next.fits) in
                 let fails : closes_first left.brackets f.t ≡ false = sym (ap (λ x. closes_first x f.t) brackets) ∙ f.unmatched in
                 cc
           ]

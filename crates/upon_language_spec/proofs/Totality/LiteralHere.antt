@@ -17,7 +17,7 @@ use Rattle.upon_language_spec.specs.LaterFaults.{Report, number_report, WrongNum
 use Rattle.upon_language_spec.specs.FirstFault.{SyntaxFault, unexpected_end, unclosed_tag, unclosed_bracket, unexpected_close, unexpected_character, undelimited_string, unexpected_token, unexpected_eof, empty_comment, comment_eof, wrong_number, wrong_index, wrong_escape, unexpected_block, unclosed_block, fault_rank, Holds, IsFirstFault}
 use Rattle.upon_language_spec.proofs.OneCut.Token.{step_ends}
 use Rattle.upon_language_spec.proofs.OneTree.Literal.{one_pieces}
-use Rattle.upon_language_spec.specs.LexStep.{Fits as BracketsFit}
+use Rattle.upon_language_spec.specs.LexStep.{BracketsFit}
 use Rattle.upon_language_spec.specs.Lexing.{brackets_in}
 use Rattle.upon_language_spec.specs.Parts.{Part, after_symbol}
 use Rattle.upon_language_spec.proofs.Wanted.WantedAt.{may_follow}

@@ -22,7 +22,7 @@ use Rattle.upon_language_spec.specs.Reading.{ReadsTo, open_brackets}
 use Rattle.upon_language_spec.specs.Faults.{span_of, awaited_sort, is_close, closes_first}
 use Rattle.upon_language_spec.specs.FirstFault.{IsFirstFault}
 use Rattle.upon_language_spec.specs.Lexing.{begin_in, brackets_in}
-use Rattle.upon_language_spec.specs.LexStep.{Fits as BracketsFit, IsWrong}
+use Rattle.upon_language_spec.specs.LexStep.{BracketsFit, IsWrong}
 use Rattle.upon_language_spec.proofs.Offsets.LexFaults.{wrong_end, wrong_begin, wrong_bracket, wrong_close, wrong_inside}
 use Rattle.upon_language_spec.proofs.Totality.First.{left_at, has_read, cut_fault_is_first}
 use Rattle.upon_language_spec.specs.Stages.{Stage}

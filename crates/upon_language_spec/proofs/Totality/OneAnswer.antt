@@ -21,7 +21,7 @@ use Rattle.upon_language_spec.specs.Stages.{Stage}
 use Rattle.upon_language_spec.proofs.Totality.Stage.{start, unclosed_is_first}
 use Rattle.upon_language_spec.proofs.Totality.LiteralHere.{Fault}
 use Rattle.upon_language_spec.proofs.Totality.BlockTrees.{EndsBlocks, text_ends}
-use Rattle.upon_language_spec.specs.ClosingTags.{Known}
+use Rattle.upon_language_spec.specs.ClosingTags.{ReadTagsTaken}
 use Rattle.upon_language_spec.proofs.Totality.Pieces.{Piece, one_piece}
 
 outer_of : (o : OpenBlock) (stack : List OpenBlock) → (outer : OpenBlock) × (outermost (o ∷ stack) ≡ Some outer)
@@ -66,7 +66,7 @@ module _ (delimiters : List DelimiterText) (s : List ℕ) (texts : HasTexts deli
   }
 
   -- from a span outside tags to the text's end
-  pub read_on : (k : ℕ) (ls : List Lexeme) (p : ℕ) → length s < p + k → Stage delimiters s ls outside p → Known s ls → Fault delimiters s ⊎ Rest delimiters s ls p
+  pub read_on : (k : ℕ) (ls : List Lexeme) (p : ℕ) → length s < p + k → Stage delimiters s ls outside p → ReadTagsTaken s ls → Fault delimiters s ⊎ Rest delimiters s ls p
   read_on zero ls p l stage known = absurd (omega (arith, l, (cut_ends delimiters s texts outside outside 0 p ls (omega arith) stage.reads).1))
   read_on (suc k) ls p l stage known = elim (cases_lt p (length s)) [
     | inl below ↦ by_piece (one_piece delimiters s texts utf8 text ls p stage known below) (λ x. read_on k (ls ++ x.piece) x.q (omega (arith, l, x.further)) x.stage x.known)

@@ -24,11 +24,11 @@ use Rattle.upon_language_spec.specs.FirstFault.{SyntaxFault, Holds}
 use Rattle.upon_language_spec.specs.CutFaults.{ends_cutting}
 use Rattle.upon_language_spec.proofs.OneCut.Token.{step_ends, raw_is_no_end}
 use Rattle.upon_language_spec.proofs.OneCut.Cut.{cut_ends, cut_joined}
-use Rattle.upon_language_spec.specs.LexStep.{Fits as BracketsFit}
+use Rattle.upon_language_spec.specs.LexStep.{BracketsFit}
 use Rattle.upon_language_spec.proofs.NoTreeWithFault.BeforeTag.{open_tag_is, open_tag_more, before_tag_more}
 use Rattle.upon_language_spec.proofs.NoTreeWithFault.ReadBefore.{Ended, read_before}
 use Rattle.upon_language_spec.specs.Blocks.{OpenBlock, Closer, closer_of, takes, open_blocks}
-use Rattle.upon_language_spec.specs.ClosingTags.{AllTaken, Known}
+use Rattle.upon_language_spec.specs.ClosingTags.{AllTaken, ReadTagsTaken}
 use Rattle.upon_language_spec.proofs.NoTreeWithFault.TagBlocks.{Walks, walks_nothing, walks_one}
 use Rattle.upon_language_spec.specs.Parts.{Part, tag_start, a_base, filters, end_expr, block_word, after_symbol, Path}
 use Rattle.upon_language_spec.proofs.Totality.FittingClears.{fitting_clears}
@@ -83,11 +83,11 @@ pub record Piece (delimiters : List DelimiterText) (s : List ℕ) (ls : List Lex
   pub further : p < q
   pub cut : Cut delimiters s outside p piece outside q
   pub stage : Stage delimiters s (ls ++ piece) outside q
-  pub known : Known s (ls ++ piece)
+  pub known : ReadTagsTaken s (ls ++ piece)
   pub back : (later : Bool) (rest : List Lexeme) → ((later' : Bool) → EndsBlocks s (open_blocks s (significant (ls ++ piece))) (significant (shown_lexemes s later' rest)))
       → EndsBlocks s (open_blocks s (significant ls)) (significant (shown_lexemes s later (piece ++ rest)))
 
-module _ (delimiters : List DelimiterText) (s : List ℕ) (ls : List Lexeme) (p : ℕ) (stage : Stage delimiters s ls outside p) (known : Known s ls) where
+module _ (delimiters : List DelimiterText) (s : List ℕ) (ls : List Lexeme) (p : ℕ) (stage : Stage delimiters s ls outside p) (known : ReadTagsTaken s ls) where
   module _ (piece all : List Lexeme) (is : significant piece ≡ all) (stack : List OpenBlock) (walks : Walks s (open_blocks s (significant ls)) all stack []) where
     tokens : significant (ls ++ piece) ≡ significant ls ++ all
     tokens = (read_before delimiters s 0 p ls piece stage.reads).0 ∙ ap (λ (x : List Lexeme). significant ls ++ x) is
@@ -98,7 +98,7 @@ module _ (delimiters : List DelimiterText) (s : List ℕ) (ls : List Lexeme) (p 
     blocks_on : open_blocks s (significant (ls ++ piece)) ≡ stack
     blocks_on = ap (open_blocks s) tokens ∙ blocks_append s [] (significant ls) all ended known ∙ walks.0
 
-    known_on : Known s (ls ++ piece)
+    known_on : ReadTagsTaken s (ls ++ piece)
     known_on = let F : List Lexeme → Type 0 = λ x. AllTaken s [] x in subst F (sym tokens) (taken_append s [] (significant ls) all ended known (walks.1 tt))
 
     build : (q : ℕ) → p < q → Cut delimiters s outside p piece outside q → Stage delimiters s (ls ++ piece) outside q
@@ -119,7 +119,7 @@ begin_fits expression = tt
 begin_fits block = tt
 begin_fits comment = tt
 
-module _ (delimiters : List DelimiterText) (s : List ℕ) (texts : HasTexts delimiters) (utf8 : HasUtf8 delimiters) (text : IsUtf8 s) (ls : List Lexeme) (p : ℕ) (stage : Stage delimiters s ls outside p) (known : Known s ls) (below : p < length s) where
+module _ (delimiters : List DelimiterText) (s : List ℕ) (texts : HasTexts delimiters) (utf8 : HasUtf8 delimiters) (text : IsUtf8 s) (ls : List Lexeme) (p : ℕ) (stage : Stage delimiters s ls outside p) (known : ReadTagsTaken s ls) (below : p < length s) where
   abbrev Result : Type 0
   Result = Fault delimiters s ⊎ Piece delimiters s ls p
 

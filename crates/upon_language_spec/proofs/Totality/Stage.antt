@@ -13,7 +13,7 @@ use Rattle.upon_language_spec.specs.CutFaults.{ends_cutting, ClearTo}
 use Rattle.upon_language_spec.specs.LaterFaults.{is_comment_begin}
 use Rattle.upon_language_spec.proofs.OneCut.Cut.{one_cut_to, cut_more}
 use Rattle.upon_language_spec.proofs.OneCut.Token.{step_ends}
-use Rattle.upon_language_spec.specs.LexStep.{Fits as BracketsFit}
+use Rattle.upon_language_spec.specs.LexStep.{BracketsFit}
 use Rattle.upon_language_spec.specs.Lexing.{brackets_in}
 use Rattle.upon_language_spec.proofs.Offsets.Clear as lexer
 use Rattle.upon_language_spec.proofs.Offsets.Clear.{fault_within}

@@ -8,7 +8,7 @@ use Rattle.upon_language_spec.specs.Cut.{Lexeme}
 use Rattle.upon_language_spec.specs.Literal.{IsInteger}
 use Rattle.upon_language_spec.specs.LaterFaults.{minus_before}
 use Rattle.upon_language_spec.specs.Tags.{IsTag, symbol_of, symbols_of, word_of}
-use Rattle.upon_language_spec.specs.Keys.{Key, key_of}
+use Rattle.upon_language_spec.specs.Keys.{Key, keyword_of}
 use Rattle.upon_language_spec.specs.Parts.{Part, a_base, after_name, after_member, a_member, a_magnitude, filters, filter_name, after_filter, more_args, list_start, list_rest, map_start, map_colon, map_rest, call_start, call_rest, close_paren, tag_start, end_expr, end_block, block_word, condition, else_rest, loop_name, loop_rest, loop_value, in_word, as_word, as_name, include_name, include_rest, is_optional, goes, left_of, after, after_symbol, Path}
 use Rattle.upon_language_spec.specs.InTags.{StandsFor, EachStands}
 use Rattle.upon_language_spec.proofs.Wanted.LeadingBegins.{known}
@@ -77,9 +77,9 @@ module _ (s : List ℕ) where
   signed_on l ps next h minus =
       let same = is_minus true l.token minus in
       let F : Token → Type 0 = λ t. after_symbol ps (record { token = t; word = word_of s t l.span }) ≡ Some next in
-      minus_goes ps next (key_of []) (subst F same h)
+      minus_goes ps next (keyword_of []) (subst F same h)
 
-  value_of : (before : Option Lexeme) (ps : List Part) (t : Token) (l : Lexeme) → StandsFor s before t l → Signed before ps → first_is_magnitude ps ≡ false → Value s t (key_of (word_of s t l.span)) l
+  value_of : (before : Option Lexeme) (ps : List Part) (t : Token) (l : Lexeme) → StandsFor s before t l → Signed before ps → first_is_magnitude ps ≡ false → Value s t (keyword_of (word_of s t l.span)) l
   value_of before ps Keyword l h signed e = λ k. sym (known (slice s l.span) k)
   value_of before ps Number l h signed e = let F : Bool → Type 0 = λ b. IsInteger b (slice s l.span) h.0 in (h.0, subst F (unsigned before ps signed e) h.1)
   value_of before ps Index l h signed e = h
@@ -120,7 +120,7 @@ module _ (s : List ℕ) where
   read_all [] ps before e each signed = let F : List Part → Type 0 = λ x. Means s x [] in subst F (sym e) refl
   read_all (l ∷ ts) ps before (next, goes, path) each signed =
       let F : Option (List Part) → Type 0 = λ x. Reads s x ts in
-      reads_on s ps l.token (key_of (word_of s l.token l.span)) l ts (number_behind l ts each.1) refl (value_of before ps l.token l each.0 signed) (subst F (sym goes) (read_all ts next (Some l) path each.1 (signed_on l ps next goes)))
+      reads_on s ps l.token (keyword_of (word_of s l.token l.span)) l ts (number_behind l ts each.1) refl (value_of before ps l.token l each.0 signed) (subst F (sym goes) (read_all ts next (Some l) path each.1 (signed_on l ps next goes)))
 
   -- a whole tag
   pub whole_tag : (ts : List Lexeme) → Path (tag_start ∷ []) (symbols_of s ts) [] → EachStands s None ts → IsTag s ts []

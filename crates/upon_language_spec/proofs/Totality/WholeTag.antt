@@ -21,9 +21,9 @@ use Rattle.upon_language_spec.specs.Wanted.{reason_for, wanted_at_end, expected_
 use Rattle.upon_language_spec.proofs.NoTreeWithFault.SplitInTag.{last_or_none}
 use Rattle.upon_language_spec.proofs.OneCut.Token.{step_ends}
 use Rattle.upon_language_spec.proofs.OneCut.Cut.{cut_ends}
-use Rattle.upon_language_spec.specs.LexStep.{Fits as BracketsFit}
+use Rattle.upon_language_spec.specs.LexStep.{BracketsFit}
 use Rattle.upon_language_spec.specs.Lexing.{brackets_in}
-use Rattle.upon_language_spec.specs.Keys.{key_of}
+use Rattle.upon_language_spec.specs.Keys.{keyword_of}
 use Rattle.upon_language_spec.specs.Parts.{Part, tag_start, after_symbol, Path}
 use Rattle.upon_language_spec.proofs.Wanted.WantedAt.{path_one}
 use Rattle.upon_language_spec.proofs.Totality.FittingClears.{fitting_clears, stuck_token, stuck_end, first_stuck}
@@ -153,7 +153,7 @@ module _ (delimiters : List DelimiterText) (s : List ℕ) (texts : HasTexts deli
               stage = behind_it next (λ f. leads) (inl (λ f. absurd cc)) (λ f. fine);
               ps = next;
               occurs = subst F (sym row) (path_one (tag_row s ls) (tag_start ∷ []) at.ps next (symbol_of s (lexeme_at t false p to)) at.occurs leads);
-              still = open_on at.ps next t (key_of (word_of s t (span_of p to))) at.still (inside_ends_nothing t inside) leads;
+              still = open_on at.ps next t (keyword_of (word_of s t (span_of p to))) at.still (inside_ends_nothing t inside) leads;
               each = subst G (sym tokens) (each_snoc s None (tag_tokens ls) (lexeme_at t false p to) at.each (subst H (last_or_none (tag_tokens ls)) fine.value));
               begin = at.begin;
               opening = ap first_span more ∙ first_stays (open_tag ls) (lexeme_at t false p to ∷ []) at.begin at.opening;
@@ -243,7 +243,7 @@ module _ (delimiters : List DelimiterText) (s : List ℕ) (texts : HasTexts deli
   pub ended_tag : (ls : List Lexeme) (path : Bool) (p : ℕ) (e : EndsAt delimiters s sort ls path p) → ends_a_tag (end_token sort) ≡ true → IsTag s (tag_tokens ls ++ lexeme_at (end_token sort) e.hyphen p e.to ∷ []) []
   ended_tag ls path p e h =
       let end = lexeme_at (end_token sort) e.hyphen p e.to in
-      let none = end_leaves_nothing e.tag.ps e.next (end_token sort) (key_of (word_of s (end_token sort) (span_of p e.to))) e.tag.still h e.leads in
+      let none = end_leaves_nothing e.tag.ps e.next (end_token sort) (keyword_of (word_of s (end_token sort) (span_of p e.to))) e.tag.still h e.leads in
       let F : List Part → Type 0 = λ x. Path (tag_start ∷ []) (tag_row s ls ++ symbol_of s end ∷ []) x in
       let G : List Symbol → Type 0 = λ x. Path (tag_start ∷ []) x [] in
       whole_tag s (tag_tokens ls ++ end ∷ [])

@@ -12,7 +12,7 @@ use Rattle.upon_language_spec.specs.Cut.{Lexeme}
 use Rattle.upon_language_spec.specs.Tokens.{Goes, GoesBy, GoesWord}
 use Rattle.upon_language_spec.specs.Expressions.{op_token, IsAccess, IsMember, AreMembers, IsLiteral, IsBase}
 use Rattle.upon_language_spec.specs.Tags.{Symbol, symbols_of, word_of}
-use Rattle.upon_language_spec.specs.Keys.{Key, key_true, key_false, key_of}
+use Rattle.upon_language_spec.specs.Keys.{Key, key_true, key_false, keyword_of}
 use Rattle.upon_language_spec.specs.Parts.{Part, a_base, after_name, after_member, a_member, a_magnitude, filters, after_filter, more_args, list_start, list_rest, call_start, call_rest, condition, base_key, goes, after, after_symbol, Path}
 use Rattle.upon_language_spec.specs.PartTails.{Tail, no_tail, member_tail, name_tail, tail_parts, Begun, TakesBase}
 use Rattle.upon_language_spec.specs.PartLeads.{Leads}
@@ -46,8 +46,8 @@ module _ (s : List ℕ) where
     path = (b, ap (λ (x : Symbol). after_symbol a x) (λ i. record { token = g.of_token i; word = word_of s (g.of_token i) (g.at i) }) ∙ h, refl);
   }
 
-  pub leads_key : {a b : List Part} (word : List ℕ) {span : Span} {ts us : List Lexeme} → GoesWord s word span ts us → after a Keyword (key_of word) ≡ Some b → Leads s a ts b us
-  leads_key {a} {b} word {span} g h = leads_by g.0 (ap (λ w. after a Keyword (key_of w)) g.1 ∙ h)
+  pub leads_key : {a b : List Part} (word : List ℕ) {span : Span} {ts us : List Lexeme} → GoesWord s word span ts us → after a Keyword (keyword_of word) ≡ Some b → Leads s a ts b us
+  leads_key {a} {b} word {span} g h = leads_by g.0 (ap (λ w. after a Keyword (keyword_of w)) g.1 ∙ h)
 
 -- a token that goes on with no Base, and none that goes on with an expression's last part
 abbrev pub leaves_base : Token → Bool
@@ -164,7 +164,7 @@ condition_takes ps t k = tt
 module _ (s : List ℕ) where
   -- one token of a kind that has no word
   pub leads_token : {a b : List Part} {t : Token} {ts us : List Lexeme} → GoesBy t ts us → ((k : Key) → after a t k ≡ Some b) → Leads s a ts b us
-  leads_token {a} {b} {t} (span, g) h = leads_by s g (h (key_of (word_of s t span)))
+  leads_token {a} {b} {t} (span, g) h = leads_by s g (h (keyword_of (word_of s t span)))
 
   -- the same after what may still go on
   pub by_tail : {b : List Part} {t : Token} {ts us : List Lexeme} (tail : Tail) (ps : List Part) → GoesBy t ts us → leaves_base t ≡ true → ((k : Key) → after ps t k ≡ Some b) → Leads s (tail_parts tail ++ ps) ts b us

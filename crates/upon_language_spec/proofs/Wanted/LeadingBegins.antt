@@ -5,7 +5,7 @@ use Rattle.upon_types.specs.declared.types.token.Token.{Token}
 use Rattle.upon_types.specs.declared.types.token.Token.TheVariants.{CloseBracket, CloseBrace, CloseParen, EndExpr, EndBlock, BeginExpr, Colon, Keyword, Ident, Index, Number, String}
 use Rattle.upon_language_spec.specs.Cut.{Lexeme}
 use Rattle.upon_language_spec.specs.Tags.{Symbol, symbols_of, word_of, BeginsTag}
-use Rattle.upon_language_spec.specs.Keys.{Key, key_if, key_not, key_else, key_endif, key_for, key_in, key_endfor, key_with, key_as, key_endwith, key_include, key_true, key_false, no_key, key_of, key_word}
+use Rattle.upon_language_spec.specs.Keys.{Key, key_if, key_not, key_else, key_endif, key_for, key_in, key_endfor, key_with, key_as, key_endwith, key_include, key_true, key_false, no_key, keyword_of, key_word}
 use Rattle.upon_language_spec.specs.Parts.{Part, a_base, after_name, after_member, a_member, a_magnitude, filters, filter_name, after_filter, more_args, list_start, list_rest, map_start, map_colon, map_rest, call_start, call_rest, close_paren, tag_start, end_expr, end_block, block_word, condition, else_rest, loop_name, loop_rest, loop_value, in_word, as_word, as_name, include_name, include_rest, is_optional, goes, left_of, after, Path}
 use Rattle.upon_language_spec.proofs.Wanted.EachWord.{words, witness, has_word}
 use Rattle.upon_language_spec.proofs.Wanted.PartOn.{Means, Reads, left_out, reads_on}
@@ -78,7 +78,7 @@ pick w false k others f g = g
 equal : (w v : List ℕ) → bytes_eq w v ≡ true → v ≡ w
 equal w v h = sym ((bytes_eq-Decides w v).0 h)
 
-pub known : (w : List ℕ) → Known w (key_of w)
+pub known : (w : List ℕ) → Known w (keyword_of w)
 known w = pick w _ key_if _ (equal w _) (pick w _ key_not _ (equal w _) (pick w _ key_else _ (equal w _) (pick w _ key_endif _ (equal w _)
     (pick w _ key_for _ (equal w _) (pick w _ key_in _ (equal w _) (pick w _ key_endfor _ (equal w _) (pick w _ key_with _ (equal w _)
     (pick w _ key_as _ (equal w _) (pick w _ key_endwith _ (equal w _) (pick w _ key_include _ (equal w _) (pick w _ key_true _ (equal w _)
@@ -142,8 +142,8 @@ some_word : (ps next : List Part) (k : Key) → after ps Keyword k ≡ Some next
 some_word ps next no_key h = let e = no_word_after ps in absurd cc
 some_word ps next k h = refl
 
-same_word : (ps next : List Part) (t : Token) (w : List ℕ) → after ps t (key_of w) ≡ Some next → word_by t w ≡ w → word_of words t (witness t (key_of w)).span ≡ w
-same_word ps next Keyword w h e = has_word (key_of w) ∙ known w (some_word ps next (key_of w) h)
+same_word : (ps next : List Part) (t : Token) (w : List ℕ) → after ps t (keyword_of w) ≡ Some next → word_by t w ≡ w → word_of words t (witness t (keyword_of w)).span ≡ w
+same_word ps next Keyword w h e = has_word (keyword_of w) ∙ known w (some_word ps next (keyword_of w) h)
 same_word ps next t w h e = e
 
 -- what is read after the row, is read with it
@@ -151,7 +151,7 @@ path_reads : (row : List Symbol) (ps to : List Part) (ls : List Lexeme) → Path
 path_reads [] ps to ls e plain h = (ls, subst (λ x. Means x ls) (sym e) h, refl)
 path_reads (x ∷ row) ps to ls (next, goes, path) plain h =
     let (all, means, same) = path_reads row next to ls path plain.1 h in
-    let k = key_of x.word in
+    let k = keyword_of x.word in
     let F : Option (List Part) → Type 0 = λ y. Reads y all in
     (witness x.token k ∷ all, reads_on ps x.token k all (subst F (sym goes) means), λ i. record { token = x.token; word = same_word ps next x.token x.word goes plain.0 i } ∷ same i)
 

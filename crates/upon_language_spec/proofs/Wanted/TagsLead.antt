@@ -10,7 +10,7 @@ use Rattle.upon_language_spec.specs.Tokens.{GoesBy, GoesKeyword}
 use Rattle.upon_language_spec.specs.Expressions.{IsBase, IsListBody, IsListTail, IsMapBody, IsMapTail, IsCallBody, IsArgs, IsMoreArgs, IsExpression, IsFilterArgs}
 use Rattle.upon_language_spec.specs.Grammar.{BeginsBlock, IsWordTag, IsCondition, AreLoopVars, AreGlobals}
 use Rattle.upon_language_spec.specs.Tags.{Symbol, symbol_of, symbols_of, IsTag, an_inline, an_include, an_if, an_else_if, an_else, an_endif, a_for, an_endfor, a_with, an_endwith, BeginsTag}
-use Rattle.upon_language_spec.specs.Keys.{Key, key_of}
+use Rattle.upon_language_spec.specs.Keys.{Key, keyword_of}
 use Rattle.upon_language_spec.specs.Parts.{Part, a_base, after_name, filters, filter_name, after_filter, more_args, list_start, list_rest, map_start, map_colon, map_rest, call_start, call_rest, close_paren, tag_start, end_expr, end_block, block_word, condition, else_rest, loop_name, loop_rest, loop_value, in_word, as_word, as_name, include_name, include_rest, after, after_symbol, Path}
 use Rattle.upon_language_spec.specs.PartTails.{Tail, no_tail, member_tail, name_tail, tail_parts, TakesBase}
 use Rattle.upon_language_spec.specs.PartLeads.{Leads}
@@ -118,10 +118,10 @@ module _ (s : List ℕ) where
       (end, λ ps. leads_then s (leads_key s (codes "not") g refl) (leads (a_base ∷ filters ∷ ps) ps (base_takes (filters ∷ ps))))
   condition_leads false e ts us read = let (end, leads) = expression_leads e ts us read in (end, λ ps. leads (condition ∷ ps) ps (condition_takes ps))
 
-  block_leads : (word : List ℕ) (to : List Part) (ts us : List Lexeme) → BeginsBlock s word ts us → after (block_word ∷ []) Keyword (key_of word) ≡ Some to → Leads s (tag_start ∷ []) ts to us
+  block_leads : (word : List ℕ) (to : List Part) (ts us : List Lexeme) → BeginsBlock s word ts us → after (block_word ∷ []) Keyword (keyword_of word) ≡ Some to → Leads s (tag_start ∷ []) ts to us
   block_leads word to ts us (mid, begin, (span, g)) h = leads_then s (leads_token s begin (λ k. refl)) (leads_key s word g h)
 
-  word_tag_leads : (word : List ℕ) (ts us : List Lexeme) → IsWordTag s word ts us → after (block_word ∷ []) Keyword (key_of word) ≡ Some (end_block ∷ []) → Leads s (tag_start ∷ []) ts [] us
+  word_tag_leads : (word : List ℕ) (ts us : List Lexeme) → IsWordTag s word ts us → after (block_word ∷ []) Keyword (keyword_of word) ≡ Some (end_block ∷ []) → Leads s (tag_start ∷ []) ts [] us
   word_tag_leads word ts us (mid, begin, end) h = leads_then s (block_leads word (end_block ∷ []) ts mid begin h) (leads_token s end (λ k. refl))
 
   pub names_lead : (names : LoopVars) (ts mid us : List Lexeme) → AreLoopVars s names ts mid → GoesKeyword s (codes "in") mid us → (ps : List Part) → Leads s (loop_name ∷ ps) ts (a_base ∷ filters ∷ ps) us
@@ -155,7 +155,7 @@ module _ (s : List ℕ) where
   tag_leads ts us (a_with e name (start, mid, last, final, begin, g, (span, word), named, end)) =
       let (ending, leads) = expression_leads e start mid g in
       leads_then s (block_leads (codes "with") (a_base ∷ filters ∷ as_word ∷ end_block ∷ []) ts start begin refl) (leads_then s (leads (a_base ∷ filters ∷ as_word ∷ end_block ∷ []) (as_word ∷ end_block ∷ []) (base_takes (filters ∷ as_word ∷ end_block ∷ [])))
-      (leads_then s (leads_key s (codes "as") word (ending_left ending (filters ∷ as_word ∷ end_block ∷ []) Keyword (key_of (codes "as")) refl)) (leads_then s (leads_token s {a = as_name ∷ end_block ∷ []} (name.span, named.0) (λ k. refl)) (leads_token s {a = end_block ∷ []} end (λ k. refl)))))
+      (leads_then s (leads_key s (codes "as") word (ending_left ending (filters ∷ as_word ∷ end_block ∷ []) Keyword (keyword_of (codes "as")) refl)) (leads_then s (leads_token s {a = as_name ∷ end_block ∷ []} (name.span, named.0) (λ k. refl)) (leads_token s {a = end_block ∷ []} end (λ k. refl)))))
   tag_leads ts us (an_endwith g) = word_tag_leads (codes "endwith") ts us g refl
 
 -- ---- a row that begins a tag leads to some parts

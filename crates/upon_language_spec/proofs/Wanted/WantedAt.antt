@@ -3,14 +3,14 @@ use Rattle.std.proofs.Common.{◌≡◌, ℕ, ◌<◌, nat_lt, List, [], ◌∷�
 use Rattle.std.proofs.lemmas.Bool.{ltb-true, ltb-false}
 use Rattle.upon_language_spec.specs.Tags.{Symbol, BeginsTag}
 use Rattle.upon_language_spec.specs.Wanted.{Wanted, an_expression, a_string, a_name_or_index, an_end_expression, an_end_block, a_close_paren, a_close_bracket, a_close_brace, an_in, an_as, a_block_word, a_name, a_number, a_colon, rank, shows, IsWanted}
-use Rattle.upon_language_spec.specs.Keys.{key_of}
+use Rattle.upon_language_spec.specs.Keys.{keyword_of}
 use Rattle.upon_language_spec.specs.Parts.{Part, a_base, after_name, after_member, a_member, a_magnitude, filters, filter_name, after_filter, more_args, list_start, list_rest, map_start, map_colon, map_rest, call_start, call_rest, close_paren, tag_start, end_expr, end_block, block_word, condition, else_rest, loop_name, loop_rest, loop_value, in_word, as_word, as_name, include_name, include_rest, is_optional, goes, left_of, after_symbol, Path, own, least_of, wanted_at}
 use Rattle.upon_language_spec.proofs.Wanted.LeadingBegins.{IsPlain, ArePlain, begins_tag}
 use Rattle.upon_language_spec.proofs.Wanted.TagsLead.{leads_on}
 
 -- what the part itself leaves of the token that shows a word
 abbrev takes : Part → Wanted → Option (List Part)
-takes p w = goes p (shows w).token (key_of (shows w).word)
+takes p w = goes p (shows w).token (keyword_of (shows w).word)
 
 abbrev is_none : Option (List Part) → Bool
 is_none None = true

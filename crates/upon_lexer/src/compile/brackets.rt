@@ -1,7 +1,7 @@
 // The brackets inside a tag: which token opens or closes which, and those that are open.
 ghost use Rattle.std.specs.Prelude.{◌≡◌, ◌⊎◌, option_map, true, IfSome, IfOk, IfErr};
 ghost use Rattle.std.specs.List.{Contains};
-ghost use Rattle.upon_lexer.specs.Brackets.{open_token, close_token, HasEffect, bracket_lexeme, plain_lexeme, brackets_of, innermost};
+ghost use Rattle.upon_lexer.specs.Brackets.{open_token, close_token, HasBracketEffect, bracket_lexeme, plain_lexeme, brackets_of, innermost};
 ghost use Rattle.upon_language_spec.specs.Faults.{closes_first};
 ghost use Rattle.upon_language_spec.specs.Lexing.{opens_bracket};
 ghost use Rattle.upon_language_spec.specs.Reading.{brackets_after};
@@ -34,7 +34,7 @@ pub enum BracketEffect {
 
 /// Returns what a token does to the open brackets.
 pub fn effect_of(token: Token) -> BracketEffect
-    ensures { HasEffect token result }
+    ensures { HasBracketEffect token result }
 {
     match token {
         Token::OpenBracket => BracketEffect::Opens(Shape::Bracket),

@@ -66,7 +66,7 @@ pub struct Lexer<'a> {
 impl<'a> Lexer<'a> {
     ghost use Rattle.upon_language_spec.specs.Lexing.{opens_bracket};
     ghost use Rattle.upon_lexer.specs.Spelling.{IsSpelled, LiesBetween};
-    ghost use Rattle.upon_lexer.specs.Lexers.{lexer_text, lexer_delimiters, lexer_state, next_lexeme, ReadSoFar, Gives, GivesAfterSpace, GivesNext, Finds, GoesWrong, IsDelimiterAt, Passes, IsGivenWhole, HasPassedSpaces};
+    ghost use Rattle.upon_lexer.specs.Lexers.{lexer_text, lexer_delimiters, lexer_state, next_lexeme, ReadSoFar, GivesToken, GivesAfterSpace, GivesNext, FindsToken, GoesWrong, IsDelimiterAt, Passes, IsGivenWhole, HasPassedSpaces};
 
     /// Creates a lexer at the start of a text, over the delimiters of a searcher.
     pub fn new(alloc: Global, searcher: &'a Searcher, source: &'a str) -> Lexer<'a>
@@ -91,7 +91,7 @@ impl<'a> Lexer<'a> {
     /// is the text's first of its kind; if there is no memory to say it, or to keep a bracket that opens, it says
     /// that. After an error there are no more tokens.
     pub fn lex(&mut self) -> Result<Option<(Token, Span)>>
-        ensures token { (ls : List Lexeme) → ReadSoFar self.old ls → Gives self.old ls result self.new }
+        ensures token { (ls : List Lexeme) → ReadSoFar self.old ls → GivesToken self.old ls result self.new }
         ensures span { IfOk result (λ found. IfSome found (λ given. LiesIn (lexer_text self.old) given.1)) }
         ensures spelled { IfOk result (λ found. IfSome found
             (λ given. IsSpelled (lexer_text self.old) given.0 given.1)) }
@@ -427,7 +427,7 @@ impl<'a> Lexer<'a> {
         ensures token { IfOk result (λ found. MatchOption
             found
             (self.now.offset ≡ length (lexer_text self.now))
-            (λ f. Finds self.now f)) }
+            (λ f. FindsToken self.now f)) }
         ensures given { IfOk result (λ found. IfSome found (IsGivenWhole self.now)) }
         ensures span { IfOk result (λ found. IfSome found (λ f. LiesIn (lexer_text self.now) f.span)) }
         ensures wrong { IfErr result (λ wrong. GoesWrong self.now wrong) }
@@ -454,7 +454,7 @@ impl<'a> Lexer<'a> {
         requires occurs { IsBestDelimiter (lexer_delimiters self.now) (lexer_text self.now) kind span.m span.n }
         requires start { span.m ≡ self.now.offset }
         requires span { LiesIn (lexer_text self.now) span }
-        ensures token { IfOk result (λ f. Finds self.now f) }
+        ensures token { IfOk result (λ f. FindsToken self.now f) }
         ensures span { IfOk result (λ f. f.span ≡ span) }
         ensures wrong { IfErr result (λ wrong. GoesWrong self.now wrong) }
         ensures wrong_span { IfErr result (λ wrong. LiesIn (lexer_text self.now) wrong.span) }
@@ -500,7 +500,7 @@ impl<'a> Lexer<'a> {
         requires start { span.m ≡ self.now.offset }
         requires sort { end_sort kind ≡ Some (sort_of sort) }
         requires awaited { awaited_sort (mode_of self.now.tag) ≡ Some (sort_of sort) }
-        ensures token { IfOk result (λ f. Finds self.now f) }
+        ensures token { IfOk result (λ f. FindsToken self.now f) }
         ensures span { IfOk result (λ f. f.span ≡ span) }
         ensures wrong { IfErr result (λ wrong. GoesWrong self.now wrong) }
         ensures wrong_span { IfErr result (λ wrong. LiesIn (lexer_text self.now) wrong.span) }
@@ -523,7 +523,7 @@ impl<'a> Lexer<'a> {
         requires bare { NoneAt (lexer_delimiters self.now) (lexer_text self.now) self.now.offset }
         requires occurs { Occurs (lexer_text self.now) self.now.offset (encode_utf8 first) }
         requires mode { (sort : language.Sort) × (mode_of self.now.tag ≡ in_tag sort tag.in_path) }
-        ensures token { IfOk result (λ f. Finds self.now f) }
+        ensures token { IfOk result (λ f. FindsToken self.now f) }
         ensures span { IfOk result (λ f. LiesIn (lexer_text self.now) f.span) }
         ensures wrong { IfErr result (λ wrong. GoesWrong self.now wrong) }
         ensures wrong_span { IfErr result (λ wrong. LiesIn (lexer_text self.now) wrong.span) }
@@ -547,7 +547,7 @@ impl<'a> Lexer<'a> {
             × (in_path : Bool)
             × (mode_of self.now.tag ≡ in_tag sort in_path)
             × IsInside (lexer_delimiters self.now) (lexer_text self.now) in_path token span.m span.n }
-        ensures token { IfOk result (λ f. Finds self.now f) }
+        ensures token { IfOk result (λ f. FindsToken self.now f) }
         ensures span { IfOk result (λ f. f.span ≡ span) }
         ensures wrong { IfErr result (λ wrong. GoesWrong self.now wrong) }
         ensures wrong_span { IfErr result (λ wrong. wrong.span ≡ span) }
@@ -590,7 +590,7 @@ impl<'a> Lexer<'a> {
 
     // Moves after a token. Where there is no memory for its bracket, the lexer stays where it is.
     fn pass(&mut self, found: NextToken) -> std::result::Result<(), AllocError>
-        requires next { Finds self.now found }
+        requires next { FindsToken self.now found }
         requires span { LiesIn (lexer_text self.now) found.span }
         requires not_over { self.now.over ≡ false }
         ensures start { IfOk result

@@ -6,11 +6,11 @@ ghost use Rattle.upon_types.specs.Span.{LiesIn};
 ghost use Rattle.upon_types.specs.declared.types.token.Token.TheVariants.{Ident};
 ghost use Rattle.upon_language_spec.specs.Cut.{Lexeme};
 ghost use Rattle.upon_language_spec.specs.Inside.{start_kind, Extent};
-ghost use Rattle.upon_language_spec.specs.LexStep.{Fits};
+ghost use Rattle.upon_language_spec.specs.LexStep.{BracketsFit};
 ghost use Rattle.upon_language_spec.specs.Search.{Occurs};
 ghost use Rattle.upon_language_spec.specs.Words.{IsRun, is_tag_space};
 ghost use Rattle.upon_lexer.specs.Class.{class_test};
-ghost use Rattle.upon_lexer.specs.Plain.{IsLetter, IsPlain, is_frequent, mark_of};
+ghost use Rattle.upon_lexer.specs.Plain.{IsLetter, IsPlain, byte_token, is_frequent};
 
 use crate::compile::chars::{CharClass, is_keyword};
 use upon_types::types::{Span, Token, slice};
@@ -38,7 +38,7 @@ pub(crate) fn plain_at(source: &str, at: usize) -> Option<(Token, usize)>
 
 // The token that one byte is.
 fn mark_of(byte: u8) -> Option<Token>
-    ensures { result ≡ mark_of byte }
+    ensures { result ≡ byte_token byte }
 {
     match byte {
         b'.' => Some(Token::Dot),
@@ -102,7 +102,7 @@ fn word_of(source: &str, at: usize, end: usize) -> Token
     requires span { LiesIn source.now (record { m = at; n = end }) }
     ensures kind { start_kind result ≡ Ident }
     ensures extent { Extent source.now result at end }
-    ensures fits { (brackets : List Lexeme) → Fits brackets result }
+    ensures fits { (brackets : List Lexeme) → BracketsFit brackets result }
     ensures plain { is_frequent result ≡ true }
 {
     if is_keyword(slice(source, Span { m: at, n: end })) {

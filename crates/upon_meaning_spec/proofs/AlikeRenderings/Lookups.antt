@@ -9,7 +9,7 @@ use Rattle.upon_types.specs.Path.{Access, by_index, by_key, Member, path_span}
 use Rattle.upon_types.specs.Val.{Val, none_val, bool_val, int_val, text_val, list_val, map_val, entry_at}
 use Rattle.upon_render.specs.Environment.{Bound, Binding, plain, key_text, loop_state, Root, context, value_source, nothing, Environment, first_bound, binding_of}
 use Rattle.upon_render.specs.Finding.{Finding, found, at_fault, Reply}
-use Rattle.upon_render.specs.Lookup.{key_walk, state_member, state_end, after_state, state_walk, bound_value, maybe_bound, bindings_walk, or_not_in_scope, answer_value, reply_value, root_value, or_root, lookup}
+use Rattle.upon_render.specs.Lookup.{key_walk, state_member, state_end, after_state, state_walk, bound_value, maybe_bound, bindings_walk, or_not_in_scope, source_value, reply_value, root_value, or_root, lookup}
 use Rattle.upon_render.specs.LookupFaults.{not_in_map, out_of_bounds}
 use Rattle.upon_render.specs.Source.{SourceAnswer, says, refuses, Source, ValueMember, index as of_index, key as of_key, is_optional_op, value_access_of, value_members_of}
 use Rattle.upon_render.specs.Vals.{val_list}
@@ -169,7 +169,7 @@ in_scope_alike (at_fault f) (at_fault g) at at' h = h
 in_scope_alike (found o) (at_fault g) at at' h = absurd h
 in_scope_alike (at_fault f) (found p) at at' h = absurd h
 
-said_alike : (x : SourceAnswer Val) (at at' : Span) → FoundAlike One (answer_value x at) (answer_value x at')
+said_alike : (x : SourceAnswer Val) (at at' : Span) → FoundAlike One (source_value x at) (source_value x at')
 said_alike (says v) at at' = refl
 said_alike (refuses text) at at' = refl
 

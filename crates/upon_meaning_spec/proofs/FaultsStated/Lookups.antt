@@ -11,7 +11,7 @@ use Rattle.upon_types.specs.Val.{Val, none_val, bool_val, int_val, text_val, lis
 use Rattle.upon_types.proofs.ExpressionSpans.{Covers, path_place}
 use Rattle.upon_render.specs.Environment.{Bound, plain, key_text, loop_state, Root, context, value_source, nothing, Environment, binding_of}
 use Rattle.upon_render.specs.Finding.{Finding, found, at_fault}
-use Rattle.upon_render.specs.Lookup.{key_walk, state_member, state_end, after_state, state_walk, bound_value, maybe_bound, bindings_walk, or_not_in_scope, answer_value, root_value, or_root, lookup}
+use Rattle.upon_render.specs.Lookup.{key_walk, state_member, state_end, after_state, state_walk, bound_value, maybe_bound, bindings_walk, or_not_in_scope, source_value, root_value, or_root, lookup}
 use Rattle.upon_render.specs.LookupFaults.{wrong, not_in_map, out_of_bounds}
 use Rattle.upon_render.specs.Source.{SourceAnswer, says, refuses, value_members_of}
 use Rattle.upon_render.specs.Vals.{val_list}
@@ -132,7 +132,7 @@ module _ {V T : Type 0} (calls : Calls V) (resolve : Resolver T) (P : Span → T
   in_scope_fine (found None) at h k = wrong_fine _ at not_in_scope k
   in_scope_fine (at_fault f) at h k = h
 
-  said_fine : (x : SourceAnswer Val) (at : Span) → ((text : List ℕ) → x ≡ refuses text → IsStated calls resolve render (Some text)) → P at → FoundFine Any (answer_value x at)
+  said_fine : (x : SourceAnswer Val) (at : Span) → ((text : List ℕ) → x ≡ refuses text → IsStated calls resolve render (Some text)) → P at → FoundFine Any (source_value x at)
   said_fine (says v) at h k = tt
   said_fine (refuses text) at h k = wrong_fine text at (h text refl) k
 

@@ -7,7 +7,7 @@ use Rattle.upon_render.specs.Finding.{reply}
 use Rattle.upon_render.specs.Source.{Source, says, refuses}
 use Rattle.upon_meaning_spec.specs.Alone.{includes_left, alone, alone_within}
 use Rattle.upon_meaning_spec.specs.Engine.{Template, Table, Calls, Resolver, from_table}
-use Rattle.upon_meaning_spec.specs.Missing.{NothingMissing, Answers, EndsUnknown}
+use Rattle.upon_meaning_spec.specs.Missing.{NothingMissing, AnswersTable, EndsUnknown}
 use Rattle.upon_meaning_spec.specs.Outcome.{End, good, fails, too_deep, States}
 use Rattle.upon_meaning_spec.specs.RenderFaults.{IsStated, not_in_scope, not_in_map, out_of_bounds, no_index_access, no_key_access, index_into_string, integer_index, index_into, value_refused, not_iterable, list_item_into_two, map_item_into_one, unknown_callable, unknown_function, formatter_found, formatter_expects, function_expects, wrong_type, out_of_range, declined, no_argument, formatter_refused, default_refused, template_refused, EndStated, Anywhere}
 use Rattle.upon_meaning_spec.proofs.FaultsStated.Ends.{end_stated}
@@ -26,7 +26,7 @@ or_this t (Some u) = u
 abbrev always : {T : Type 0} → Table → Template → Resolver T
 always table t q name = reply (says (or_this t (table name))) q
 
-always_answers : {T : Type 0} (table : Table) (t : Template) → Answers {T = T} table (always table t)
+always_answers : {T : Type 0} (table : Table) (t : Template) → AnswersTable {T = T} table (always table t)
 always_answers table t q name u e = ap (λ o. reply (says (or_this t o)) q) e
 
 not_refused : {A : Type 0} (a : A) (text : List ℕ) → says a ≡ refuses text → ⊥

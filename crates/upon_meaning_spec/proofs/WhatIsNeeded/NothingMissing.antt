@@ -10,10 +10,10 @@ use Rattle.upon_meaning_spec.proofs.Reached.{table_hands_on, closed_any}
 use Rattle.upon_meaning_spec.proofs.SameIncludes.{same_included}
 use Rattle.upon_meaning_spec.proofs.SameLookups.{Any}
 use Rattle.upon_meaning_spec.proofs.SameMeaning.{same_statements}
-use Rattle.upon_meaning_spec.specs.Missing.{NothingMissing, Answers}
+use Rattle.upon_meaning_spec.specs.Missing.{NothingMissing, AnswersTable}
 
 module _ {V T : Type 0} (calls : Calls V) (table : Table) (resolve : Resolver T) (template : Template) (name : Option (List ℕ)) (limit : ℕ) (root : Root) where
-  pub same_with : (s : States V T) → NothingMissing table template.tree → Answers table resolve →
+  pub same_with : (s : States V T) → NothingMissing table template.tree → AnswersTable table resolve →
       alone (record { calls = calls; resolve = from_table table; limit = limit }) template name root s ≡ alone (record { calls = calls; resolve = resolve; limit = limit }) template name root s
   same_with s none answers =
       let left = includes_left limit in

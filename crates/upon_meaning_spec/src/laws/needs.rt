@@ -6,7 +6,7 @@ ghost use Rattle.upon_render.specs.Environment.{Root, context, value_source};
 ghost use Rattle.upon_render.specs.Source.{Source};
 ghost use Rattle.upon_meaning_spec.specs.Alone.{alone};
 ghost use Rattle.upon_meaning_spec.specs.Engine.{Engine, Template, Table, Calls, Resolver, from_table, rendering_of};
-ghost use Rattle.upon_meaning_spec.specs.Missing.{NothingMissing, Answers, EndsUnknown};
+ghost use Rattle.upon_meaning_spec.specs.Missing.{NothingMissing, AnswersTable, EndsUnknown};
 ghost use Rattle.upon_meaning_spec.specs.Names.{AgreeOn, Reads};
 ghost use Rattle.upon_meaning_spec.specs.Needs.{NeedsName, AgreeForNeeds};
 ghost use Rattle.upon_meaning_spec.specs.Outcome.{States};
@@ -54,7 +54,7 @@ pub fn needed_is_read()
 pub fn nothing_missing<V, T>()
     ensures { (calls : Calls V) (table : Table) (resolve : Resolver T) (limit : ℕ) (template : Template)
         (name : Option (List ℕ)) (root : Root) (states : States V T)
-        → NothingMissing table template.tree → Answers table resolve
+        → NothingMissing table template.tree → AnswersTable table resolve
         → alone (record { calls = calls; resolve = from_table table; limit = limit }) template name root states
         ≡ alone (record { calls = calls; resolve = resolve; limit = limit }) template name root states }
 {}

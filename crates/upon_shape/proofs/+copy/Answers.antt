@@ -1,6 +1,6 @@
 use Rattle.std.proofs.Common.{Some, ap, sym, ◌∙◌}
 use Rattle.upon_shape_spec.specs.Shape.{maps_of, one_of}
-use Rattle.upon_shape.specs.View.{keys_view, lists_view, plain_view, view}
+use Rattle.upon_shape.specs.View.{keys_view, lists_view, plain_view, shape_view}
 use Rattle.upon_shape.specs.declared.shape.Shape.{OneOf}
 use Rattle.upon_shape.proofs.ShapeViews.{view-OneOf}
 use Rattle.upon_shape.proofs.+copy.Goals as goal
@@ -13,4 +13,4 @@ shape::Shape::try_clone-returns-in_ok-try_clone-in-Some t c =
     view-OneOf p c.in_ok-copy_of_items-in-Some.field-0 (Some keys)
     ∙ (ap (λ l. one_of (plain_view p) l (maps_of (keys_view keys))) c.in_ok-copy_of_items-in-Some.ensures
     ∙ (ap (λ ks. one_of (plain_view p) (lists_view items) (maps_of ks)) c.in_ok-try_clone-in-Some.ensures
-    ∙ sym (ap view c.in-OneOf.is ∙ (ap (λ m. view (OneOf p items m)) c.in-Some.is ∙ view-OneOf p items (Some c.in-Some.keys)))))
+    ∙ sym (ap shape_view c.in-OneOf.is ∙ (ap (λ m. shape_view (OneOf p items m)) c.in-Some.is ∙ view-OneOf p items (Some c.in-Some.keys)))))

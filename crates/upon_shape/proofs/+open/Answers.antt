@@ -1,7 +1,7 @@
 use Rattle.std.proofs.Common.{◌≡◌, List, refl, sym, ap, ◌∙◌, ◌+◌, ◌++◌, ◌∷◌, [], drop}
 use Rattle.upon_shape_spec.specs.Join.{opened_keys, opened_maps}
 use Rattle.upon_shape_spec.specs.Shape.{Shape as SpecShape, any_shape, any_others, other_keys, maps_of}
-use Rattle.upon_shape.specs.View.{view, ahead, maps_view}
+use Rattle.upon_shape.specs.View.{shape_view, ahead, maps_view}
 use Rattle.upon_shape.specs.declared.shape.Key.{Key}
 use Rattle.upon_shape.specs.declared.shape.Shape.{Shape}
 use Rattle.upon_shape.proofs.MoreSteps.{open_pushed, open_done, opened-others}
@@ -23,8 +23,8 @@ open::opened_keys-returns t c =
     let named = c.loop-key.named.items in
     let ys = c.deref-key-items.result.now in
     let keys = c.in-Some.keys in
-    ap (λ (s : SpecShape). maps_of (ahead named (other_keys s))) (ap view c.in_ok-new.ensures.ok ∙ view-Any)
+    ap (λ (s : SpecShape). maps_of (ahead named (other_keys s))) (ap shape_view c.in_ok-new.ensures.ok ∙ view-Any)
     ∙ ap maps_of (open_done ys c.loop-key.key-index any_shape named (opened_keys (ahead ys any_others)) c.loop-key-test.false c.loop-key.invariant
     ∙ ap (λ (ks : List (Key Shape)). opened_keys (ahead ks any_others)) c.deref-key-items.ensures.value
-    ∙ opened-others keys.named.items any_shape (view keys.others.value))
+    ∙ opened-others keys.named.items any_shape (shape_view keys.others.value))
     ∙ (λ j. opened_maps (maps_view (sym c.in-Some.is j)))

@@ -3,7 +3,7 @@ use Rattle.std.proofs.Common.{◌≡◌, pos, [], ◌∷◌, true, false, codes,
 use Rattle.upon_types.specs.Val.{Val, none_val, bool_val, int_val, text_val}
 use Rattle.upon_shape_spec.specs.Fits.{Fits, MapsRise}
 use Rattle.upon_shape_spec.specs.Join.{shape_of, samples_shape, opened}
-use Rattle.upon_shape_spec.specs.Shape.{Shape, any_shape, never, none_shape, truth_shape, integer_shape, text_shape, shown, optional, list_of, map_of, map_each, no_others, any_others}
+use Rattle.upon_shape_spec.specs.Shape.{Shape, any_shape, never, none_shape, truth_shape, integer_shape, text_shape, shown_values, optional, list_of, map_of, map_each, no_others, any_others}
 use Rattle.upon_shape_spec.specs.Wider.{wider}
 use Rattle.upon_shape_spec.proofs.Joins.{own_fits}
 use Rattle.upon_shape_spec.proofs.Widths.{wider_fits}
@@ -34,10 +34,10 @@ no_integer h = cc
 a_text : Fits text_shape (text_val (codes "a"))
 a_text = refl
 
-shown_text : Fits shown (text_val (codes "a"))
+shown_text : Fits shown_values (text_val (codes "a"))
 shown_text = refl
 
-no_list_is_shown : Fits shown (list_value []) → ⊥
+no_list_is_shown : Fits shown_values (list_value []) → ⊥
 no_list_is_shown h = h
 
 maybe_a_list : Fits (optional (list_of text_shape)) none_val

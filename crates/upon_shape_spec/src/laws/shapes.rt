@@ -7,7 +7,7 @@ ghost use Rattle.upon_render.specs.Walk.{walk};
 ghost use Rattle.upon_meaning_spec.specs.MapOrder.{IsAmong};
 ghost use Rattle.upon_shape_spec.specs.Fits.{Fits, MapsRise};
 ghost use Rattle.upon_shape_spec.specs.Found.{Finds, FindsShape};
-ghost use Rattle.upon_shape_spec.specs.Join.{join, shape_of, samples_shape, opened};
+ghost use Rattle.upon_shape_spec.specs.Join.{join_shapes, shape_of, samples_shape, opened};
 ghost use Rattle.upon_shape_spec.specs.Narrowed.{narrowed};
 ghost use Rattle.upon_shape_spec.specs.Paths.{walk_shape};
 ghost use Rattle.upon_shape_spec.specs.Shape.{Shape};
@@ -25,13 +25,13 @@ pub fn wider_fits()
 
 /// States that what fits one of two shapes fits both joined, which is the narrowest shape that is as wide as each.
 pub fn joined_fits()
-    ensures of_first { (s t : Shape) (v : Val) → Fits s v → Fits (join s t) v }
+    ensures of_first { (s t : Shape) (v : Val) → Fits s v → Fits (join_shapes s t) v }
 
-    ensures of_second { (s t : Shape) (v : Val) → Fits t v → Fits (join s t) v }
+    ensures of_second { (s t : Shape) (v : Val) → Fits t v → Fits (join_shapes s t) v }
 
-    ensures as_wide { (s t : Shape) → IsTrue (wider (join s t) s) × IsTrue (wider (join s t) t) }
+    ensures as_wide { (s t : Shape) → IsTrue (wider (join_shapes s t) s) × IsTrue (wider (join_shapes s t) t) }
 
-    ensures narrowest { (s t u : Shape) → IsTrue (wider u s) → IsTrue (wider u t) → IsTrue (wider u (join s t)) }
+    ensures narrowest { (s t u : Shape) → IsTrue (wider u s) → IsTrue (wider u t) → IsTrue (wider u (join_shapes s t)) }
 {}
 
 /// States that a value fits its own shape, if the keys of its maps are in their order, as those of each value of a

@@ -38,7 +38,7 @@ pub struct Parser<'a> {
 }
 
 impl<'a> Parser<'a> {
-    ghost use Rattle.upon_syntax.specs.Parsed.{source_of, syntax_of, IsProgramOf};
+    ghost use Rattle.upon_syntax.specs.Parsed.{source_of, syntax_of, IsParsedProgram};
 
     /// Creates a parser for a text, over the delimiters of a searcher.
     pub fn new(alloc: Global, searcher: &'a Searcher, source: &'a str) -> Parser<'a>
@@ -55,7 +55,8 @@ impl<'a> Parser<'a> {
     /// Returns the program of the text's tree. A text that has none is refused: the error reports its first fault, at
     /// its span. If memory is out, the error says that.
     pub fn compile_template(self) -> Result<Vec<Instr>>
-        ensures program { IfOk result (λ code. IsProgramOf (syntax_of self.entry) (source_of self.entry) code.items) }
+        ensures program { IfOk result (λ code. IsParsedProgram (syntax_of self.entry) (source_of self.entry)
+            code.items) }
         ensures only_tree { IfOk result
             (λ code. (tree : Statements)
             → HasTree (syntax_of self.entry) (source_of self.entry) tree → program_view code.items ≡ program_of tree) }

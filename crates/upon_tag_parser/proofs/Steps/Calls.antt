@@ -21,7 +21,7 @@ use Rattle.upon_tag_parser.specs.TagTokens.{lexemes_of}
 use Rattle.upon_tag_parser.specs.Wants.{wanted_of}
 use Rattle.upon_tag_parser.specs.TagParsing.{IsRefused}
 use Rattle.upon_tag_parser.specs.PartReadings.{bases_before}
-use Rattle.upon_tag_parser.specs.Brackets.{Place, CallTo, BaseRead, IsGiven, StuckFrom, awaited}
+use Rattle.upon_tag_parser.specs.Brackets.{Place, CallTo, BaseRead, IsBaseGiven, StuckFrom, awaited}
 use Rattle.upon_tag_parser.proofs.Stuck.{stuck_then}
 use Rattle.upon_tag_parser.proofs.Calls.{args_start, args_comma, args_last, call_reads, empty_call_reads, call_stuck, count_bases-push, bases_code-push}
 use Rattle.upon_tag_parser.proofs.Stack.{call_leads}
@@ -50,7 +50,7 @@ call_empty s name before paren here there span closing named opens closes is cod
   is_at = refl;
 }
 
-module _ (s : List ℕ) (applied : Applied) (whole : Bool) (span : Span) (from here : Place) (given : IsGiven s whole (opened.Call applied) span from here) where
+module _ (s : List ℕ) (applied : Applied) (whole : Bool) (span : Span) (from here : Place) (given : IsBaseGiven s whole (opened.Call applied) span from here) where
   -- the arguments so far
   abbrev bases : Bases
   bases = bases_before (given.around.values ++ given.read.tree ∷ []) no_bases
@@ -91,7 +91,7 @@ module _ (s : List ℕ) (applied : Applied) (whole : Bool) (span : Span) (from h
       }
 
 -- neither a comma nor the closing parenthesis after an argument
-pub argument_stuck : (s : List ℕ) (applied : Applied) (whole : Bool) (span : Span) (from : Place) (code : List Instr) (tokens left : List Lexed) (want : Want) → IsGiven s whole (opened.Call applied) span from (record { tokens = lexemes_of tokens; code = code }) → No Comma (lexemes_of tokens) → IsRefused CloseParen WantCloseParen tokens want left → StuckFrom s whole from.tokens want left
+pub argument_stuck : (s : List ℕ) (applied : Applied) (whole : Bool) (span : Span) (from : Place) (code : List Instr) (tokens left : List Lexed) (want : Want) → IsBaseGiven s whole (opened.Call applied) span from (record { tokens = lexemes_of tokens; code = code }) → No Comma (lexemes_of tokens) → IsRefused CloseParen WantCloseParen tokens want left → StuckFrom s whole from.tokens want left
 argument_stuck s applied whole span from code tokens left want given none refused a ps starts =
     let h = given.around in
     let others = awaited whole ps in

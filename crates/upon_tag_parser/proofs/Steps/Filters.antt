@@ -23,7 +23,7 @@ use Rattle.upon_tag_parser.specs.TagTokens.{lexemes_of}
 use Rattle.upon_tag_parser.specs.Wants.{wanted_of}
 use Rattle.upon_tag_parser.specs.TagParsing.{IsRefused}
 use Rattle.upon_tag_parser.specs.PartReadings.{bases_before}
-use Rattle.upon_tag_parser.specs.Brackets.{Place, BaseRead, PartRead, ExpressionRead, PartStart, FilterTo, IsGiven, StuckFrom, awaited}
+use Rattle.upon_tag_parser.specs.Brackets.{Place, BaseRead, PartRead, ExpressionRead, PartStart, FilterTo, IsBaseGiven, StuckFrom, awaited}
 use Rattle.upon_tag_parser.proofs.Stuck.{stuck_then}
 use Rattle.upon_tag_parser.proofs.Bases.{span_is}
 use Rattle.upon_tag_parser.proofs.Calls.{args_start, args_comma, args_last, last_end-push, count_bases-push, bases_code-push}
@@ -102,7 +102,7 @@ module _ (s : List ℕ) where
     code = code ∙ sym (append-nil here.code);
   }
 
-module _ (s : List ℕ) (receiver : Receiver) (applied : Applied) (whole : Bool) (span : Span) (from here : Place) (given : IsGiven s whole (opened.Filter receiver applied) span from here) where
+module _ (s : List ℕ) (receiver : Receiver) (applied : Applied) (whole : Bool) (span : Span) (from here : Place) (given : IsBaseGiven s whole (opened.Filter receiver applied) span from here) where
   -- the arguments so far
   abbrev bases : Bases
   bases = bases_before (given.around.values ++ given.read.tree ∷ []) no_bases

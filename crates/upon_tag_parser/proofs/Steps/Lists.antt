@@ -19,7 +19,7 @@ use Rattle.upon_tag_parser.specs.TagTokens.{lexemes_of}
 use Rattle.upon_tag_parser.specs.Wants.{wanted_of}
 use Rattle.upon_tag_parser.specs.TagParsing.{IsRefused}
 use Rattle.upon_tag_parser.specs.PartReadings.{bases_before}
-use Rattle.upon_tag_parser.specs.Brackets.{Place, ListTo, BaseRead, IsGiven, StuckFrom, awaited}
+use Rattle.upon_tag_parser.specs.Brackets.{Place, ListTo, BaseRead, IsBaseGiven, StuckFrom, awaited}
 use Rattle.upon_tag_parser.proofs.Stuck.{stuck_then}
 use Rattle.upon_tag_parser.proofs.Lists.{items_start, items_comma, list_closed, list_last, list_stuck, list_code-push}
 use Rattle.upon_tag_parser.proofs.Steps.Grown.{replaced, grown}
@@ -41,7 +41,7 @@ module _ (s : List ℕ) (start : Beginning) where
         is_at = is;
       }
 
-  module _ (whole : Bool) (span : Span) (from here : Place) (given : IsGiven s whole (opened.List start) span from here) where
+  module _ (whole : Bool) (span : Span) (from here : Place) (given : IsBaseGiven s whole (opened.List start) span from here) where
     grows : (pushed : List Instr) → pushed ≡ here.code ++ expr_list_push ∷ [] → pushed ≡ from.code ++ expr_start_list given.around.0.span ∷ list_code (bases_before (given.around.0.items ++ given.read.tree ∷ []) no_bases)
     grows pushed code =
         let h = given.around.0 in
@@ -75,7 +75,7 @@ module _ (s : List ℕ) (start : Beginning) where
         }
 
 -- neither a comma nor the closing bracket after an item
-pub item_stuck : (s : List ℕ) (start : Beginning) (whole : Bool) (span : Span) (from : Place) (code : List Instr) (tokens left : List Lexed) (want : Want) → IsGiven s whole (opened.List start) span from (record { tokens = lexemes_of tokens; code = code }) → No Comma (lexemes_of tokens) → IsRefused CloseBracket WantCloseBracket tokens want left → StuckFrom s whole from.tokens want left
+pub item_stuck : (s : List ℕ) (start : Beginning) (whole : Bool) (span : Span) (from : Place) (code : List Instr) (tokens left : List Lexed) (want : Want) → IsBaseGiven s whole (opened.List start) span from (record { tokens = lexemes_of tokens; code = code }) → No Comma (lexemes_of tokens) → IsRefused CloseBracket WantCloseBracket tokens want left → StuckFrom s whole from.tokens want left
 item_stuck s start whole span from code tokens left want given none refused a ps starts =
     let h = given.around.0 in
     let others = awaited whole ps in

@@ -21,7 +21,7 @@ use Rattle.upon_tag_parser.specs.TagTokens.{lexemes_of}
 use Rattle.upon_tag_parser.specs.Wants.{wanted_of}
 use Rattle.upon_tag_parser.specs.TagParsing.{IsRefused, StuckAt}
 use Rattle.upon_tag_parser.specs.PartReadings.{entries_before}
-use Rattle.upon_tag_parser.specs.Brackets.{Place, MapTo, BaseRead, IsGiven, StuckFrom, awaited}
+use Rattle.upon_tag_parser.specs.Brackets.{Place, MapTo, BaseRead, IsBaseGiven, StuckFrom, awaited}
 use Rattle.upon_tag_parser.proofs.Stuck.{stuck_then}
 use Rattle.upon_tag_parser.proofs.Maps.{ReadsItem, entries_start, entries_comma, map_closed, map_last, map_stuck, map_code-push}
 use Rattle.upon_tag_parser.proofs.Steps.Grown.{replaced, grown}
@@ -49,7 +49,7 @@ module _ (s : List ℕ) (start : Beginning) where
       let others = awaited whole ps in
       stuck_then s a (map_start ∷ others) from.tokens here.tokens (lexemes_of left) (wanted_of want) (leads_then s (leads_token s (start.opening, h.opens) (λ k. starts.takes OpenBrace k)) (h.reads.leads others)) (f others)
 
-  module _ (key : Quoted) (whole : Bool) (span : Span) (from here : Place) (given : IsGiven s whole (opened.Map start key) span from here) where
+  module _ (key : Quoted) (whole : Bool) (span : Span) (from here : Place) (given : IsBaseGiven s whole (opened.Map start key) span from here) where
     -- the entry that was read
     entry : ReadsItem s (string_of key) given.read.tree given.around.mid.tokens here.tokens
     entry = record { colon = given.around.colon; start = given.mid.tokens; reads_key = given.around.reads_key; reads_colon = given.around.reads_colon; reads_value = given.read.reads }
@@ -87,7 +87,7 @@ module _ (s : List ℕ) (start : Beginning) where
         }
 
 -- neither a comma nor the closing brace after an entry
-pub entry_stuck : (s : List ℕ) (start : Beginning) (key : Quoted) (whole : Bool) (span : Span) (from : Place) (code : List Instr) (tokens left : List Lexed) (want : Want) → IsGiven s whole (opened.Map start key) span from (record { tokens = lexemes_of tokens; code = code }) → No Comma (lexemes_of tokens) → IsRefused CloseBrace WantCloseBrace tokens want left → StuckFrom s whole from.tokens want left
+pub entry_stuck : (s : List ℕ) (start : Beginning) (key : Quoted) (whole : Bool) (span : Span) (from : Place) (code : List Instr) (tokens left : List Lexed) (want : Want) → IsBaseGiven s whole (opened.Map start key) span from (record { tokens = lexemes_of tokens; code = code }) → No Comma (lexemes_of tokens) → IsRefused CloseBrace WantCloseBrace tokens want left → StuckFrom s whole from.tokens want left
 entry_stuck s start key whole span from code tokens left want given none refused a ps starts =
     let h = given.around.before in
     let others = awaited whole ps in

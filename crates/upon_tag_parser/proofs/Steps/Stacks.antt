@@ -12,7 +12,7 @@ use Rattle.upon_tag_parser.specs.declared.compile.parse.brackets.Step.{Step}
 use Rattle.upon_tag_parser.specs.declared.compile.parse.brackets.Step.TheVariants as stepped
 use Rattle.upon_tag_parser.specs.PartReadings.{bases_before, entries_before}
 use Rattle.upon_types.specs.Expression.{no_items}
-use Rattle.upon_tag_parser.specs.Brackets.{Place, BaseRead, ExpressionRead, AreOpen, IsStep, AreRead, IsGiven, Fits, is_whole, StuckFrom, PartGoesOn, PartStuck, OpenGoesOnAt, OpenStuckAt}
+use Rattle.upon_tag_parser.specs.Brackets.{Place, BaseRead, ExpressionRead, AreOpen, IsStep, AreRead, IsBaseGiven, HasInstructions, is_whole, StuckFrom, PartGoesOn, PartStuck, OpenGoesOnAt, OpenStuckAt}
 use Rattle.upon_tag_parser.proofs.Shown.{base_code-some}
 use Rattle.upon_tag_parser.proofs.Stack.{around_stuck, around_push, around_pop, whole_alone}
 use Rattle.upon_tag_parser.proofs.Steps.Filters.{part_of_base}
@@ -31,7 +31,7 @@ count_fits : (n : ℕ) (bases : Bases) (from made mid here : List Instr) → n �
 count_fits n bases from made mid here at a b =
     omega (arith, at, bases_code-some bases, ap length a, ap length b, length-append from (bases_code bases), length-append mid made)
 
-pub open_fits : (s : List ℕ) (whole : Bool) (top : Open) (span : Span) (from here : Place) → IsGiven s whole top span from here → Fits top (length here.code)
+pub open_fits : (s : List ℕ) (whole : Bool) (top : Open) (span : Span) (from here : Place) → IsBaseGiven s whole top span from here → HasInstructions top (length here.code)
 open_fits s whole (opened.List start) span from here g =
     let h = g.around.0 in
     number_fits start.at from.code (list_code (bases_before h.items no_bases)) (base_code g.read.tree) g.mid.code here.code (expr_start_list h.span) h.number h.code g.read.code
@@ -63,7 +63,7 @@ module _ (s : List ℕ) where
   pub record LastGiven (rest : List Open) (top : Open) (span : Span) (from here : Place) : Type 0 where
     pub mid : Place
     pub around : AreOpen s true rest from mid
-    pub given : IsGiven s (is_whole true rest) top span mid here
+    pub given : IsBaseGiven s (is_whole true rest) top span mid here
 
   pub last_given : (old rest : List Open) (top : Open) (span : Span) (from here : Place) → old ≡ rest ++ top ∷ [] → AreRead s old (stepped.Base span) from here → LastGiven rest top span from here
   last_given old rest top span from here e h =

@@ -3,7 +3,7 @@ ghost use Rattle.std.specs.Prelude.{◌≡◌, map, IsTrue};
 ghost use Rattle.upon_types.specs.AstPath.{member_of, loop_vars_of};
 ghost use Rattle.upon_types.specs.Span.{LiesIn};
 ghost use Rattle.upon_render.specs.Loop.{names_span};
-ghost use Rattle.upon_render.specs.PathSpans.{StepsLieIn};
+ghost use Rattle.upon_render.specs.PathSpans.{MembersLieIn};
 
 use std::alloc::{AllocError, Global};
 use std::collections::BTreeMap;
@@ -106,7 +106,7 @@ fn lies_in(source: &str, span: Span) -> bool
 }
 
 pub fn all_lie_in(source: &str, path: &[Member]) -> bool
-    ensures { IsTrue result → StepsLieIn source.now (map member_of path.now) }
+    ensures { IsTrue result → MembersLieIn source.now (map member_of path.now) }
 {
     match path {
         [] => true,

@@ -1,7 +1,7 @@
 use Rattle.std.proofs.Common.{sym, ap, subst, ◌∙◌}
 use Rattle.upon_shape_spec.specs.Scope.{Scope, scope_over}
 use Rattle.upon_shape_spec.specs.Shape.{Shape}
-use Rattle.upon_shape.specs.View.{view}
+use Rattle.upon_shape.specs.View.{shape_view}
 use Rattle.upon_checked.specs.Callables.{declared_view}
 use Rattle.upon_checked.specs.Plan.{plan_view}
 use Rattle.upon_engine.specs.Engine.{engine_templates}
@@ -19,7 +19,7 @@ returns-then-is_empty-clause-unless_deep g c =
     let misfits = c.in_ok-misfits.misfits in
     let none = none_left misfits.items misfits.len misfits.ok.0 (sym c.is_empty.ensures ∙ c.if-is_empty.true) in
     let same = c.over-scope.ensures ∙ ap (λ (s : Shape). scope_over s) c.in_ok-try_clone.ensures in
-    ends_on _ _ c.args.engine.now declared plan c.args.name.now (view c.args.shape.now)
+    ends_on _ _ c.args.engine.now declared plan c.args.name.now (shape_view c.args.shape.now)
     (subst (λ (s : Scope). IsAcceptedBy declared table plan (record { name = c.args.name.now; scope = s })) same
     (c.in_ok-misfits.ensures.accepted none))
     (c.in_ok-misfits.ensures.closed none)
@@ -30,6 +30,6 @@ returns-then-is_empty-clause-within g c =
     let table = engine_templates c.args.engine.now in
     let accepted = c.in_ok-accepted.accepted in
     let same = c.over-scope.ensures ∙ ap (λ (s : Shape). scope_over s) c.in_ok-try_clone.ensures in
-    ends_as _ _ c.args.engine.now declared c.args.name.now (view c.args.shape.now) accepted
+    ends_as _ _ c.args.engine.now declared c.args.name.now (shape_view c.args.shape.now) accepted
     (subst (λ (s : Scope). IsAcceptedAs declared table (record { name = c.args.name.now; scope = s }) accepted) same
     c.in_ok-accepted.ensures)

@@ -1,7 +1,7 @@
 use Rattle.std.proofs.Common.{codes, option_map, subst}
 use Rattle.upon_types.specs.Val.{key_of}
 use Rattle.upon_types.specs.View.{view}
-use Rattle.upon_shape.specs.View.{view as shape_view}
+use Rattle.upon_shape.specs.View.{shape_view}
 use Rattle.upon_calls.specs.Contexts.{AsksNoCheck, IsShapeBy}
 use Rattle.upon_calls.specs.Failure.{RefusedIf}
 use Rattle.upon_calls.specs.declared.failure.Argument.TheVariants.{Options}

@@ -1,5 +1,5 @@
 use Rattle.std.proofs.Common.{ℕ, List}
-use Rattle.upon_shape.specs.View.{view}
+use Rattle.upon_shape.specs.View.{shape_view}
 use Rattle.upon_checked.specs.Callables.{declared_view}
 use Rattle.upon_engine.specs.Texts.{texts_of}
 use Rattle.upon_accepts.specs.EndsOn.{EndsOn}
@@ -8,13 +8,13 @@ use Rattle.upon_calls.proofs.misfits.misfits.Goals as goal
 
 pub loop-name-init : goal.loop-name-init
 loop-name-init g c = λ empty.
-    no_name_yet (λ name. EndsOn (texts_of (λ f. (g.dyn-1.0.entry f.vtable).1.formats f.value) (λ f. (g.dyn-2.0.entry f.vtable).1.answers f.value) c.args.engine.now) (declared_view c.args.pages.declared.now) name (view c.args.pages.shape.now)) c.args.pages.names.now
+    no_name_yet (λ name. EndsOn (texts_of (λ f. (g.dyn-1.0.entry f.vtable).1.formats f.value) (λ f. (g.dyn-2.0.entry f.vtable).1.answers f.value) c.args.engine.now) (declared_view c.args.pages.declared.now) name (shape_view c.args.pages.shape.now)) c.args.pages.names.now
 
 pub loop-name-preserved : goal.loop-name-preserved
 loop-name-preserved g c = λ empty.
     let both = c.in_ok-show_page.ensures empty in
-    name_holds (λ name. EndsOn (texts_of (λ f. (g.dyn-1.0.entry f.vtable).1.formats f.value) (λ f. (g.dyn-2.0.entry f.vtable).1.answers f.value) c.args.engine.now) (declared_view c.args.pages.declared.now) name (view c.args.pages.shape.now)) c.args.pages.names.now c.loop-name.name-index _ c.loop-name-test.true (c.loop-name.invariant both.0) both.1
+    name_holds (λ name. EndsOn (texts_of (λ f. (g.dyn-1.0.entry f.vtable).1.formats f.value) (λ f. (g.dyn-2.0.entry f.vtable).1.answers f.value) c.args.engine.now) (declared_view c.args.pages.declared.now) name (shape_view c.args.pages.shape.now)) c.args.pages.names.now c.loop-name.name-index _ c.loop-name-test.true (c.loop-name.invariant both.0) both.1
 
 pub returns-clause-fits : goal.returns-clause-fits
 returns-clause-fits g c = λ empty.
-    each_name_holds (λ name. EndsOn (texts_of (λ f. (g.dyn-1.0.entry f.vtable).1.formats f.value) (λ f. (g.dyn-2.0.entry f.vtable).1.answers f.value) c.args.engine.now) (declared_view c.args.pages.declared.now) name (view c.args.pages.shape.now)) c.args.pages.names.now c.loop-name.name-index c.loop-name-test.false (c.loop-name.invariant empty)
+    each_name_holds (λ name. EndsOn (texts_of (λ f. (g.dyn-1.0.entry f.vtable).1.formats f.value) (λ f. (g.dyn-2.0.entry f.vtable).1.answers f.value) c.args.engine.now) (declared_view c.args.pages.declared.now) name (shape_view c.args.pages.shape.now)) c.args.pages.names.now c.loop-name.name-index c.loop-name-test.false (c.loop-name.invariant empty)

@@ -1,6 +1,6 @@
 use Rattle.std.proofs.Common.{◌≡◌, [], string_bytes, take}
 use Rattle.std.specs.Prelude.{All}
-use Rattle.upon_shape.specs.View.{view}
+use Rattle.upon_shape.specs.View.{shape_view}
 use Rattle.upon_checked.specs.Callables.{declared_view}
 use Rattle.upon_engine.specs.Names.{texts}
 use Rattle.upon_engine.specs.Texts.{texts_of}
@@ -9,4 +9,4 @@ use Rattle.upon_calls.proofs.misfits.misfits.Given as goal
 
 -- if there is no picture, each page so far ends
 abbrev pub invariant-loop-name : goal.invariant-loop-name
-invariant-loop-name g l = string_bytes l.pictures.text ≡ [] → All (λ name. EndsOn (texts_of (λ f. (g.dyn-1.0.entry f.vtable).1.formats f.value) (λ f. (g.dyn-2.0.entry f.vtable).1.answers f.value) l.fn.engine) (declared_view l.fn.pages.declared.now) name (view l.fn.pages.shape.now)) (texts (take l.name-index l.fn.pages.names.now))
+invariant-loop-name g l = string_bytes l.pictures.text ≡ [] → All (λ name. EndsOn (texts_of (λ f. (g.dyn-1.0.entry f.vtable).1.formats f.value) (λ f. (g.dyn-2.0.entry f.vtable).1.answers f.value) l.fn.engine) (declared_view l.fn.pages.declared.now) name (shape_view l.fn.pages.shape.now)) (texts (take l.name-index l.fn.pages.names.now))

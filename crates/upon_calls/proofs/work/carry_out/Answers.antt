@@ -5,7 +5,7 @@ use Rattle.upon_engine.specs.Texts.{texts_of}
 use Rattle.upon_engine.proofs.Boxed.{boxed_reads}
 use Rattle.upon_std.specs.Table.{standard_answer}
 use Rattle.upon_calls.specs.Asked.{asked_by}
-use Rattle.upon_calls.specs.Escaping.{format_for}
+use Rattle.upon_calls.specs.Escaping.{language_format}
 use Rattle.upon_calls.specs.Filled.{engine_for, escaping_engine, filled, with_sources}
 use Rattle.upon_calls.specs.Rendering.{IsFirstOfOne}
 use Rattle.upon_calls.specs.Templates.{lent_pairs}
@@ -27,7 +27,7 @@ loop-name-preserved c =
 pub returns-in-Err-clause-fails : goal.returns-in-Err-clause-fails
 returns-in-Err-clause-fails c =
     let start : texts_of (λ f. (own-1.entry f.vtable).1.formats f.value) (λ f. (own-2.entry f.vtable).1.answers f.value) c.match-escape.engine ≡ escaping_engine c.args.options.escape = elim c.match-escape.branch [
-      | in-Some+in_ok-new+in_ok-add_formatter+in_ok-new-2 w ↦ ap (λ x. texts_of (λ f. (own-1.entry f.vtable).1.formats f.value) (λ f. (own-2.entry f.vtable).1.answers f.value) x) w.engine-is ∙ with_language _ _ _ _ _ c.args.options.escape w.in-Some.language w.in-Some.is c.new-engine.ensures w.in_ok-add_formatter.ensures.engine (boxed_reads own-1 at-1-1 _ (λ j v. j.1.formats v) _ _ _ w.into_dyn_box.ensures.1) w.set_default_formatter.ensures (boxed_reads own-1 at-1-2 _ (λ j v. j.1.formats v) _ _ _ w.into_dyn_box-in_ok-new-2.ensures.1 ∙ ap (λ e. format_for e.language) w.in_ok-new-2.ensures.ok)
+      | in-Some+in_ok-new+in_ok-add_formatter+in_ok-new-2 w ↦ ap (λ x. texts_of (λ f. (own-1.entry f.vtable).1.formats f.value) (λ f. (own-2.entry f.vtable).1.answers f.value) x) w.engine-is ∙ with_language _ _ _ _ _ c.args.options.escape w.in-Some.language w.in-Some.is c.new-engine.ensures w.in_ok-add_formatter.ensures.engine (boxed_reads own-1 at-1-1 _ (λ j v. j.1.formats v) _ _ _ w.into_dyn_box.ensures.1) w.set_default_formatter.ensures (boxed_reads own-1 at-1-2 _ (λ j v. j.1.formats v) _ _ _ w.into_dyn_box-in_ok-new-2.ensures.1 ∙ ap (λ e. language_format e.language) w.in_ok-new-2.ensures.ok)
       | in_default w ↦ ap (λ x. texts_of (λ f. (own-1.entry f.vtable).1.formats f.value) (λ f. (own-2.entry f.vtable).1.answers f.value) x) w.engine-is ∙ without_language _ c.args.options.escape w.in_default.is c.new-engine.ensures
     ] in
     let asked = asked_by c.args.options in
@@ -39,7 +39,7 @@ returns-in-Err-clause-fails c =
 pub returns-clause-gives : goal.returns-clause-gives
 returns-clause-gives c =
     let start : texts_of (λ f. (own-1.entry f.vtable).1.formats f.value) (λ f. (own-2.entry f.vtable).1.answers f.value) c.match-escape.engine ≡ escaping_engine c.args.options.escape = elim c.match-escape.branch [
-      | in-Some+in_ok-new+in_ok-add_formatter+in_ok-new-2 w ↦ ap (λ x. texts_of (λ f. (own-1.entry f.vtable).1.formats f.value) (λ f. (own-2.entry f.vtable).1.answers f.value) x) w.engine-is ∙ with_language _ _ _ _ _ c.args.options.escape w.in-Some.language w.in-Some.is c.new-engine.ensures w.in_ok-add_formatter.ensures.engine (boxed_reads own-1 at-1-1 _ (λ j v. j.1.formats v) _ _ _ w.into_dyn_box.ensures.1) w.set_default_formatter.ensures (boxed_reads own-1 at-1-2 _ (λ j v. j.1.formats v) _ _ _ w.into_dyn_box-in_ok-new-2.ensures.1 ∙ ap (λ e. format_for e.language) w.in_ok-new-2.ensures.ok)
+      | in-Some+in_ok-new+in_ok-add_formatter+in_ok-new-2 w ↦ ap (λ x. texts_of (λ f. (own-1.entry f.vtable).1.formats f.value) (λ f. (own-2.entry f.vtable).1.answers f.value) x) w.engine-is ∙ with_language _ _ _ _ _ c.args.options.escape w.in-Some.language w.in-Some.is c.new-engine.ensures w.in_ok-add_formatter.ensures.engine (boxed_reads own-1 at-1-1 _ (λ j v. j.1.formats v) _ _ _ w.into_dyn_box.ensures.1) w.set_default_formatter.ensures (boxed_reads own-1 at-1-2 _ (λ j v. j.1.formats v) _ _ _ w.into_dyn_box-in_ok-new-2.ensures.1 ∙ ap (λ e. language_format e.language) w.in_ok-new-2.ensures.ok)
       | in_default w ↦ ap (λ x. texts_of (λ f. (own-1.entry f.vtable).1.formats f.value) (λ f. (own-2.entry f.vtable).1.answers f.value) x) w.engine-is ∙ without_language _ c.args.options.escape w.in_default.is c.new-engine.ensures
     ] in
     let asked = asked_by c.args.options in
@@ -50,7 +50,7 @@ returns-clause-gives c =
 pub returns-clause-fails : goal.returns-clause-fails
 returns-clause-fails c =
     let start : texts_of (λ f. (own-1.entry f.vtable).1.formats f.value) (λ f. (own-2.entry f.vtable).1.answers f.value) c.match-escape.engine ≡ escaping_engine c.args.options.escape = elim c.match-escape.branch [
-      | in-Some+in_ok-new+in_ok-add_formatter+in_ok-new-2 w ↦ ap (λ x. texts_of (λ f. (own-1.entry f.vtable).1.formats f.value) (λ f. (own-2.entry f.vtable).1.answers f.value) x) w.engine-is ∙ with_language _ _ _ _ _ c.args.options.escape w.in-Some.language w.in-Some.is c.new-engine.ensures w.in_ok-add_formatter.ensures.engine (boxed_reads own-1 at-1-1 _ (λ j v. j.1.formats v) _ _ _ w.into_dyn_box.ensures.1) w.set_default_formatter.ensures (boxed_reads own-1 at-1-2 _ (λ j v. j.1.formats v) _ _ _ w.into_dyn_box-in_ok-new-2.ensures.1 ∙ ap (λ e. format_for e.language) w.in_ok-new-2.ensures.ok)
+      | in-Some+in_ok-new+in_ok-add_formatter+in_ok-new-2 w ↦ ap (λ x. texts_of (λ f. (own-1.entry f.vtable).1.formats f.value) (λ f. (own-2.entry f.vtable).1.answers f.value) x) w.engine-is ∙ with_language _ _ _ _ _ c.args.options.escape w.in-Some.language w.in-Some.is c.new-engine.ensures w.in_ok-add_formatter.ensures.engine (boxed_reads own-1 at-1-1 _ (λ j v. j.1.formats v) _ _ _ w.into_dyn_box.ensures.1) w.set_default_formatter.ensures (boxed_reads own-1 at-1-2 _ (λ j v. j.1.formats v) _ _ _ w.into_dyn_box-in_ok-new-2.ensures.1 ∙ ap (λ e. language_format e.language) w.in_ok-new-2.ensures.ok)
       | in_default w ↦ ap (λ x. texts_of (λ f. (own-1.entry f.vtable).1.formats f.value) (λ f. (own-2.entry f.vtable).1.answers f.value) x) w.engine-is ∙ without_language _ c.args.options.escape w.in_default.is c.new-engine.ensures
     ] in
     let asked = asked_by c.args.options in

@@ -1,6 +1,6 @@
 use Rattle.std.proofs.Common.{◌≤◌, List, length, ap, ◌∙◌, sym, arith}
 use Rattle.upon_shape_spec.specs.Scope.{NameShape}
-use Rattle.upon_shape.specs.View.{view}
+use Rattle.upon_shape.specs.View.{shape_view}
 use Rattle.upon_checked.specs.Scope.{bound_view, name_view, names_view, scope_view}
 use Rattle.upon_checked.specs.Undo.{undone}
 use Rattle.upon_checked.proofs.Names.{bound_at-beyond, scope_of}
@@ -14,4 +14,4 @@ returns-else-depth-len c =
     let beyond : length (names_view names.items) ≤ c.in-Name.depth = omega (arith, length-on_top name_view names.items, c.len.ensures, names.ok.0) in
     sym
     (ap (λ u. undone u (scope_view scope)) c.in-Name.is
-    ∙ ap (λ (l : List NameShape). scope_of l (view scope.root)) (bound_at-beyond (names_view names.items) c.in-Name.depth (bound_view c.in-Name.bound) beyond))
+    ∙ ap (λ (l : List NameShape). scope_of l (shape_view scope.root)) (bound_at-beyond (names_view names.items) c.in-Name.depth (bound_view c.in-Name.bound) beyond))

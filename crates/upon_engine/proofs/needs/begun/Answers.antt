@@ -2,7 +2,7 @@ use Rattle.std.proofs.Common.{rules, arith, ◌≡◌, ◌⊎◌, ◌↔◌, ◌
 use Rattle.std.proofs.lemmas.List.{take_all, take_more}
 use Rattle.upon_meaning_spec.specs.Needs.{a_name}
 use Rattle.upon_engine.specs.EngineNeeds.{table_in, HeldBegins}
-use Rattle.upon_engine.specs.Names.{has}
+use Rattle.upon_engine.specs.Names.{has_name}
 use Rattle.upon_engine.specs.Template.{template_tree}
 use Rattle.upon_engine.proofs.Begun.{BegunIn, begun_first, begun_step}
 use Rattle.upon_engine.proofs.needs.begun.Goals as goal
@@ -19,7 +19,7 @@ loop-name-preserved c =
     let one = get_or names at (record { ref_ptr = (0, 0); now = [] }) in
     let inside : at < length names = search rules in
     subst (λ l. BegunIn table tree c.insert_begun-in-loop-name.new.begun l) (sym (take_more names at _ inside)) (begun_step table tree c.loop-name.begun _ (take at names) one c.loop-name.invariant
-    (λ name. subst (λ o. (has c.insert_begun-in-loop-name.new.begun name ≡ true) ↔ ((has c.loop-name.begun name ≡ true) ⊎ HeldBegins o (a_name name))) c.template_named.ensures (c.in_ok-insert_begun-2.ensures name)))
+    (λ name. subst (λ o. (has_name c.insert_begun-in-loop-name.new.begun name ≡ true) ↔ ((has_name c.loop-name.begun name ≡ true) ⊎ HeldBegins o (a_name name))) c.template_named.ensures (c.in_ok-insert_begun-2.ensures name)))
 
 pub returns : goal.returns
 returns c =

@@ -1,13 +1,13 @@
 use Rattle.std.proofs.Common.{rules, arith, ◌≡◌, ◌||◌, ◌<◌, ◌+◌, ◌∙◌, ap, sym, subst, bytes_eq, length, take}
 use Rattle.std.specs.List.{list_any}
 use Rattle.std.proofs.lemmas.List.{take_all, take_more}
-use Rattle.upon_engine.specs.Names.{texts, has}
+use Rattle.upon_engine.specs.Names.{texts, has_name}
 use Rattle.upon_engine.proofs.SearchSteps.{Marking, marking_none, mark_so, marked_by, or_nothing, seen_step}
 use Rattle.upon_engine.proofs.needs.mark.Goals as goal
 
 pub loop-name-init : goal.loop-name-init
 loop-name-init c = record {
-  seen = λ name. or_nothing (has c.args.seen.now name);
+  seen = λ name. or_nothing (has_name c.args.seen.now name);
   marking = marking_none c.args.templates.now c.args.seen.now c.args.waiting.now.items;
 }
 
@@ -25,7 +25,7 @@ pub returns-clause-marked : goal.returns-clause-marked
 returns-clause-marked c =
     let names = c.args.names.now in
     let whole : take c.loop-name.name-index names ≡ names = take_all c.loop-name.name-index names (omega (arith, c.loop-name-test.false)) in
-    marked_by c.args.templates.now c.args.seen.now c.loop-name.seen c.args.waiting.now.items c.loop-name.waiting.items _ c.loop-name.invariant.marking (λ name. c.loop-name.invariant.seen name ∙ ap (λ l. has c.args.seen.now name || list_any (bytes_eq name) (texts l)) whole)
+    marked_by c.args.templates.now c.args.seen.now c.loop-name.seen c.args.waiting.now.items c.loop-name.waiting.items _ c.loop-name.invariant.marking (λ name. c.loop-name.invariant.seen name ∙ ap (λ l. has_name c.args.seen.now name || list_any (bytes_eq name) (texts l)) whole)
 
 pub returns-clause-less : goal.returns-clause-less
 returns-clause-less c = c.loop-name.invariant.marking.less

@@ -1,6 +1,6 @@
 use Rattle.std.proofs.Common.{rules, ◌≡◌, ◌↔◌, subst, [], ◌∷◌, ◌++◌, sym, bytes_eq}
 use Rattle.std.specs.List.{list_any}
-use Rattle.upon_machine_spec.specs.ProgramNames.{Lists}
+use Rattle.upon_machine_spec.specs.ProgramNames.{IsListed}
 use Rattle.upon_engine.specs.EngineNeeds.{link}
 use Rattle.upon_engine.specs.Names.{texts}
 use Rattle.upon_engine.specs.Template.{template_tree}
@@ -12,7 +12,7 @@ pub loop-name-init : goal.loop-name-init
 loop-name-init c =
     let none : c.new-waiting.result.items ≡ [] = search rules in
     search_begins _ _ _ _ _ _ _ _ c.in_ok-mark.ensures.marked (nothing_seen _ c.new-seen.ensures.empty) (nobody_waits _ none)
-    (λ name. subst (λ l. Lists (texts l) name ↔ link c.args.by (template_tree c.args.from.now) name) (sym c.as_slice.ensures.value) (c.in_ok-names.ensures name))
+    (λ name. subst (λ l. IsListed (texts l) name ↔ link c.args.by (template_tree c.args.from.now) name) (sym c.as_slice.ensures.value) (c.in_ok-names.ensures name))
 
 pub loop-name-preserved : goal.loop-name-preserved
 loop-name-preserved c =

@@ -1,5 +1,5 @@
 use Rattle.std.proofs.Common.{rules, ◌≡◌, ◌↔◌, Contains, sym, subst, ◌∙◌, true}
-use Rattle.upon_engine.specs.Names.{texts, has, Rise}
+use Rattle.upon_engine.specs.Names.{texts, has_name, Rise}
 use Rattle.upon_engine.proofs.SetsOfNames.{keys_rise, has_listed, listed_contains}
 use Rattle.upon_engine.proofs.template_names.ascending.Goals as goal
 
@@ -8,7 +8,7 @@ returns-clause-same c = λ name.
     let all : c.loop-name.sorted.items ≡ c.args.names.keys = search rules in
     let found = listed_contains (texts c.args.names.keys) name in
     let same = has_listed c.args.names.keys name in
-    subst (λ items. Contains (texts items) name ↔ (has c.args.names name ≡ true)) (sym all) (λ h. same ∙ found.0 h, λ e. found.1 (sym same ∙ e))
+    subst (λ items. Contains (texts items) name ↔ (has_name c.args.names name ≡ true)) (sym all) (λ h. same ∙ found.0 h, λ e. found.1 (sym same ∙ e))
 
 pub returns-clause-rise : goal.returns-clause-rise
 returns-clause-rise c =

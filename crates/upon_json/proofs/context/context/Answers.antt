@@ -7,7 +7,7 @@ use Rattle.upon_types.specs.View.{entries_view}
 use Rattle.upon_types.proofs.Bindings.{rises-entries}
 use Rattle.upon_types.proofs.ConversionLemmas.{entry_at-insert}
 use Rattle.upon_types.proofs.Views.{view-Map}
-use Rattle.upon_json.specs.Context.{HasEntries, IsRefusal, IsSetOver, set_pairs}
+use Rattle.upon_json.specs.Context.{HasEntries, IsContextRefusal, IsSetOver, set_pairs}
 use Rattle.upon_json.proofs.SetOver.{set_last}
 use Rattle.upon_json.proofs.context.context.Goals.{in-Some+in_ok-entries-in-Some, in-None}
 use Rattle.upon_json.proofs.context.context.Goals as goal
@@ -15,7 +15,7 @@ use Rattle.upon_json.proofs.context.context.Goals as goal
 pub returns-in_err-entries-in-Some-clause-refused : goal.returns-in_err-entries-in-Some-clause-refused
 returns-in_err-entries-in-Some-clause-refused c =
     let text : Some c.in-Some.text.now ≡ option_map (λ text. text.now) c.args.json = rw c.in-Some.is refl in
-    subst (λ json. IfErr c.from_residual.result (IsRefusal json)) text (search rules)
+    subst (λ json. IfErr c.from_residual.result (IsContextRefusal json)) text (search rules)
 
 pub loop-key-init : goal.loop-key-init
 loop-key-init c = elim c.match-json.branch [

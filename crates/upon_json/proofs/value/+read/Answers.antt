@@ -5,7 +5,7 @@ use Rattle.json.proofs.Grammar.{read_key-shorter, value_is}
 use Rattle.upon_types.specs.Val.{text_val, list_val, map_val}
 use Rattle.upon_types.specs.View.{view, entries_view}
 use Rattle.upon_types.proofs.Views.{view-None, view-Bool, view-String, view-List, view-Map}
-use Rattle.upon_json.specs.Reads.{is_memory, reads, reads_items, reads_members}
+use Rattle.upon_json.specs.Reads.{is_memory_fault, reads, reads_items, reads_members}
 use Rattle.upon_json.proofs.Reading.{reads-null, reads-boolean, reads-number, reads-string, reads-nothing, reads-begin_array, reads-begin_object, reads-array-too_deep, reads-object-too_deep}
 use Rattle.upon_json.proofs.Reading.{list_from, list_next, list_stops, list_ends, map_from, map_next, map_stops, map_lacks_key, map_ends}
 use Rattle.upon_json.proofs.value.+read.Goals as goal
@@ -15,7 +15,7 @@ pub list-returns-in_err-value-clause-refused : goal.list-returns-in_err-value-cl
 list-returns-in_err-value-clause-refused t c =
     let l = c.loop-alloc in
     let more : (after_end_array l.reader ≡ None) × (c.take_end_array.new.self ≡ l.reader) = grind arith in
-    let stops : is_memory c.in_err-value.field-0.0 ≡ false → reads_items c.args.depth c.args.reader.now ≡ None =
+    let stops : is_memory_fault c.in_err-value.field-0.0 ≡ false → reads_items c.args.depth c.args.reader.now ≡ None =
     λ kept. l.invariant.3 ∙ list_stops l.values.items c.args.depth l.invariant.0 l.reader more.0 (ap (reads c.args.depth) (sym more.1) ∙ c.in_err-value.ensures.refused kept) in
     search (rules, stops)
 
@@ -58,7 +58,7 @@ map-returns-in_err-value-clause-refused t c =
     let k = c.in-Some.key.now in
     let after = c.next_key.new.self in
     let key : read_key l.reader ≡ Some (Some k, after) = grind arith in
-    let stops : is_memory c.in_err-value.field-0.0 ≡ false → reads_members c.args.depth c.args.reader.now ≡ None =
+    let stops : is_memory_fault c.in_err-value.field-0.0 ≡ false → reads_members c.args.depth c.args.reader.now ≡ None =
     λ kept. l.invariant.3 ∙ map_stops (entries_view l.entries.entries) k c.args.depth l.invariant.0 l.reader after key (c.in_err-value.ensures.refused kept) in
     search (rules, stops)
 
@@ -109,7 +109,7 @@ read-returns-in_err-list-in-BeginArray-clause-refused t c =
     let inner = c.in_ok-inside-in-BeginArray.field-0 in
     let first : c.args.reader.now ≡ token_of c.in-Some.token ∷ rest = grind arith in
     let begins = first ∙ ap (λ token. token_of token ∷ rest) c.in-BeginArray.is in
-    let stops : is_memory c.in_err-list-in-BeginArray.field-0.0 ≡ false → reads c.args.depth c.args.reader.now ≡ None =
+    let stops : is_memory_fault c.in_err-list-in-BeginArray.field-0.0 ≡ false → reads c.args.depth c.args.reader.now ≡ None =
     λ kept. ap (reads c.args.depth) begins ∙ reads-begin_array c.args.depth inner rest c.in_ok-inside-in-BeginArray.ensures
     ∙ ap (parse_map list_val) (c.in_err-list-in-BeginArray.ensures.refused kept) in
     search (rules, stops)
@@ -129,7 +129,7 @@ read-returns-in_err-map-in-BeginObject-clause-refused t c =
     let inner = c.in_ok-inside-in-BeginObject.field-0 in
     let first : c.args.reader.now ≡ token_of c.in-Some.token ∷ rest = grind arith in
     let begins = first ∙ ap (λ token. token_of token ∷ rest) c.in-BeginObject.is in
-    let stops : is_memory c.in_err-map-in-BeginObject.field-0.0 ≡ false → reads c.args.depth c.args.reader.now ≡ None =
+    let stops : is_memory_fault c.in_err-map-in-BeginObject.field-0.0 ≡ false → reads c.args.depth c.args.reader.now ≡ None =
     λ kept. ap (reads c.args.depth) begins ∙ reads-begin_object c.args.depth inner rest c.in_ok-inside-in-BeginObject.ensures
     ∙ ap (parse_map map_val) (c.in_err-map-in-BeginObject.ensures.refused kept) in
     search (rules, stops)

@@ -3,7 +3,7 @@ ghost use Rattle.std.specs.Prelude.{◌≡◌, ◌<◌, ◌≤◌, ℕ, List, le
 ghost use Rattle.upon_language_spec.specs.Search.{DelimiterText};
 ghost use Rattle.upon_lexer.specs.Nodes.{IsLinked, blank, child_of, node_at};
 ghost use Rattle.upon_lexer.specs.Trie.{IsTrieOf, LongestAt, longer_of};
-ghost use Rattle.upon_lexer.specs.Grown.{with_child, made_child, with_text};
+ghost use Rattle.upon_lexer.specs.Grown.{with_child, made_child, with_trie_text};
 
 use std::alloc::AllocError;
 
@@ -107,7 +107,7 @@ pub(crate) fn longest_at(nodes: &[Node], source: &[u8], at: usize) -> Option<(us
 /// Puts the text of a delimiter into a trie.
 pub(crate) fn insert(nodes: &mut Vec<Node>, text: &[u8], pair: usize) -> Result<(), AllocError>
     requires { IsLinked nodes.old.items }
-    ensures { OnOk result (nodes.new.items ≡ with_text nodes.old.items text.now pair) }
+    ensures { OnOk result (nodes.new.items ≡ with_trie_text nodes.old.items text.now pair) }
 {
     let mut at = 0;
     for byte in text {

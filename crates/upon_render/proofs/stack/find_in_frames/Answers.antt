@@ -2,7 +2,7 @@ use Rattle.std.proofs.Common.{◌≡◌, ◌+◌, ◌-◌, take, arith, ap, sym,
 use Rattle.upon_types.specs.AstPath.{first_member, rest_members}
 use Rattle.upon_render.specs.Frames.{frames_over, frames_lend}
 use Rattle.upon_render.specs.Seen.{FindsSeen}
-use Rattle.upon_render.specs.Settled.{Known, known}
+use Rattle.upon_render.specs.Settled.{SettledPath, known_path}
 use Rattle.upon_render.specs.declared.value.Found.TheVariants.{Lent, Held}
 use Rattle.upon_render.proofs.Searches.{known-step, known-passed, known_by_frames}
 use Rattle.upon_render.proofs.stack.find_in_frames.Goals as goal
@@ -16,7 +16,7 @@ returns-in-Lent c env lent =
     let k = c.loop-left.left - 1 in
     let next : n ≡ k + 1 = omega arith in
     let same = known-step env lent frames n k c.index-frames-left.result first rest next c.loop-left.invariant.within c.index-frames-left.is (c.loop-left.invariant.same env lent) in
-    let P : Known → Type 0 = λ s. FindsSeen s (known env lent first rest) (Lent c.in-Lent.value) in
+    let P : SettledPath → Type 0 = λ s. FindsSeen s (known_path env lent first rest) (Lent c.in-Lent.value) in
     subst P (sym same) (c.in-Lent.ensures (frames_over env (take k frames)) (frames_lend lent (take k frames) first.access))
 
 pub returns-in-Held : goal.returns-in-Held
@@ -28,7 +28,7 @@ returns-in-Held c env lent =
     let k = c.loop-left.left - 1 in
     let next : n ≡ k + 1 = omega arith in
     let same = known-step env lent frames n k c.index-frames-left.result first rest next c.loop-left.invariant.within c.index-frames-left.is (c.loop-left.invariant.same env lent) in
-    let P : Known → Type 0 = λ s. FindsSeen s (known env lent first rest) (Held c.in-Held.value) in
+    let P : SettledPath → Type 0 = λ s. FindsSeen s (known_path env lent first rest) (Held c.in-Held.value) in
     subst P (sym same) (c.in-Held.ensures (frames_over env (take k frames)) (frames_lend lent (take k frames) first.access))
 
 pub loop-left-preserved : goal.loop-left-preserved

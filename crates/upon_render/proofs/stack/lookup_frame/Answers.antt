@@ -6,7 +6,7 @@ use Rattle.upon_types.specs.declared.types.Span.{Span}
 use Rattle.upon_render.specs.Finding.{at_fault}
 use Rattle.upon_render.specs.LookupFaults.{not_in_scope}
 use Rattle.upon_types.specs.AstPath.{first_member}
-use Rattle.upon_render.specs.Answer.{is_borrowed}
+use Rattle.upon_render.specs.Answer.{is_borrowed_value}
 use Rattle.upon_render.specs.Frames.{frame_bindings}
 use Rattle.upon_render.specs.Loop.{is_lent_loop}
 use Rattle.upon_render.specs.declared.stack.State.TheVariants.{Var, Loop}
@@ -15,7 +15,7 @@ use Rattle.upon_render.proofs.stack.lookup_frame.Goals as goal
 
 pub returns-in-Var : goal.returns-in-Var
 returns-in-Var c env lent =
-    rw c.in-Var.is (frame_finds c.args.source.now c.lookup_named.result (frame_bindings (Var c.in-Var.ident c.in-Var.value)) env (is_borrowed c.in-Var.value) lent _ _ c.lookup_named.ensures.answer c.lookup_named.ensures.lent)
+    rw c.in-Var.is (frame_finds c.args.source.now c.lookup_named.result (frame_bindings (Var c.in-Var.ident c.in-Var.value)) env (is_borrowed_value c.in-Var.value) lent _ _ c.lookup_named.ensures.answer c.lookup_named.ensures.lent)
 
 pub returns-in-Loop : goal.returns-in-Loop
 returns-in-Loop c env lent =

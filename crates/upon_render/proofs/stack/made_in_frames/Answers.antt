@@ -3,7 +3,7 @@ use Rattle.upon_types.specs.AstPath.{first_member, rest_members}
 use Rattle.upon_render.specs.Frames.{frame_bindings, frames_over, frames_lend}
 use Rattle.upon_render.specs.Loop.{is_lent_loop}
 use Rattle.upon_render.specs.Seen.{FindsMade}
-use Rattle.upon_render.specs.Settled.{Known}
+use Rattle.upon_render.specs.Settled.{SettledPath}
 use Rattle.upon_render.specs.declared.stack.State.TheVariants.{Loop}
 use Rattle.upon_render.proofs.Known.{frame_makes}
 use Rattle.upon_render.proofs.Searches.{known-step, known-passed, known_by_frame}
@@ -33,7 +33,7 @@ returns-in-Unknown-Loop c env lent =
     let state = c.in-Unknown-Loop.state in
     let frame = c.index-frames-left-in-loop-left in
     let below = take k frames in
-    let P : Known → Type 0 = λ s. FindsMade s c.find_made.result in
+    let P : SettledPath → Type 0 = λ s. FindsMade s c.find_made.result in
     let makes = frame_makes c.find_made.result (frame_bindings (Loop state)) (frames_over env below) (is_lent_loop state) (frames_lend lent below first.access) first rest c.find_made.ensures in
     subst P (sym (known-step env lent frames n k frame.result first rest next c.loop-left.invariant.within frame.is (c.loop-left.invariant.same env lent)))
     (subst (λ f. P (known_by_frame f env lent below first rest)) (sym c.in-Unknown-Loop.is-1) makes)

@@ -1,7 +1,7 @@
 use Rattle.std.proofs.Common.{◌≡◌, ◌+◌, ◌-◌, take, arith, ap, sym, ◌∙◌, subst, Ok, Err, Some}
 use Rattle.upon_types.specs.AstPath.{first_member, rest_members}
 use Rattle.upon_render.specs.Frames.{frames_over, frames_lend}
-use Rattle.upon_render.specs.Settled.{Known, known, Finds}
+use Rattle.upon_render.specs.Settled.{SettledPath, known_path, FindsSettled}
 use Rattle.upon_render.proofs.Searches.{known-step, known-passed, known_by_frames}
 use Rattle.upon_render.proofs.stack.search.Goals as goal
 
@@ -14,7 +14,7 @@ returns-in-Ok-Some c env lent =
     let k = c.loop-left.left - 1 in
     let next : n ≡ k + 1 = omega arith in
     let same = known-step env lent frames n k c.index-frames-left.result first rest next c.loop-left.invariant.within c.index-frames-left.is (c.loop-left.invariant.same env lent) in
-    let P : Known → Type 0 = λ s. Finds c.args.source.now s (known env lent first rest) (Ok (Some c.in-Ok-Some.value)) in
+    let P : SettledPath → Type 0 = λ s. FindsSettled c.args.source.now s (known_path env lent first rest) (Ok (Some c.in-Ok-Some.value)) in
     subst P (sym same) (rw c.in-Ok-Some.field-0-is at (c.in-Ok-Some.ensures (frames_over env (take k frames)) (frames_lend lent (take k frames) first.access)))
 
 pub returns-in-Err : goal.returns-in-Err
@@ -26,7 +26,7 @@ returns-in-Err c env lent =
     let k = c.loop-left.left - 1 in
     let next : n ≡ k + 1 = omega arith in
     let same = known-step env lent frames n k c.index-frames-left.result first rest next c.loop-left.invariant.within c.index-frames-left.is (c.loop-left.invariant.same env lent) in
-    let P : Known → Type 0 = λ s. Finds c.args.source.now s (known env lent first rest) (Err c.in-Err.error) in
+    let P : SettledPath → Type 0 = λ s. FindsSettled c.args.source.now s (known_path env lent first rest) (Err c.in-Err.error) in
     subst P (sym same) (c.in-Err.ensures (frames_over env (take k frames)) (frames_lend lent (take k frames) first.access))
 
 pub loop-left-preserved : goal.loop-left-preserved

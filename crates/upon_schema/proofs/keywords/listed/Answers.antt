@@ -4,7 +4,7 @@ use Rattle.upon_types.specs.View.{view as value_view, vals_view}
 use Rattle.upon_types.specs.declared.value.Value.{Value}
 use Rattle.upon_types.proofs.Views.{view-List}
 use Rattle.upon_meaning_spec.specs.MapOrder.{IsAmong}
-use Rattle.upon_shape.specs.View.{view}
+use Rattle.upon_shape.specs.View.{shape_view}
 use Rattle.upon_schema.proofs.KeptKinds.{listed_fits}
 use Rattle.upon_schema.proofs.keywords.listed.Goals as goal
 
@@ -14,5 +14,5 @@ returns c =
     let values = c.in-List.values.items in
     let is : value_view c.in-Some.found.now ≡ list_val (vals_view values) = ap value_view c.in-List.is ∙ view-List c.in-List.values in
     let at : Some (list_val (vals_view values)) ≡ key_of (codes "enum") schema = ap (λ (v : Val). Some v) (sym is) ∙ c.in-Some.ensures in
-    listed_fits schema (map value_view values) (view c.args.shape) (view c.in_ok-of_samples.field-0) (view c.kept.result) at c.kept.ensures
+    listed_fits schema (map value_view values) (shape_view c.args.shape) (shape_view c.in_ok-of_samples.field-0) (shape_view c.kept.result) at c.kept.ensures
     (λ v among. c.in_ok-of_samples.ensures.fits v (subst (λ (vs : List Value). IsAmong v (map value_view vs)) (sym c.deref.ensures.value) among))

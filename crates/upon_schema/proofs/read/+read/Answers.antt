@@ -3,7 +3,7 @@ use Rattle.upon_types.specs.Val.{Val, none_val, text_val}
 use Rattle.upon_types.specs.View.{view as value_view, vals_view, entries_view}
 use Rattle.upon_types.proofs.Views.{Entry, view-Map, view-String}
 use Rattle.upon_shape_spec.specs.Shape.{one_of, lists_of, maps_of, other_keys}
-use Rattle.upon_shape.specs.View.{view, ahead, keys_view}
+use Rattle.upon_shape.specs.View.{shape_view, ahead, keys_view}
 use Rattle.upon_shape.specs.declared.shape.Key.{Key}
 use Rattle.upon_shape.specs.declared.shape.Shape.{Shape}
 use Rattle.upon_shape.proofs.ShapeViews.{view-OneOf}
@@ -21,18 +21,18 @@ keys_of-returns t c =
     let P = ValidAt c.args.place.now in
     let schema = value_view c.args.schema.now in
     let new = c.add_required.new.named.items in
-    subst (λ (s : Shape). CoversMaps (ahead new (other_keys (view s))) (EntriesHold P schema)) (sym c.in_ok-new.ensures.ok)
-    (keys_covered P schema (vals_view c.in_ok-required.required.now) (view c.in_ok-others.others) c.in_ok-named.named.items new
+    subst (λ (s : Shape). CoversMaps (ahead new (other_keys (shape_view s))) (EntriesHold P schema)) (sym c.in_ok-new.ensures.ok)
+    (keys_covered P schema (vals_view c.in_ok-required.required.now) (shape_view c.in_ok-others.others) c.in_ok-named.named.items new
     c.in_ok-required.ensures c.in_ok-others.ensures c.in_ok-named.ensures c.in_ok-add_required.ensures)
 
 pub keywords_shape-returns : goal.keywords_shape-returns
 keywords_shape-returns t c =
-    let types = view c.in_ok-types.types in
+    let types = shape_view c.in_ok-types.types in
     let items = c.in_ok-new.field-0 in
     let keys = c.in_ok-keys_of.field-0 in
-    keywords_fit (ValidAt c.args.place.now) (value_view c.args.schema.now) types (view c.in_ok-items.items) (view c.kept.result) (view c.in_ok-shape.shape) (view c.simplified.result) (keys_view keys)
+    keywords_fit (ValidAt c.args.place.now) (value_view c.args.schema.now) types (shape_view c.in_ok-items.items) (shape_view c.kept.result) (shape_view c.in_ok-shape.shape) (shape_view c.simplified.result) (keys_view keys)
     c.in_ok-types.ensures c.in_ok-items.ensures c.in_ok-keys_of.ensures
-    (c.kept.ensures ∙ ap (kept types) (view-OneOf c.each_plain.result (Some items) (Some keys) ∙ (λ i. one_of (c.each_plain.ensures i) (lists_of (view (c.in_ok-new.ensures.ok i))) (maps_of (keys_view keys)))))
+    (c.kept.ensures ∙ ap (kept types) (view-OneOf c.each_plain.result (Some items) (Some keys) ∙ (λ i. one_of (c.each_plain.ensures i) (lists_of (shape_view (c.in_ok-new.ensures.ok i))) (maps_of (keys_view keys)))))
     c.in_ok-shape.ensures c.simplified.ensures
 
 pub properties-loop-name-preserved : goal.properties-loop-name-preserved
@@ -56,7 +56,7 @@ read-returns-in-Some t c =
     let root = value_view inner.root.now in
     let schema = value_view c.args.schema.now in
     let reference = value_view c.in-Some.reference.now in
-    ok_more c.referred_shape.result (λ (s : Shape). Covers (view s) (λ v. (other : Val) → ReferenceHolds (ValidAt inner) root other (Some reference) v)) (λ (s : Shape). Covers (view s) (ValidAt place schema))
+    ok_more c.referred_shape.result (λ (s : Shape). Covers (shape_view s) (λ v. (other : Val) → ReferenceHolds (ValidAt inner) root other (Some reference) v)) (λ (s : Shape). Covers (shape_view s) (ValidAt place schema))
     (λ s f v rise h. f v rise (λ other. other_schema (ValidAt inner) root schema other reference v
     (map_holds (ValidAt inner) root schema (entries_view c.in-Map.field-0.entries) (Some reference) (ap value_view c.in-Map.is ∙ view-Map c.in-Map.field-0) c.in-Some.ensures v
     (read_inside place inner schema v c.in_ok-inner.ensures.depth c.in_ok-inner.ensures.root h)))) c.referred_shape.ensures
@@ -67,7 +67,7 @@ read-returns-in-None t c =
     let inner = c.in_ok-inner.inner in
     let root = value_view inner.root.now in
     let schema = value_view c.args.schema.now in
-    ok_more c.keywords_shape.result (λ (s : Shape). Covers (view s) (KeywordsHold (ValidAt inner) schema)) (λ (s : Shape). Covers (view s) (ValidAt place schema))
+    ok_more c.keywords_shape.result (λ (s : Shape). Covers (shape_view s) (KeywordsHold (ValidAt inner) schema)) (λ (s : Shape). Covers (shape_view s) (ValidAt place schema))
     (λ s f v rise h. f v rise
     (map_holds (ValidAt inner) root schema (entries_view c.in-Map.field-0.entries) None (ap value_view c.in-Map.is ∙ view-Map c.in-Map.field-0) c.in-None.ensures v
     (read_inside place inner schema v c.in_ok-inner.ensures.depth c.in_ok-inner.ensures.root h))) c.keywords_shape.ensures

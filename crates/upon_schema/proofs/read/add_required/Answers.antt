@@ -2,7 +2,7 @@ use Rattle.std.proofs.Common.{◌≡◌, List, true, string_bytes, refl, sym, ap
 use Rattle.upon_types.specs.Val.{text_val, entry_at}
 use Rattle.upon_types.specs.View.{view as value_view, vals_view}
 use Rattle.upon_types.proofs.Views.{view-String}
-use Rattle.upon_shape.specs.View.{view}
+use Rattle.upon_shape.specs.View.{shape_view}
 use Rattle.upon_shape.specs.declared.shape.Key.{Key}
 use Rattle.upon_shape.specs.declared.shape.Shape.{Shape}
 use Rattle.upon_schema.specs.Covers.{FitsAhead}
@@ -20,7 +20,7 @@ loop-value-preserved c =
     record {
       ahead = λ properties es key there held before.
           subst (λ (ks : List (Key Shape)). FitsAhead properties key (entry_at key es) ks) (sym c.in_ok-push.ensures.items)
-          (requires_more properties es (vals_view vs) key (view c.args.others.now) c.loop-value.named.items k refl c.in_ok-try_clone.ensures among there held
+          (requires_more properties es (vals_view vs) key (shape_view c.args.others.now) c.loop-value.named.items k refl c.in_ok-try_clone.ensures among there held
           (c.loop-value.invariant.ahead properties es key there held before));
       names = λ key h. c.loop-value.invariant.names key (name_later key vs i c.value-item.result text c.loop-value-test.true c.value-item.is is h);
     }

@@ -2,7 +2,7 @@ use Rattle.std.proofs.Common.{◌≡◌, ℕ, List, true, false, None, drop}
 use Rattle.upon_types.specs.Val.{Entries, entry_at}
 use Rattle.upon_types.specs.View.{vals_view}
 use Rattle.upon_shape_spec.specs.Fits.{Fits, Held}
-use Rattle.upon_shape.specs.View.{view}
+use Rattle.upon_shape.specs.View.{shape_view}
 use Rattle.upon_schema.specs.Covers.{FitsAhead}
 use Rattle.upon_schema.specs.Valid.{RequiredHold, has_text}
 use Rattle.upon_schema.proofs.read.add_required.Given as goal
@@ -11,7 +11,7 @@ use Rattle.upon_schema.proofs.read.add_required.Given as goal
 abbrev pub invariant-loop-value : goal.invariant-loop-value
 invariant-loop-value l = record {
   ahead : (properties : Entries) (es : Entries) (key : List ℕ) → RequiredHold (vals_view l.required) es
-      → (entry_at key properties ≡ None → Held false (Fits (view l.others)) (entry_at key es))
+      → (entry_at key properties ≡ None → Held false (Fits (shape_view l.others)) (entry_at key es))
       → FitsAhead properties key (entry_at key es) l.initial.named.items → FitsAhead properties key (entry_at key es) l.named.items;
   names : (key : List ℕ) → has_text key (vals_view (drop l.value-index l.required)) ≡ true → has_text key (vals_view l.required) ≡ true;
 }

@@ -3,7 +3,7 @@ use Rattle.upon_types.specs.View.{view as value_view, vals_view, entries_view}
 use Rattle.upon_types.specs.declared.value.Value.{Value}
 use Rattle.upon_types.proofs.Views.{Entry}
 use Rattle.upon_shape_spec.specs.Shape.{other_keys}
-use Rattle.upon_shape.specs.View.{view, ahead, keys_view, lists_view, maps_view}
+use Rattle.upon_shape.specs.View.{shape_view, ahead, keys_view, lists_view, maps_view}
 use Rattle.upon_shape.specs.declared.shape.Shape.{Shape}
 use Rattle.upon_shape.proofs.ShapeViews.{view-OneOf}
 use Rattle.upon_schema.specs.Written.{others_value, properties_value, schema_value, typed, with_items, with_keys, with_required}
@@ -23,9 +23,9 @@ add_keys-returns t c =
     let third = entries_view c.add_required.new.keywords.entries in
     let zero : c.loop-index.index ≡ 0 = omega (arith, c.loop-index-test.false) in
     let all : ps ≡ properties_value ks =
-    subst (λ (i : ℕ). ps ≡ properties_value (ahead (drop i keys.named.items) (other_keys (view keys.others.value)))) zero c.loop-index.invariant in
+    subst (λ (i : ℕ). ps ≡ properties_value (ahead (drop i keys.named.items) (other_keys (shape_view keys.others.value)))) zero c.loop-index.invariant in
     let others : value_view c.in_ok-others.others ≡ others_value ks =
-    c.in_ok-others.ensures ∙ ap (λ (s : Shape). schema_value (view s)) c.deref-2.ensures ∙ sym (others_value-ahead keys.named.items (view keys.others.value)) in
+    c.in_ok-others.ensures ∙ ap (λ (s : Shape). schema_value (shape_view s)) c.deref-2.ensures ∙ sym (others_value-ahead keys.named.items (shape_view keys.others.value)) in
     on_ok_more c.add_required.result (third ≡ with_required names second) (third ≡ with_keys (maps_view c.args.maps.now) old)
     (λ e. keys_written ks names ps (value_view c.in_ok-others.others) old first second third c.in_ok-add_schema.ensures c.in_ok-add_properties.ensures e c.in_ok-required.ensures all others
     ∙ ap (λ m. with_keys (maps_view m) old) (sym c.in-Some.is)) c.add_required.ensures
@@ -35,7 +35,7 @@ schema_of-returns-in_ok-names-in-OneOf t c =
     let o = c.in-OneOf in
     let names = vals_view c.in_ok-names-in-OneOf.names.items in
     let es = entries_view c.add_keys.new.keywords.entries in
-    ok_more c.of_types.result (λ (v : Value). value_view v ≡ typed names es) (λ (v : Value). value_view v ≡ schema_value (view c.args.shape.now))
+    ok_more c.of_types.result (λ (v : Value). value_view v ≡ typed names es) (λ (v : Value). value_view v ≡ schema_value (shape_view c.args.shape.now))
     (λ v e. e
     ∙ (λ i. typed (c.in_ok-names-in-OneOf.ensures i) ((c.in_ok-add_keys-in-OneOf.ensures ∙ ap (with_keys (maps_view o.keys)) (c.in_ok-add_items-in-OneOf.ensures ∙ ap (λ (xs : List Entry). with_items (lists_view o.items) (entries_view xs)) c.new-keywords.ensures.empty)) i))
-    ∙ ap schema_value (sym (view-OneOf o.plain o.items o.keys)) ∙ ap (λ (s : Shape). schema_value (view s)) (sym o.is)) c.of_types.ensures
+    ∙ ap schema_value (sym (view-OneOf o.plain o.items o.keys)) ∙ ap (λ (s : Shape). schema_value (shape_view s)) (sym o.is)) c.of_types.ensures

@@ -3,8 +3,8 @@ use Rattle.serde.specs.Event.{Event}
 use Rattle.upon_types.specs.Val.{Val}
 use Rattle.upon_types.specs.View.{view}
 use Rattle.upon_serde.specs.Data.{Pairs}
-use Rattle.upon_serde.specs.Notes.{notes_left, events_of}
-use Rattle.upon_serde.specs.Reads.{ReadsItems, ReadsMembers}
+use Rattle.upon_serde.specs.Notes.{notes_left, notes_events}
+use Rattle.upon_serde.specs.Reads.{ReadsEntries, ReadsItems}
 use Rattle.upon_serde.specs.Put.{pairs_so_far}
 use Rattle.upon_serde.proofs.build.+build.Given as goal
 
@@ -28,7 +28,7 @@ decreases-flattened l = 3 * notes_left l.notes.now
 abbrev pub invariant-items-loop-alloc : goal.invariant-items-loop-alloc
 invariant-items-loop-alloc l =
     (notes_left l.notes ≤ notes_left l.initial.notes)
-    × ((after : List Event) (vs : List Val) → ReadsItems (events_of l.notes) after vs → ReadsItems (events_of l.initial.notes) after (map view l.items.items ++ vs))
+    × ((after : List Event) (vs : List Val) → ReadsItems (notes_events l.notes) after vs → ReadsItems (notes_events l.initial.notes) after (map view l.items.items ++ vs))
 
 abbrev pub decreases-items-loop-alloc : goal.decreases-items-loop-alloc
 decreases-items-loop-alloc l = notes_left l.notes
@@ -37,7 +37,7 @@ decreases-items-loop-alloc l = notes_left l.notes
 abbrev pub invariant-members-loop-note : goal.invariant-members-loop-note
 invariant-members-loop-note l =
     (notes_left l.notes ≤ notes_left l.initial.notes)
-    × ((after : List Event) (new : Pairs) → ReadsMembers (events_of l.notes) after (pairs_so_far l.entries) new → ReadsMembers (events_of l.initial.notes) after (pairs_so_far l.initial.entries) new)
+    × ((after : List Event) (new : Pairs) → ReadsEntries (notes_events l.notes) after (pairs_so_far l.entries) new → ReadsEntries (notes_events l.initial.notes) after (pairs_so_far l.initial.entries) new)
 
 abbrev pub decreases-members-loop-note : goal.decreases-members-loop-note
 decreases-members-loop-note l = notes_left l.notes

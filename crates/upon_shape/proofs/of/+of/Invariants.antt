@@ -2,13 +2,13 @@ use Rattle.std.proofs.Common.{◌≡◌, drop}
 use Rattle.upon_types.specs.View.{vals_view, entries_view}
 use Rattle.upon_shape_spec.specs.Fits.{AllRise, EntriesRise}
 use Rattle.upon_shape_spec.specs.Join.{items_shape, keys_shape}
-use Rattle.upon_shape.specs.View.{view, ahead}
+use Rattle.upon_shape.specs.View.{shape_view, ahead}
 use Rattle.upon_shape.proofs.of.+of.Given as goal
 
 -- the shape is that of the values behind
 abbrev pub invariant-joined_shape-loop-index : goal.invariant-joined_shape-loop-index
 invariant-joined_shape-loop-index l = record {
-  shape : view l.shape ≡ items_shape (vals_view (drop l.index l.values));
+  shape : shape_view l.shape ≡ items_shape (vals_view (drop l.index l.values));
   rises : AllRise (vals_view (drop l.index l.values));
 }
 

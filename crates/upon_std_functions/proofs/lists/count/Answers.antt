@@ -1,6 +1,6 @@
 use Rattle.std.proofs.Common.{◌≡◌, length, Some, ap, sym, ◌∙◌, arith}
 use Rattle.upon_types.specs.View.{vals_view}
-use Rattle.upon_std_functions.specs.Items.{val_list}
+use Rattle.upon_std_functions.specs.Items.{vals_in_list}
 use Rattle.upon_types.proofs.Views.{view-List, view-Map}
 use Rattle.upon_std_functions.proofs.Items.{length-val_list, length-entry_list}
 use Rattle.upon_std_functions.proofs.lists.count.Goals as goal
@@ -8,7 +8,7 @@ use Rattle.upon_std_functions.proofs.lists.count.Goals as goal
 pub returns-in-List : goal.returns-in-List
 returns-in-List c =
     let items = c.in-List.items.items in
-    let count : c.len.result ≡ length (val_list (vals_view items)) =
+    let count : c.len.result ≡ length (vals_in_list (vals_view items)) =
     omega (arith, c.len.ensures, c.in-List.items.ok.0, length-val_list items) in
     rw (c.in-List.is, view-List) (ap Some count)
 

@@ -1,13 +1,13 @@
 use Rattle.std.proofs.Common.{map, ap, ◌∙◌, arith}
 use Rattle.upon_types.specs.View.{view}
 use Rattle.upon_std_orders.specs.Grouping.{group_val, members}
-use Rattle.upon_std_functions.specs.Items.{at_key}
+use Rattle.upon_std_functions.specs.Items.{value_at_key}
 use Rattle.upon_std_orders.proofs.Storing.{one_more_made}
 use Rattle.upon_std_orders.proofs.grouping.grouped.Goals as goal
 
 pub loop-key-preserved : goal.loop-key-preserved
 loop-key-preserved c =
-    let key = at_key c.args.name.now in
+    let key = value_at_key c.args.name.now in
     let vs = map view c.args.items.now in
     let k = c.key-item.result in
     let bucket = c.in_ok-members.ensures in

@@ -1,5 +1,5 @@
 use Rattle.std.proofs.Common.{◌≡◌}
-use Rattle.upon_std_orders.specs.Buckets.{lent_vals, stored}
+use Rattle.upon_std_orders.specs.Buckets.{lent_vals, stored_values}
 use Rattle.upon_std_orders.proofs.Storing.{bucket_there, bucket_absent, store_is}
 use Rattle.upon_std_orders.proofs.grouping.store.Goals as goal
 use Rattle.upon_std_orders.proofs.grouping.store.Goals.{in-Some, in-None}
@@ -9,7 +9,7 @@ returns c =
     let m = c.args.buckets.now in
     let n = c.args.numbers in
     let kept = c.match-remove.bucket in
-    let of_kept : lent_vals kept.items ≡ stored m n =
+    let of_kept : lent_vals kept.items ≡ stored_values m n =
     elim c.match-remove.branch [
       | in-Some w ↦ bucket_there m n c.remove.result _ kept c.remove.ensures.value w.in-Some.is w.bucket-is
       | in-None w ↦ bucket_absent m n c.remove.result _ kept c.remove.ensures.value w.in-None.is w.bucket-is w.new-bucket.ensures.items

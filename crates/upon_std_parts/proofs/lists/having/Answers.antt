@@ -4,14 +4,14 @@ use Rattle.std.proofs.lemmas.List.{take_all}
 use Rattle.upon_types.specs.Same.{val_eq}
 use Rattle.upon_types.specs.View.{view, vals_of}
 use Rattle.upon_types.specs.declared.value.Value.{Value}
-use Rattle.upon_std_functions.specs.Items.{at_key}
+use Rattle.upon_std_functions.specs.Items.{value_at_key}
 use Rattle.upon_std_parts.proofs.Items.{having_view, kept_more, left_out_more}
 use Rattle.upon_std_parts.proofs.lists.having.Goals as goal
 use Rattle.upon_std_parts.proofs.lists.having.Goals.{then-has_at+in_ok-try_clone+in_ok-push, else-has_at}
 
 pub loop-item-preserved : goal.loop-item-preserved
 loop-item-preserved c =
-    let passes = λ (x : Value). val_eq (at_key c.args.key.now (view x)) (view c.args.wanted.now) in
+    let passes = λ (x : Value). val_eq (value_at_key c.args.key.now (view x)) (view c.args.wanted.now) in
     elim c.if-has_at.branch [
       | then-has_at+in_ok-try_clone+in_ok-push w ↦
           kept_more passes c.args.items.now c.loop-item.item-index c.item-item.result c.loop-item.made.items _ _ (omega arith) c.item-item.is
@@ -24,5 +24,5 @@ loop-item-preserved c =
 
 pub returns : goal.returns
 returns c =
-    ap vals_of (c.loop-item.invariant ∙ ap (λ xs. map view (filter (λ x. val_eq (at_key c.args.key.now (view x)) (view c.args.wanted.now)) xs)) (take_all c.loop-item.item-index c.args.items.now (omega arith)))
+    ap vals_of (c.loop-item.invariant ∙ ap (λ xs. map view (filter (λ x. val_eq (value_at_key c.args.key.now (view x)) (view c.args.wanted.now)) xs)) (take_all c.loop-item.item-index c.args.items.now (omega arith)))
     ∙ sym (having_view c.args.key.now (view c.args.wanted.now) c.args.items.now)

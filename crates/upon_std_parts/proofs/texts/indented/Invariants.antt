@@ -1,6 +1,7 @@
 use Rattle.std.proofs.Common.{◌≡◌, ◌++◌, ◌≤◌, length, string_bytes, codes}
 use Rattle.std.specs.Str.Iter.{split_text, split_has_more, split_pattern}
-use Rattle.upon_std_parts.specs.Pieces.{indented_lines, most_bytes, indented}
+use Rattle.upon_std_functions.specs.Parts.{most_bytes}
+use Rattle.upon_std_parts.specs.Pieces.{indented_lines, indented}
 use Rattle.upon_std_parts.proofs.Pieces.{shown}
 use Rattle.upon_std_parts.proofs.texts.indented.Given as goal
 

@@ -2,7 +2,8 @@ use Rattle.std.proofs.Common.{◌≡◌, ◌++◌, ◌≤◌, length, string_byt
 use denote.Shadow.{shadow}
 use denote.Text.{Utf8}
 use Rattle.std.specs.Str.Iter.{split_text, split_has_more, split_pattern}
-use Rattle.upon_std_parts.specs.Pieces.{put_together, most_bytes, replaced}
+use Rattle.upon_std_functions.specs.Parts.{most_bytes}
+use Rattle.upon_std_parts.specs.Pieces.{put_together, replaced}
 use Rattle.upon_std_parts.proofs.Pieces.{shown}
 use Rattle.upon_std_parts.proofs.texts.replaced.Given as goal
 

@@ -4,7 +4,7 @@ use Rattle.upon_types.specs.View.{view, vals_view, entries_view}
 use Rattle.upon_types.proofs.Views.{view-String}
 use Rattle.upon_fmt.specs.Formatter.{Formats}
 use Rattle.upon_meaning_spec.specs.DefaultFormat.{format_text}
-use Rattle.upon_std_writing.specs.JsonText.{before, json_entries, json_items, json_text, key_text}
+use Rattle.upon_std_writing.specs.JsonText.{before, entry_name_text, json_entries, json_items, json_text}
 use Rattle.upon_std_writing.proofs.JsonWriting.{adds, begins, closes, formatted, items_at}
 use Rattle.upon_std_writing.proofs.json_text.+write.Goals as goal
 
@@ -59,10 +59,10 @@ write_entries-loop-key-preserved t c =
     let rest = json_entries (entries_view c.next.new.self) false in
     let e = ap (λ es. json_entries (entries_view es) is_first) c.in-Some.ensures.steps in
     let one = adds first c.loop-key.f parted (before is_first) (json_entries (entries_view c.loop-key.key-iterator) is_first)
-    (key_text key ++ (json_text v ++ rest)) whole c.in_ok-write_separator.ensures e c.loop-key.invariant in
-    let wrote : Formats parted named (Ok tt) (format_text (key_text key)) =
-    subst (λ k. Formats parted named (Ok tt) (format_text (key_text k))) c.as_str.ensures.value c.in_ok-write_key.ensures in
-    let two = adds first parted named (key_text key) (key_text key ++ (json_text v ++ rest)) (json_text v ++ rest) whole wrote refl one in
+    (entry_name_text key ++ (json_text v ++ rest)) whole c.in_ok-write_separator.ensures e c.loop-key.invariant in
+    let wrote : Formats parted named (Ok tt) (format_text (entry_name_text key)) =
+    subst (λ k. Formats parted named (Ok tt) (format_text (entry_name_text k))) c.as_str.ensures.value c.in_ok-write_key.ensures in
+    let two = adds first parted named (entry_name_text key) (entry_name_text key ++ (json_text v ++ rest)) (json_text v ++ rest) whole wrote refl one in
     adds first named c.write_value.new.f (json_text v) (json_text v ++ rest) rest whole c.in_ok-write_value.ensures refl two
 
 pub write_entries-returns : goal.write_entries-returns

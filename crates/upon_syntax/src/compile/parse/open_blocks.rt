@@ -5,7 +5,7 @@ ghost use Rattle.upon_language_spec.specs.Blocks.{takes, block_takes, if_takes, 
 ghost use Rattle.upon_language_spec.specs.Blocks.{closer_words, plain_else, end_if};
 ghost use Rattle.upon_language_spec.specs.Wanted.{in_quotes};
 ghost use Rattle.upon_tag_parser.specs.BlockTags.{BlockTag, Keeps};
-ghost use Rattle.upon_syntax.specs.OpenBlocks.{kind_of, closer_of, block_of, new_block, after_tag, HasEffect, IsTaken};
+ghost use Rattle.upon_syntax.specs.OpenBlocks.{block_kind, closer_view, block_of, new_block, after_tag, HasEffect, IsTaken};
 ghost use Rattle.upon_syntax.specs.OpenBlocks.{IsUntaken};
 
 use std::alloc::{AllocError, Global};
@@ -23,7 +23,7 @@ pub enum Kind {
 impl Kind {
     // The word that begins its tag.
     fn word(self) -> &'static str
-        ensures { result.now ≡ block_word (kind_of self) }
+        ensures { result.now ≡ block_word (block_kind self) }
     {
         match self {
             Kind::If => "if",
@@ -35,7 +35,7 @@ impl Kind {
     /// Returns the reason if the text ends with such a block open.
     pub fn reason(self, alloc: Global) -> Result<String, AllocError>
         ensures { IfOk result (λ reason. string_bytes reason
-            ≡ codes "unclosed " ++ (in_quotes (block_word (kind_of self)) ++ codes " block")) }
+            ≡ codes "unclosed " ++ (in_quotes (block_word (block_kind self)) ++ codes " block")) }
     {
         let word = self.word();
         format!(in alloc; "unclosed `{word}` block")
@@ -55,7 +55,7 @@ pub enum Closing {
 impl Closing {
     // The words that begin it.
     fn words(self) -> &'static str
-        ensures { result.now ≡ closer_words (closer_of self) }
+        ensures { result.now ≡ closer_words (closer_view self) }
     {
         match self {
             Closing::ElseIf => "else if",
@@ -69,7 +69,7 @@ impl Closing {
     /// Returns the reason if no block takes it.
     pub fn reason(self, alloc: Global) -> Result<String, AllocError>
         ensures { IfOk result (λ reason. string_bytes reason
-            ≡ codes "unexpected " ++ (in_quotes (closer_words (closer_of self)) ++ codes " block")) }
+            ≡ codes "unexpected " ++ (in_quotes (closer_words (closer_view self)) ++ codes " block")) }
     {
         let words = self.words();
         format!(in alloc; "unexpected `{words}` block")
@@ -116,7 +116,7 @@ pub struct OpenBlock {
 impl OpenBlock {
     // Whether it takes a closing tag, where it is the innermost.
     fn takes(self, closer: Closing) -> bool
-        ensures { result ≡ block_takes (kind_of self.kind) self.has_else (closer_of closer) }
+        ensures { result ≡ block_takes (block_kind self.kind) self.has_else (closer_view closer) }
     {
         match self.kind {
             Kind::If => if_takes(self.has_else, closer),
@@ -128,7 +128,7 @@ impl OpenBlock {
 
 // Whether a `for` takes a closing tag.
 fn for_takes(has_else: bool, closer: Closing) -> bool
-    ensures { result ≡ for_takes has_else (closer_of closer) }
+    ensures { result ≡ for_takes has_else (closer_view closer) }
 {
     match closer {
         Closing::EndFor => true,
@@ -141,7 +141,7 @@ fn for_takes(has_else: bool, closer: Closing) -> bool
 
 // Whether an `if` takes a closing tag.
 fn if_takes(has_else: bool, closer: Closing) -> bool
-    ensures { result ≡ if_takes has_else (closer_of closer) }
+    ensures { result ≡ if_takes has_else (closer_view closer) }
 {
     match closer {
         Closing::EndIf => true,
@@ -172,7 +172,7 @@ impl OpenBlocks {
 
     // A block is open from here on, whose tag has this span.
     fn push(&mut self, kind: Kind, span: Span) -> Result<(), AllocError>
-        ensures { IfOk result (λ _. stack_of self.new ≡ new_block (kind_of kind) span ∷ stack_of self.old) }
+        ensures { IfOk result (λ _. stack_of self.new ≡ new_block (block_kind kind) span ∷ stack_of self.old) }
     {
         let block = OpenBlock {
             kind,
@@ -185,7 +185,7 @@ impl OpenBlocks {
 
     // Whether the innermost block takes a closing tag.
     fn takes(&self, closer: Closing) -> bool
-        ensures { result ≡ takes (stack_of self.now) (closer_of closer) }
+        ensures { result ≡ takes (stack_of self.now) (closer_view closer) }
     {
         match self.blocks.last() {
             None => false,
@@ -195,7 +195,7 @@ impl OpenBlocks {
 
     // Goes on with the innermost block, or closes it.
     fn close(&mut self, closer: Closing)
-        ensures { stack_of self.new ≡ after_closer (closer_of closer) (stack_of self.old) }
+        ensures { stack_of self.new ≡ after_closer (closer_view closer) (stack_of self.old) }
     {
         match closer {
             Closing::ElseIf => {}
@@ -211,9 +211,9 @@ impl OpenBlocks {
     fn close_taken(&mut self, closer: Closing) -> Option<Closing>
         ensures { MatchOption
             result
-            ((takes (stack_of self.old) (closer_of closer) ≡ true)
-            × (stack_of self.new ≡ after_closer (closer_of closer) (stack_of self.old)))
-            (λ refused. (refused ≡ closer) × (takes (stack_of self.old) (closer_of closer) ≡ false)) }
+            ((takes (stack_of self.old) (closer_view closer) ≡ true)
+            × (stack_of self.new ≡ after_closer (closer_view closer) (stack_of self.old)))
+            (λ refused. (refused ≡ closer) × (takes (stack_of self.old) (closer_view closer) ≡ false)) }
     {
         if !self.takes(closer) {
             return Some(closer);

@@ -13,7 +13,7 @@ ghost use Rattle.upon_language_spec.specs.Wanted.{in_quotes};
 ghost use Rattle.upon_lexer.specs.Lexers.{lexer_text};
 ghost use Rattle.upon_lexer.specs.Searcher.{searcher_delimiters};
 ghost use Rattle.upon_syntax.specs.CommentReasons.{comment_reason};
-ghost use Rattle.upon_syntax.specs.OpenBlocks.{kind_of, closer_of};
+ghost use Rattle.upon_syntax.specs.OpenBlocks.{block_kind, closer_view};
 ghost use Rattle.upon_syntax.specs.declared.compile.parse.piece.Piece.TheVariants.{InlineExpr, Block};
 ghost use Rattle.upon_syntax.specs.TagEnds.{syntax_fault};
 ghost use Rattle.upon_syntax.specs.TagReaders.{reader_text};
@@ -56,11 +56,11 @@ pub struct PieceReader<'a> {
 }
 
 impl<'a> PieceReader<'a> {
-    ghost use Rattle.upon_syntax.specs.PieceReading.{pieces_text, pieces_delimiters, pieces_state, pieces_blocks, Pieces, IsBetween, IsGivenTo, ReadsPiece, ReadsFound, HasBegunComment, IsInComment, HasPassedEnd, HasPassedComment, HasFound, Finds, Refuses};
+    ghost use Rattle.upon_syntax.specs.PieceReading.{text_of_reader, pieces_delimiters, pieces_state, pieces_blocks, Pieces, IsBetween, IsGivenTo, ReadsPiece, ReadsFound, HasBegunComment, IsInComment, HasPassedEnd, HasPassedComment, HasFound, FindsNext, RefusesPieces};
 
     /// Creates a reader at the start of a text, over the delimiters of a searcher.
     pub fn new(alloc: Global, searcher: &'a Searcher, source: &'a str) -> PieceReader<'a>
-        ensures text { pieces_text result ≡ source.now }
+        ensures text { text_of_reader result ≡ source.now }
         ensures delimiters { pieces_delimiters result ≡ searcher_delimiters searcher.now }
         ensures start { HasFound result [] }
     {
@@ -79,9 +79,9 @@ impl<'a> PieceReader<'a> {
         requires so_far { (found : Pieces) × HasFound self.old found }
         ensures found { IfOk result (λ next. (found : Pieces)
             → HasFound self.old found
-            → Finds self.old self.new found code.old.items code.new.items next) }
-        ensures fault { IfErr result (Refuses self.old) }
-        ensures text { pieces_text self.new ≡ pieces_text self.old }
+            → FindsNext self.old self.new found code.old.items code.new.items next) }
+        ensures fault { IfErr result (RefusesPieces self.old) }
+        ensures text { text_of_reader self.new ≡ text_of_reader self.old }
         ensures delimiters { pieces_delimiters self.new ≡ pieces_delimiters self.old }
     {
         let given = self.lexer.next()?;
@@ -108,8 +108,8 @@ impl<'a> PieceReader<'a> {
         ensures piece { IfOk result (λ piece. (before : LexerState) (ls : List Lexeme)
             → IsGivenTo self.old before ls token span
             → ReadsFound self.old self.new before ls code.old.items code.new.items piece) }
-        ensures fault { IfErr result (Refuses self.old) }
-        ensures text { pieces_text self.new ≡ pieces_text self.old }
+        ensures fault { IfErr result (RefusesPieces self.old) }
+        ensures text { text_of_reader self.new ≡ text_of_reader self.old }
         ensures delimiters { pieces_delimiters self.new ≡ pieces_delimiters self.old }
     {
         match token {
@@ -132,8 +132,8 @@ impl<'a> PieceReader<'a> {
         ensures tag { IfOk result (λ _. (before : LexerState) (ls : List Lexeme)
             → IsGivenTo self.old before ls BeginExpr begin
             → ReadsPiece self.old self.new before ls code.old.items code.new.items InlineExpr) }
-        ensures fault { IfErr result (Refuses self.old) }
-        ensures text { pieces_text self.new ≡ pieces_text self.old }
+        ensures fault { IfErr result (RefusesPieces self.old) }
+        ensures text { text_of_reader self.new ≡ text_of_reader self.old }
         ensures delimiters { pieces_delimiters self.new ≡ pieces_delimiters self.old }
     {
         self.tags.read_inline(&mut self.lexer, begin, code)
@@ -145,8 +145,8 @@ impl<'a> PieceReader<'a> {
         ensures tag { IfOk result (λ tag. (before : LexerState) (ls : List Lexeme)
             → IsGivenTo self.old before ls BeginBlock begin
             → ReadsPiece self.old self.new before ls code.old.items code.new.items (Block tag)) }
-        ensures fault { IfErr result (Refuses self.old) }
-        ensures text { pieces_text self.new ≡ pieces_text self.old }
+        ensures fault { IfErr result (RefusesPieces self.old) }
+        ensures text { text_of_reader self.new ≡ text_of_reader self.old }
         ensures delimiters { pieces_delimiters self.new ≡ pieces_delimiters self.old }
     {
         let (tag, span) = self.tags.read_block(&mut self.lexer, begin, code)?;
@@ -173,8 +173,8 @@ impl<'a> PieceReader<'a> {
             → HasPassedComment self.old self.new ls) }
         ensures fault { IfErr result (λ e. (ls : List Lexeme)
             → HasBegunComment self.old ls
-            → Refuses self.old e) }
-        ensures text { pieces_text self.new ≡ pieces_text self.old }
+            → RefusesPieces self.old e) }
+        ensures text { text_of_reader self.new ≡ text_of_reader self.old }
         ensures delimiters { pieces_delimiters self.new ≡ pieces_delimiters self.old }
         ensures blocks { pieces_blocks self.new ≡ pieces_blocks self.old }
     {
@@ -197,8 +197,8 @@ impl<'a> PieceReader<'a> {
             → HasPassedEnd self.old self.new ls) }
         ensures fault { IfErr result (λ e. (ls : List Lexeme)
             → IsInComment self.old ls
-            → Refuses self.old e) }
-        ensures text { pieces_text self.new ≡ pieces_text self.old }
+            → RefusesPieces self.old e) }
+        ensures text { text_of_reader self.new ≡ text_of_reader self.old }
         ensures delimiters { pieces_delimiters self.new ≡ pieces_delimiters self.old }
         ensures blocks { pieces_blocks self.new ≡ pieces_blocks self.old }
     {
@@ -212,9 +212,9 @@ impl<'a> PieceReader<'a> {
     // No block is open at the text's end.
     fn all_closed(&self) -> Result<()>
         requires between { (ls : List Lexeme) × IsBetween self.now ls }
-        requires eof { (pieces_state self.now).offset ≡ length (pieces_text self.now) }
+        requires eof { (pieces_state self.now).offset ≡ length (text_of_reader self.now) }
         ensures closed { IfOk result (λ _. pieces_blocks self.now ≡ []) }
-        ensures fault { IfErr result (Refuses self.now) }
+        ensures fault { IfErr result (RefusesPieces self.now) }
     {
         match self.blocks.outermost() {
             None => Ok(()),
@@ -224,12 +224,12 @@ impl<'a> PieceReader<'a> {
 
     // The error for a block that is open at the text's end.
     fn unclosed(&self, block: OpenBlock) -> Error
-        requires { LiesIn (pieces_text self.now) block.span }
+        requires { LiesIn (text_of_reader self.now) block.span }
         ensures { OrMemory
             (syntax_fault
-            (pieces_text self.now)
+            (text_of_reader self.now)
             block.span
-            (codes "unclosed " ++ (in_quotes (block_word (kind_of block.kind)) ++ codes " block")))
+            (codes "unclosed " ++ (in_quotes (block_word (block_kind block.kind)) ++ codes " block")))
             (fault_of result) }
     {
         let reason = block.kind.reason(self.alloc);
@@ -238,12 +238,12 @@ impl<'a> PieceReader<'a> {
 
     // The error for a closing tag that the innermost open block does not take.
     fn unexpected(&self, closer: Closing, span: Span) -> Error
-        requires { LiesIn (pieces_text self.now) span }
+        requires { LiesIn (text_of_reader self.now) span }
         ensures { OrMemory
             (syntax_fault
-            (pieces_text self.now)
+            (text_of_reader self.now)
             span
-            (codes "unexpected " ++ (in_quotes (closer_words (closer_of closer)) ++ codes " block")))
+            (codes "unexpected " ++ (in_quotes (closer_words (closer_view closer)) ++ codes " block")))
             (fault_of result) }
     {
         syntax_error(self.alloc, self.source, span, closer.reason(self.alloc))
@@ -251,16 +251,16 @@ impl<'a> PieceReader<'a> {
 
     // The error for a comment that the text does not go on with.
     fn refusal(&self, fault: CommentFault, span: Span) -> Error
-        requires { LiesIn (pieces_text self.now) span }
-        ensures { OrMemory (syntax_fault (pieces_text self.now) span (comment_reason fault)) (fault_of result) }
+        requires { LiesIn (text_of_reader self.now) span }
+        ensures { OrMemory (syntax_fault (text_of_reader self.now) span (comment_reason fault)) (fault_of result) }
     {
         syntax_error(self.alloc, self.source, span, fault.reason(self.alloc))
     }
 
     // The text's end.
     fn end(&self) -> Span
-        ensures end { result ≡ span_of (length (pieces_text self.now)) (length (pieces_text self.now)) }
-        ensures span { LiesIn (pieces_text self.now) result }
+        ensures end { result ≡ span_of (length (text_of_reader self.now)) (length (text_of_reader self.now)) }
+        ensures span { LiesIn (text_of_reader self.now) result }
     {
         let n = self.source.len();
         Span { m: n, n }

@@ -1,7 +1,7 @@
 // From a template's text to its program: the compiler is told of each piece.
 ghost use Rattle.std.specs.Prelude.{IfOk, IfErr};
 ghost use Rattle.upon_lexer.specs.Searcher.{searcher_delimiters};
-ghost use Rattle.upon_syntax.specs.Parsed.{IsProgramOf};
+ghost use Rattle.upon_syntax.specs.Parsed.{IsParsedProgram};
 ghost use Rattle.upon_syntax.specs.TagReading.{IsSyntaxError};
 
 use crate::compile::parse::piece_reader::{Next, PieceReader};
@@ -15,7 +15,7 @@ use upon_types::error::Result;
 /// Returns the program of a text, over the delimiters of a searcher. A text that has no tree is refused: the error
 /// reports its first fault. If memory is out, the error says that.
 pub fn read_program(alloc: Global, searcher: &Searcher, source: &str) -> Result<Vec<Instr>>
-    ensures program { IfOk result (λ code. IsProgramOf (searcher_delimiters searcher.now) source.now code.items) }
+    ensures program { IfOk result (λ code. IsParsedProgram (searcher_delimiters searcher.now) source.now code.items) }
     ensures fault { IfErr result (IsSyntaxError (searcher_delimiters searcher.now) source.now) }
 {
     let mut reader = PieceReader::new(alloc, searcher, source);

@@ -10,7 +10,7 @@ ghost use Rattle.upon_language_spec.specs.LiteralWords.{fits_word};
 ghost use Rattle.upon_tag_parser.specs.LiteralReasons.{literal_reason};
 ghost use Rattle.upon_tag_parser.specs.Wants.{wanted_of};
 ghost use Rattle.upon_syntax.specs.TagReading.{IsSyntaxError};
-ghost use Rattle.upon_syntax.specs.TagEnds.{syntax_fault, EndLies};
+ghost use Rattle.upon_syntax.specs.TagEnds.{syntax_fault, TagEndLies};
 ghost use Rattle.upon_syntax.specs.TagFaults.{FirstLies, token_fault, GoesNoFurther};
 
 use crate::compile::parse::fault::syntax_error;
@@ -26,7 +26,7 @@ use upon_types::types::Span;
 /// Returns the error if the tokens of a tag go no further, while this is wanted and these tokens are left.
 pub fn refuse(alloc: Global, source: &str, want: Want, left: &[Lexed], ended: Ended) -> Error
     requires left { FirstLies source.now left.now }
-    requires ended { EndLies source.now ended }
+    requires ended { TagEndLies source.now ended }
     ensures { (delimiters : List DelimiterText) → GoesNoFurther delimiters source.now want left.now ended
         → IsSyntaxError delimiters source.now result }
 {
@@ -38,7 +38,7 @@ pub fn refuse(alloc: Global, source: &str, want: Want, left: &[Lexed], ended: En
 
 /// Does the same if no token is left.
 pub fn refuse_end(alloc: Global, source: &str, want: Want, ended: Ended) -> Error
-    requires { EndLies source.now ended }
+    requires { TagEndLies source.now ended }
     ensures { (delimiters : List DelimiterText) → GoesNoFurther delimiters source.now want [] ended
         → IsSyntaxError delimiters source.now result }
 {

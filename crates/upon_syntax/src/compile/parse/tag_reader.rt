@@ -4,7 +4,7 @@ ghost use Rattle.upon_language_spec.specs.Cut.{Lexeme};
 ghost use Rattle.upon_language_spec.specs.Delimiters.{expression, block};
 ghost use Rattle.upon_lexer.specs.Lexers.{lexer_text, lexer_delimiters};
 ghost use Rattle.upon_language_spec.specs.Search.{DelimiterText};
-ghost use Rattle.upon_syntax.specs.TagEnds.{EndLies, tag_end};
+ghost use Rattle.upon_syntax.specs.TagEnds.{TagEndLies, tag_end};
 ghost use Rattle.upon_syntax.specs.TagFaults.{FirstLies, GoesNoFurther};
 ghost use Rattle.upon_tag_parser.specs.TagParsing.{OnStuck};
 ghost use Rattle.upon_tag_parser.specs.WholeTags.{HoldsInline, HoldsTag};
@@ -129,7 +129,7 @@ impl<'a> TagReader<'a> {
 
 // Where the tag ends, while this is wanted and no token is left; or the error that it does not end there.
 fn end_of(alloc: Global, source: &str, want: Want, ended: Ended) -> Result<usize>
-    requires { EndLies source.now ended }
+    requires { TagEndLies source.now ended }
     ensures end { IfOk result (λ n. (l : Lexed) × (tag_end ended ≡ Some l) × (n ≡ l.span.n)) }
     ensures fault { IfErr result (λ e. (delimiters : List DelimiterText)
         → (tag_end ended ≡ None → GoesNoFurther delimiters source.now want [] ended)
@@ -144,7 +144,7 @@ fn end_of(alloc: Global, source: &str, want: Want, ended: Ended) -> Result<usize
 // The error for a tag whose tokens were not read to the end.
 fn refuse_failure(alloc: Global, source: &str, failure: Failure, ended: Ended) -> Error
     requires failure { OnStuck failure (λ _ left. FirstLies source.now left) }
-    requires ended { EndLies source.now ended }
+    requires ended { TagEndLies source.now ended }
     ensures { (delimiters : List DelimiterText)
         → OnStuck failure.entry (λ want left. GoesNoFurther delimiters source.now want left ended)
         → IsSyntaxError delimiters source.now result }

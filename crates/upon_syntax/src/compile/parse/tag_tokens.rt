@@ -15,7 +15,7 @@ ghost use Rattle.upon_lexer.specs.Lexers.{lexer_text, lexer_delimiters, lexer_st
 ghost use Rattle.upon_tag_parser.specs.LiteralReasons.{report_of};
 ghost use Rattle.upon_tag_parser.specs.Literals.{lexeme_of, before_of};
 ghost use Rattle.upon_tag_parser.specs.TagTokens.{lexemes_of, IsTagToken, EachTagToken};
-ghost use Rattle.upon_syntax.specs.TagEnds.{DenotesNothing, SignLies, StopsAt, ReadsTokens, ReadsUpTo, EndLies, tag_end, found_tokens};
+ghost use Rattle.upon_syntax.specs.TagEnds.{DenotesNothing, SignLies, StopsAt, ReadsTokens, ReadsUpTo, TagEndLies, tag_end, found_tokens};
 
 use std::alloc::AllocError;
 use upon_lexer::compile::lex::Lexer;
@@ -71,7 +71,7 @@ pub fn read_tokens(
         (last_or None (lexemes_of tokens.new.items))
         (lexer_state lexer.new)
         ended) }
-    ensures lies { IfOk result (EndLies source.now) }
+    ensures lies { IfOk result (TagEndLies source.now) }
     ensures text { lexer_text lexer.new ≡ lexer_text lexer.old }
     ensures delimiters { lexer_delimiters lexer.new ≡ lexer_delimiters lexer.old }
 {
@@ -142,7 +142,7 @@ fn read_token(source: &str, lexer: &mut Lexer, before: Option<Lexed>) -> Result<
         (before_of before)
         (lexer_state lexer.new)
         ended) }
-    ensures lies { IfErr result (EndLies source.now) }
+    ensures lies { IfErr result (TagEndLies source.now) }
     ensures text { lexer_text lexer.new ≡ lexer_text lexer.old }
     ensures delimiters { lexer_delimiters lexer.new ≡ lexer_delimiters lexer.old }
 {
@@ -168,7 +168,7 @@ fn stop_at(source: &str, before: Option<Lexed>, found: Lexed) -> Option<Ended>
         result
         ((is_inside found.token ≡ true) × FineLiteral source.now (before_of before) (lexeme_of found))
         (StopsAt source.now (before_of before) found) }
-    ensures lies { IfSome result (EndLies source.now) }
+    ensures lies { IfSome result (TagEndLies source.now) }
 {
     if !is_inside(found.token) {
         return Some(Ended::End(found));

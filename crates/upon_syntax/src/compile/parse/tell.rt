@@ -1,10 +1,10 @@
 // What the compiler is told of a piece of a template.
 ghost use Rattle.std.specs.Prelude.{◌≡◌, [], OnOk};
-ghost use Rattle.upon_compiler.specs.After.{after};
-ghost use Rattle.upon_compiler.specs.Compiler.{state_of};
+ghost use Rattle.upon_compiler.specs.After.{after_event};
+ghost use Rattle.upon_compiler.specs.Compiler.{compiler_state};
 ghost use Rattle.upon_instructions.specs.Program.{program_view};
 ghost use Rattle.upon_tag_parser.specs.BlockTags.{BlockTag, Keeps, tag_code};
-ghost use Rattle.upon_syntax.specs.Pieces.{Piece as ToldPiece, KeepsPiece, piece_code};
+ghost use Rattle.upon_syntax.specs.Pieces.{TemplatePiece as ToldPiece, KeepsPiece, piece_code};
 ghost use Rattle.upon_syntax.specs.Told.{event_of, tag_event};
 
 use crate::compile::parse::piece::Piece;
@@ -21,7 +21,7 @@ pub(crate) fn tell(
     code: &mut Vec<Instr>,
 ) -> Result<(), AllocError>
     ensures state { (told : ToldPiece) → KeepsPiece piece told → program_view code.old.items ≡ piece_code told
-        → OnOk result (state_of compiler.new ≡ after (event_of told) (state_of compiler.old)) }
+        → OnOk result (compiler_state compiler.new ≡ after_event (event_of told) (compiler_state compiler.old)) }
     ensures moved { (told : ToldPiece) → KeepsPiece piece told → program_view code.old.items ≡ piece_code told
         → OnOk result (code.new.items ≡ []) }
 {
@@ -35,7 +35,7 @@ pub(crate) fn tell(
 // Does the same for a tag of a block.
 fn tell_tag(compiler: &mut Compiler, tag: Tag, code: &mut Vec<Instr>) -> Result<(), AllocError>
     ensures state { (told : BlockTag) → Keeps tag told → program_view code.old.items ≡ tag_code told
-        → OnOk result (state_of compiler.new ≡ after (tag_event told) (state_of compiler.old)) }
+        → OnOk result (compiler_state compiler.new ≡ after_event (tag_event told) (compiler_state compiler.old)) }
     ensures moved { (told : BlockTag) → Keeps tag told → program_view code.old.items ≡ tag_code told
         → OnOk result (code.new.items ≡ []) }
 {

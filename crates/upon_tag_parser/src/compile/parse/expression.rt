@@ -4,7 +4,7 @@ ghost use Rattle.upon_instructions.specs.Program.{program_view};
 ghost use Rattle.upon_language_spec.specs.Cut.{Lexeme};
 ghost use Rattle.upon_tag_parser.specs.TagTokens.{lexemes_of, AreTagTokens, IsRest};
 ghost use Rattle.upon_tag_parser.specs.TagParsing.{IfStuck};
-ghost use Rattle.upon_tag_parser.specs.Brackets.{place_of, weight, Fits, Place, AreRead, ExpressionRead, StuckFrom};
+ghost use Rattle.upon_tag_parser.specs.Brackets.{place_of, weight, HasInstructions, Place, AreRead, ExpressionRead, StuckFrom};
 ghost use Rattle.upon_tag_parser.specs.Brackets.{EndGoesOn, EndStuck, OpenGoesOn, OpenGoesOnAt, OpenStuckAt, PartGoesOn};
 ghost use Rattle.upon_tag_parser.specs.Brackets.{PartStuck, ReadsOn, ReadsStuck};
 
@@ -110,7 +110,7 @@ impl<'a> TagParser<'a> {
         code: &mut Vec<Instr>,
     ) -> Parsed<'t, Step>
         requires tokens { AreTagTokens self.now.source.now tokens.now }
-        requires fits { Fits top (length (program_view code.old.items)) }
+        requires fits { HasInstructions top (length (program_view code.old.items)) }
         ensures step { IfOk result (λ r. OpenGoesOnAt self.now.source.now top span
             (place_of tokens.now code.old.items) r.0 (place_of r.1.now code.new.items)) }
         ensures rest { IfOk result (λ r. IsRest r.1.now tokens.now) }

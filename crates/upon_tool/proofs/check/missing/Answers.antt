@@ -4,7 +4,7 @@ use Rattle.std.proofs.lemmas.List.{take_all}
 use Rattle.upon_meaning_spec.specs.Includes.{Includes}
 use Rattle.upon_engine.specs.Names.{texts}
 use Rattle.upon_engine.specs.Template.{template_of, template_tree}
-use Rattle.upon_tool.specs.Missing.{is_missing}
+use Rattle.upon_tool.specs.Missing.{is_nowhere}
 use Rattle.upon_tool.proofs.Kept.{kept, kept_one, kept_past, kept_contains}
 use Rattle.upon_tool.proofs.check.missing.Goals.{then-is_missing+in_ok-push, else-is_missing}
 use Rattle.upon_tool.proofs.check.missing.Goals as goal
@@ -14,7 +14,7 @@ loop-name-preserved g c =
     let names = c.as_slice-name-items.result.now in
     let at = c.loop-name.name-index in
     let inside : at < length names = search rules in
-    let passes : List ℕ → Bool = is_missing c.args.own.now (λ name. option_map template_of (get_by_text c.args.engine.now.templates name)) in
+    let passes : List ℕ → Bool = is_nowhere c.args.own.now (λ name. option_map template_of (get_by_text c.args.engine.now.templates name)) in
     elim c.if-is_missing.branch [
       | then-is_missing+in_ok-push w ↦ ap (λ v. v.items) w.missing-is ∙ w.in_ok-push.ensures.items ∙ kept_one passes names c.loop-name.missing.items at (record { ref_ptr = (0, 0); now = [] }) inside c.loop-name.invariant (sym c.is_missing.ensures ∙ w.if-is_missing.true)
       | else-is_missing w ↦ ap (λ v. v.items) w.missing-is ∙ kept_past passes names c.loop-name.missing.items at (record { ref_ptr = (0, 0); now = [] }) inside c.loop-name.invariant (sym c.is_missing.ensures ∙ w.if-is_missing.false)
@@ -23,7 +23,7 @@ loop-name-preserved g c =
 pub returns : goal.returns
 returns g c = λ name.
     let names = c.as_slice-name-items.result.now in
-    let passes : List ℕ → Bool = is_missing c.args.own.now (λ name. option_map template_of (get_by_text c.args.engine.now.templates name)) in
+    let passes : List ℕ → Bool = is_nowhere c.args.own.now (λ name. option_map template_of (get_by_text c.args.engine.now.templates name)) in
     let whole : take c.loop-name.name-index names ≡ names = take_all c.loop-name.name-index names c.loop-name-test.false in
     let same : c.loop-name.missing.items ≡ kept passes names = c.loop-name.invariant ∙ ap (kept passes) whole in
     let found = kept_contains passes names name in

@@ -1,5 +1,5 @@
 use Rattle.std.proofs.Common.{◌∙◌, IfSome, ap, subst}
-use Rattle.upon_shape.specs.View.{view}
+use Rattle.upon_shape.specs.View.{shape_view}
 use Rattle.upon_calls.specs.Templates.{lent_pairs}
 use Rattle.upon_tool_shapes.specs.Contexts.{HasShape}
 use Rattle.upon_tool.specs.Checked.{ChecksCall}
@@ -10,11 +10,11 @@ pub returns-then-branch-clause-ends : goal.returns-then-branch-clause-ends
 returns-then-branch-clause-ends g c = λ zero.
     let call = c.args.call.now in
     record {
-      shape = view c.in-Some.shape;
+      shape = shape_view c.in-Some.shape;
       later = g.I.Read.remaining c.shape_of.new.input;
       folder = lent_pairs c.as_slice-2.result.now;
-      known = subst (λ shape. IfSome shape (λ s. HasShape call.contexts (g.I.Read.remaining c.args.input.now) (view s))) c.in-Some.is c.in_ok-shape.ensures;
+      known = subst (λ shape. IfSome shape (λ s. HasShape call.contexts (g.I.Read.remaining c.args.input.now) (shape_view s))) c.in-Some.is c.in_ok-shape.ensures;
       checked = subst (ChecksCall call.check (g.I.Read.remaining c.shape_of.new.input)) c.if-status-ne0.false c.in_ok-status.ensures.ends;
       no_folder = λ none. ap lent_pairs (c.as_slice-2.ensures.value ∙ c.in_ok-folder.ensures (c.as_slice.ensures.value ∙ c.in_ok-files.ensures.none none));
-      ends = subst (EachFits call.check.escape call.check.standard (lent_pairs c.as_slice-2.result.now) (view c.in-Some.shape)) c.as_slice-3.ensures.value (c.in_ok-each_fits.ensures.fits c.if-branch.true);
+      ends = subst (EachFits call.check.escape call.check.standard (lent_pairs c.as_slice-2.result.now) (shape_view c.in-Some.shape)) c.as_slice-3.ensures.value (c.in_ok-each_fits.ensures.fits c.if-branch.true);
     }

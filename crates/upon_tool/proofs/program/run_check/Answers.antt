@@ -1,6 +1,6 @@
 use Rattle.std.proofs.Common.{None, subst}
 use Rattle.std.proofs.lemmas.Result.{IfOk-weaker}
-use Rattle.upon_tool.specs.Filled.{engine_for, TakesFiles}
+use Rattle.upon_tool.specs.Filled.{tool_engine, TakesFiles}
 use Rattle.upon_tool.specs.Work.{ChecksFiles, EachFileIsRight}
 use Rattle.upon_tool.proofs.Calls.{checked_refused, unread_checked}
 use Rattle.upon_tool.proofs.Filled.{nothing_sent}
@@ -18,7 +18,7 @@ returns-clause-ends g c = IfOk-weaker c.carry_out.result _ _ (λ status said. re
   files = c.in_ok-files.files.items;
   folder = said.1.0;
   no_folder = c.in_ok-files.ensures.none;
-  taken = subst (λ functions. TakesFiles c.in_ok-files.files.items (engine_for None functions) said.1.0) c.as_slice.ensures said.1.1;
+  taken = subst (λ functions. TakesFiles c.in_ok-files.files.items (tool_engine None functions) said.1.0) c.as_slice.ensures said.1.1;
   checked = subst (λ names. ChecksFiles said.1.0 names (g.I.Read.remaining c.args.input.now) status) c.as_slice-2.ensures.value (subst (λ e. ChecksFiles e c.as_slice-2.result.now (g.I.Read.remaining c.args.input.now) status) said.1.2 said.3.1);
   folder_checked = λ zero. subst (λ e. EachFileIsRight e c.in_ok-files.files.items) said.1.2 (said.4 tt zero);
 }) c.carry_out.ensures.ends

@@ -1,7 +1,7 @@
 use Rattle.std.proofs.Common.{ap, string_bytes, subst}
 use Rattle.std.proofs.lemmas.Result.{IfOk-weaker}
 use Rattle.upon_types.specs.View.{view}
-use Rattle.upon_tool.specs.Filled.{engine_for, TakesFiles}
+use Rattle.upon_tool.specs.Filled.{tool_engine, TakesFiles}
 use Rattle.upon_tool.proofs.Calls.{context_read, data_refused, no_context, unread_parts, wrong_words}
 use Rattle.upon_tool.proofs.Filled.{nothing_sent}
 use Rattle.upon_tool.proofs.ManyPages.{each_moved}
@@ -36,7 +36,7 @@ returns-clause-ends g c = IfOk-weaker c.carry_out.result _ _ (λ status said. re
   left = c.text_of.ensures.kept;
   data_read = context_read c.args.call.now.render c.data_words-words.result c.data_words-words.ensures (g.I.Read.remaining c.text_of.new.input) (view c.in_ok-value.value) (g.I.Read.remaining c.context.new.input) c.in_ok-value.ensures.read;
   no_folder = c.in_ok-files.ensures.none;
-  taken = subst (λ functions. TakesFiles c.in_ok-files.files.items (engine_for c.args.call.now.render.escape functions) said.1.0) c.standard.ensures said.1.1;
+  taken = subst (λ functions. TakesFiles c.in_ok-files.files.items (tool_engine c.args.call.now.render.escape functions) said.1.0) c.standard.ensures said.1.1;
   rendered = each_moved _ _ _ _ _ status said.1.2
       (ap (λ limits. record { key = c.args.call.now.key; page = c.args.call.now.render.file; name = c.args.call.now.name; out = c.args.call.now.out; limits = limits; keep_going = c.args.call.now.keep_going }) c.limits_set.ensures) said.3.1;
 }) c.carry_out.ensures.ends

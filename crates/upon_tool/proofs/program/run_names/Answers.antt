@@ -1,6 +1,6 @@
 use Rattle.std.proofs.Common.{None, string_bytes, subst}
 use Rattle.std.proofs.lemmas.Result.{IfOk-weaker}
-use Rattle.upon_tool.specs.Filled.{engine_for, TakesFiles}
+use Rattle.upon_tool.specs.Filled.{tool_engine, TakesFiles}
 use Rattle.upon_tool.proofs.Calls.{unread_included}
 use Rattle.upon_tool.proofs.Filled.{names_listed}
 use Rattle.upon_tool.proofs.program.run_names.Goals as goal
@@ -16,6 +16,6 @@ returns-clause-ends g c = IfOk-weaker c.carry_out.result _ _ (λ status said. re
   folder = said.1.0;
   read = c.in_ok-source.ensures.text;
   no_folder = c.in_ok-files.ensures.none;
-  taken = subst (λ functions. TakesFiles c.in_ok-files.files.items (engine_for None functions) said.1.0) c.as_slice.ensures said.1.1;
+  taken = subst (λ functions. TakesFiles c.in_ok-files.files.items (tool_engine None functions) said.1.0) c.as_slice.ensures said.1.1;
   listed = names_listed said.0 _ _ _ status _ _ said.1.2 said.3;
 }) c.carry_out.ensures.ends

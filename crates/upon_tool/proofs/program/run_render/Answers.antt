@@ -2,7 +2,7 @@ use Rattle.std.proofs.Common.{string_bytes, subst}
 use Rattle.std.proofs.lemmas.Result.{IfOk-weaker}
 use Rattle.upon_types.specs.View.{view}
 use Rattle.upon_tool.specs.Calls.{limits_asked}
-use Rattle.upon_tool.specs.Filled.{engine_for, standard_functions, TakesFiles}
+use Rattle.upon_tool.specs.Filled.{tool_engine, standard_functions, TakesFiles}
 use Rattle.upon_tool.proofs.Calls.{context_read, data_refused, no_context, unread_parts, wrong_words}
 use Rattle.upon_tool.proofs.Filled.{page_shown}
 use Rattle.upon_tool.proofs.program.run_render.Goals as goal
@@ -33,7 +33,7 @@ returns-clause-ends g c = IfOk-weaker c.carry_out.result _ _ (λ status said. re
   left = c.text_of.ensures.kept;
   data_read = context_read c.args.call.now c.data_words-words.result c.data_words-words.ensures (g.I.Read.remaining c.text_of.new.input) (view c.in_ok-value.value) (g.I.Read.remaining c.context.new.input) c.in_ok-value.ensures.read;
   no_folder = c.in_ok-files.ensures.none;
-  taken = subst (λ functions. TakesFiles c.in_ok-files.files.items (engine_for c.args.call.now.escape functions) said.1.0) c.standard.ensures said.1.1;
+  taken = subst (λ functions. TakesFiles c.in_ok-files.files.items (tool_engine c.args.call.now.escape functions) said.1.0) c.standard.ensures said.1.1;
   shown = λ standard. page_shown c.args.call.now.escape (standard_functions c.args.call.now.standard) c.in_ok-files.files.items said.1.0 said.0 c.args.call.now.file.now (view c.in_ok-value.value) c.limits_of.result (limits_asked c.args.call.now) (string_bytes c.in_ok-source.source) status (g.O.Write.contents c.args.out.now) (g.O.Write.contents c.carry_out.new.out)
-      (subst (λ functions. TakesFiles c.in_ok-files.files.items (engine_for c.args.call.now.escape functions) said.1.0) c.standard.ensures said.1.1) said.1.2 said.2 c.limits_of.ensures (said.3 standard);
+      (subst (λ functions. TakesFiles c.in_ok-files.files.items (tool_engine c.args.call.now.escape functions) said.1.0) c.standard.ensures said.1.1) said.1.2 said.2 c.limits_of.ensures (said.3 standard);
 }) c.carry_out.ensures.ends

@@ -1,6 +1,6 @@
 use Rattle.std.proofs.Common.{◌≡◌, ◌≤◌, ◌∙◌, Some, Ok, Err, refl, sym, subst}
 use Rattle.upon_types.specs.View.{view}
-use Rattle.upon_tool_messages.specs.Status.{status_of}
+use Rattle.upon_tool_messages.specs.Status.{tool_status}
 use Rattle.upon_tool.proofs.Sent.{renders_kept, stays_kept}
 use Rattle.upon_tool.proofs.Statuses.{least_status, most_status, no_success}
 use Rattle.upon_tool.proofs.rendering.show.Goals as goal
@@ -10,17 +10,17 @@ returns-in-Ok-clause-means g c = λ held tree there has zero. c.in-Ok.ensures.me
 
 pub returns-clause-range : goal.returns-clause-range
 returns-clause-range g c =
-    let is : c.explain.result ≡ status_of c.in-Err.failure = c.explain.ensures in
+    let is : c.explain.result ≡ tool_status c.in-Err.failure = c.explain.ensures in
     subst (λ n. n ≤ 2) (sym is) (most_status c.in-Err.failure)
 
 pub returns-clause-means : goal.returns-clause-means
 returns-clause-means g c = λ held tree there has zero.
-    let is : c.explain.result ≡ status_of c.in-Err.failure = c.explain.ensures in
-    absurd (no_success (status_of c.in-Err.failure) (least_status c.in-Err.failure) (sym is ∙ zero))
+    let is : c.explain.result ≡ tool_status c.in-Err.failure = c.explain.ensures in
+    absurd (no_success (tool_status c.in-Err.failure) (least_status c.in-Err.failure) (sym is ∙ zero))
 
 pub returns-clause-absent : goal.returns-clause-absent
 returns-clause-absent g c = λ none.
-    let is : c.explain.result ≡ status_of c.in-Err.failure = c.explain.ensures in
+    let is : c.explain.result ≡ tool_status c.in-Err.failure = c.explain.ensures in
     subst (λ n. 1 ≤ n) (sym is) (least_status c.in-Err.failure)
 
 pub returns-in-Ok-clause-ends : goal.returns-in-Ok-clause-ends

@@ -5,10 +5,10 @@ use Rattle.std.specs.Vec.Iter.{into_iter_items}
 use Rattle.upon_engine.specs.Texts.{texts_of, Texts}
 use Rattle.upon_engine.proofs.Boxed.{boxed_reads}
 use Rattle.upon_std.specs.Table.{standard_answer}
-use Rattle.upon_calls.specs.Escaping.{format_for}
+use Rattle.upon_calls.specs.Escaping.{language_format}
 use Rattle.upon_calls.specs.Filled.{escaping_engine}
 use Rattle.upon_tool_shapes.specs.Fitting.{language_for}
-use Rattle.upon_tool.specs.Filled.{engine_for, with_page, TakesFiles, TakesRead}
+use Rattle.upon_tool.specs.Filled.{tool_engine, with_page, TakesFiles, TakesRead}
 use Rattle.upon_tool.specs.Work.{checked_files, IsUnreadOf}
 use Rattle.upon_tool.proofs.Calls.{work_out_of_memory, work_refused}
 use Rattle.upon_tool.proofs.Filled.{all_added, check_kept, file_taken, function_added, if_both, no_page, none_taken, page_put, page_refused, read_passed, read_taken, taken_from, with_escape, without_escape, work_kept}
@@ -51,23 +51,23 @@ returns-in_err-add-clause-refused g c = work_out_of_memory c.args.templates c.ar
 pub returns-in_err-add_template-clause-refused : goal.returns-in_err-add_template-clause-refused
 returns-in_err-add_template-clause-refused g c =
     let start : texts_of (λ f. (own-1.entry f.vtable).1.formats f.value) (λ f. (own-2.entry f.vtable).1.answers f.value) c.match-language_for.engine ≡ escaping_engine (language_for c.args.templates.escape) = elim c.match-language_for.branch [
-      | in-Some+in_ok-new+in_ok-add_formatter+in_ok-new-2 w ↦ ap (λ x. texts_of (λ f. (own-1.entry f.vtable).1.formats f.value) (λ f. (own-2.entry f.vtable).1.answers f.value) x) w.engine-is ∙ with_escape _ _ _ _ _ (language_for c.args.templates.escape) w.in-Some.language (sym c.language_for.ensures ∙ w.in-Some.is) c.new-engine.ensures w.in_ok-add_formatter.ensures.engine (boxed_reads own-1 at-1-1 _ (λ j v. j.1.formats v) _ _ _ w.into_dyn_box.ensures.1) w.set_default_formatter.ensures (boxed_reads own-1 at-1-2 _ (λ j v. j.1.formats v) _ _ _ w.into_dyn_box-in_ok-new-2.ensures.1 ∙ ap (λ e. format_for e.language) w.in_ok-new-2.ensures.ok)
+      | in-Some+in_ok-new+in_ok-add_formatter+in_ok-new-2 w ↦ ap (λ x. texts_of (λ f. (own-1.entry f.vtable).1.formats f.value) (λ f. (own-2.entry f.vtable).1.answers f.value) x) w.engine-is ∙ with_escape _ _ _ _ _ (language_for c.args.templates.escape) w.in-Some.language (sym c.language_for.ensures ∙ w.in-Some.is) c.new-engine.ensures w.in_ok-add_formatter.ensures.engine (boxed_reads own-1 at-1-1 _ (λ j v. j.1.formats v) _ _ _ w.into_dyn_box.ensures.1) w.set_default_formatter.ensures (boxed_reads own-1 at-1-2 _ (λ j v. j.1.formats v) _ _ _ w.into_dyn_box-in_ok-new-2.ensures.1 ∙ ap (λ e. language_format e.language) w.in_ok-new-2.ensures.ok)
       | in_default w ↦ ap (λ x. texts_of (λ f. (own-1.entry f.vtable).1.formats f.value) (λ f. (own-2.entry f.vtable).1.answers f.value) x) w.engine-is ∙ without_escape _ (language_for c.args.templates.escape) (sym c.language_for.ensures ∙ w.in_default.is) c.new-engine.ensures
     ] in
-    let begun : texts_of (λ f. (own-1.entry f.vtable).1.formats f.value) (λ f. (own-2.entry f.vtable).1.answers f.value) c.loop-function.engine ≡ engine_for c.args.templates.escape c.args.templates.functions.now = all_added c.args.templates.functions.now c.loop-function.function-index c.args.templates.escape _ _ c.loop-function-test.false c.loop-function.invariant.1 start in
+    let begun : texts_of (λ f. (own-1.entry f.vtable).1.formats f.value) (λ f. (own-2.entry f.vtable).1.answers f.value) c.loop-function.engine ≡ tool_engine c.args.templates.escape c.args.templates.functions.now = all_added c.args.templates.functions.now c.loop-function.function-index c.args.templates.escape _ _ c.loop-function-test.false c.loop-function.invariant.1 start in
     let folder : Texts = texts_of (λ f. (own-1.entry f.vtable).1.formats f.value) (λ f. (own-2.entry f.vtable).1.answers f.value) c.loop-file.engine in
-    let filled : TakesFiles c.args.templates.files.items (engine_for c.args.templates.escape c.args.templates.functions.now) folder = taken_from c.args.templates.files.items _ _ _ folder c.into_iter-file-iterator.ensures.into_iter_gives.0 begun (c.loop-file.invariant.1 folder (none_taken _ folder (nil_from_length (into_iter_items c.loop-file.file-iterator) (sym c.loop-file.file-iterator.rest.ok.0 ∙ c.in-None.ensures.steps.0)))) in
+    let filled : TakesFiles c.args.templates.files.items (tool_engine c.args.templates.escape c.args.templates.functions.now) folder = taken_from c.args.templates.files.items _ _ _ folder c.into_iter-file-iterator.ensures.into_iter_gives.0 begun (c.loop-file.invariant.1 folder (none_taken _ folder (nil_from_length (into_iter_items c.loop-file.file-iterator) (sym c.loop-file.file-iterator.rest.ok.0 ∙ c.in-None.ensures.steps.0)))) in
     page_refused c.args.templates c.args.work c.in-Some-page.name c.in-Some-page.source folder c.in_err-add_template.field-0.0 c.from_residual-in_err-add_template.result (sym c.loop-function.invariant.0 ∙ sym c.loop-file.invariant.0 ∙ c.in-Some-page.is) c.from_residual-in_err-add_template.ensures.1 c.in_err-add_template.ensures.fault filled
 
 pub returns-clause-ends : goal.returns-clause-ends
 returns-clause-ends g c =
     let start : texts_of (λ f. (own-1.entry f.vtable).1.formats f.value) (λ f. (own-2.entry f.vtable).1.answers f.value) c.match-language_for.engine ≡ escaping_engine (language_for c.args.templates.escape) = elim c.match-language_for.branch [
-      | in-Some+in_ok-new+in_ok-add_formatter+in_ok-new-2 w ↦ ap (λ x. texts_of (λ f. (own-1.entry f.vtable).1.formats f.value) (λ f. (own-2.entry f.vtable).1.answers f.value) x) w.engine-is ∙ with_escape _ _ _ _ _ (language_for c.args.templates.escape) w.in-Some.language (sym c.language_for.ensures ∙ w.in-Some.is) c.new-engine.ensures w.in_ok-add_formatter.ensures.engine (boxed_reads own-1 at-1-1 _ (λ j v. j.1.formats v) _ _ _ w.into_dyn_box.ensures.1) w.set_default_formatter.ensures (boxed_reads own-1 at-1-2 _ (λ j v. j.1.formats v) _ _ _ w.into_dyn_box-in_ok-new-2.ensures.1 ∙ ap (λ e. format_for e.language) w.in_ok-new-2.ensures.ok)
+      | in-Some+in_ok-new+in_ok-add_formatter+in_ok-new-2 w ↦ ap (λ x. texts_of (λ f. (own-1.entry f.vtable).1.formats f.value) (λ f. (own-2.entry f.vtable).1.answers f.value) x) w.engine-is ∙ with_escape _ _ _ _ _ (language_for c.args.templates.escape) w.in-Some.language (sym c.language_for.ensures ∙ w.in-Some.is) c.new-engine.ensures w.in_ok-add_formatter.ensures.engine (boxed_reads own-1 at-1-1 _ (λ j v. j.1.formats v) _ _ _ w.into_dyn_box.ensures.1) w.set_default_formatter.ensures (boxed_reads own-1 at-1-2 _ (λ j v. j.1.formats v) _ _ _ w.into_dyn_box-in_ok-new-2.ensures.1 ∙ ap (λ e. language_format e.language) w.in_ok-new-2.ensures.ok)
       | in_default w ↦ ap (λ x. texts_of (λ f. (own-1.entry f.vtable).1.formats f.value) (λ f. (own-2.entry f.vtable).1.answers f.value) x) w.engine-is ∙ without_escape _ (language_for c.args.templates.escape) (sym c.language_for.ensures ∙ w.in_default.is) c.new-engine.ensures
     ] in
-    let begun : texts_of (λ f. (own-1.entry f.vtable).1.formats f.value) (λ f. (own-2.entry f.vtable).1.answers f.value) c.loop-function.engine ≡ engine_for c.args.templates.escape c.args.templates.functions.now = all_added c.args.templates.functions.now c.loop-function.function-index c.args.templates.escape _ _ c.loop-function-test.false c.loop-function.invariant.1 start in
+    let begun : texts_of (λ f. (own-1.entry f.vtable).1.formats f.value) (λ f. (own-2.entry f.vtable).1.answers f.value) c.loop-function.engine ≡ tool_engine c.args.templates.escape c.args.templates.functions.now = all_added c.args.templates.functions.now c.loop-function.function-index c.args.templates.escape _ _ c.loop-function-test.false c.loop-function.invariant.1 start in
     let folder : Texts = texts_of (λ f. (own-1.entry f.vtable).1.formats f.value) (λ f. (own-2.entry f.vtable).1.answers f.value) c.loop-file.engine in
-    let filled : TakesFiles c.args.templates.files.items (engine_for c.args.templates.escape c.args.templates.functions.now) folder = taken_from c.args.templates.files.items _ _ _ folder c.into_iter-file-iterator.ensures.into_iter_gives.0 begun (c.loop-file.invariant.1 folder (none_taken _ folder (nil_from_length (into_iter_items c.loop-file.file-iterator) (sym c.loop-file.file-iterator.rest.ok.0 ∙ c.in-None.ensures.steps.0)))) in
+    let filled : TakesFiles c.args.templates.files.items (tool_engine c.args.templates.escape c.args.templates.functions.now) folder = taken_from c.args.templates.files.items _ _ _ folder c.into_iter-file-iterator.ensures.into_iter_gives.0 begun (c.loop-file.invariant.1 folder (none_taken _ folder (nil_from_length (into_iter_items c.loop-file.file-iterator) (sym c.loop-file.file-iterator.rest.ok.0 ∙ c.in-None.ensures.steps.0)))) in
     let whole : Texts = texts_of (λ f. (own-1.entry f.vtable).1.formats f.value) (λ f. (own-2.entry f.vtable).1.answers f.value) c.match-page-9.engine in
     let put : whole ≡ with_page c.args.templates.page folder = elim c.match-page-9.branch [
       | in-Some-page+in_ok-add_template w ↦ page_put c.args.templates.page w.in-Some-page.name w.in-Some-page.source folder whole (sym c.loop-function.invariant.0 ∙ sym c.loop-file.invariant.0 ∙ w.in-Some-page.is) (ap (λ x. texts_of (λ f. (own-1.entry f.vtable).1.formats f.value) (λ f. (own-2.entry f.vtable).1.answers f.value) x) w.engine-is ∙ w.in_ok-add_template.ensures.engine)

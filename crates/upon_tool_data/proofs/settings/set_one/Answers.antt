@@ -1,6 +1,6 @@
 use Rattle.std.proofs.Common.{refl, ap}
 use Rattle.upon_types.specs.View.{view}
-use Rattle.upon_data.specs.Parts.{data_entries, is_memory}
+use Rattle.upon_data.specs.Parts.{data_entries, is_part_memory}
 use Rattle.upon_tool_data.specs.Settings.{RefusesSetting}
 use Rattle.upon_tool_data.proofs.FileSteps.{handed_on}
 use Rattle.upon_tool_data.proofs.SettingSteps.{lacks_refused, one_set, path_refused, value_refused}
@@ -20,4 +20,4 @@ returns-in-Ok-clause-set c =
 
 pub returns-in-Err-NotMap-clause-refused : goal.returns-in-Err-NotMap-clause-refused
 returns-in-Err-NotMap-clause-refused c =
-    path_refused c.args.writing c.args.word c.in-Some.path.now c.in-Some.text.now (view c.in_ok-value.value) (data_entries c.args.data.now) c.in-Some.ensures.before c.in-Some.ensures.after c.in_ok-value.ensures.read (c.in-Err-NotMap.ensures.refused (ap is_memory c.in-Err-NotMap.field-0-is))
+    path_refused c.args.writing c.args.word c.in-Some.path.now c.in-Some.text.now (view c.in_ok-value.value) (data_entries c.args.data.now) c.in-Some.ensures.before c.in-Some.ensures.after c.in_ok-value.ensures.read (c.in-Err-NotMap.ensures.refused (ap is_part_memory c.in-Err-NotMap.field-0-is))

@@ -4,7 +4,7 @@ use Rattle.upon_types.specs.View.{view}
 use Rattle.upon_language_spec.specs.Grammar.{HasTree}
 use Rattle.upon_engine.specs.Changes.{empty_engine, with_callable, with_syntax, with_text}
 use Rattle.upon_engine.specs.Texts.{Texts}
-use Rattle.upon_engine.specs.Theorem.{Answers}
+use Rattle.upon_engine.specs.Theorem.{AnswersTree}
 use Rattle.upon_engine.proofs.Boxed.{boxed_reads}
 use Rattle.upon_users.specs.Page.{angles, starred, banged, name_text, page_text, name_tree, page_tree, page_engine}
 use Rattle.upon_users.proofs.BuiltEngines.{no_fault, handed_out, out_answers}
@@ -58,4 +58,4 @@ returns c =
     let fourth = c.set_syntax.ensures ∙ λ i. with_syntax (c.in_ok-syntax.ensures i) (third i) in
     let last = c.in_ok-add_template-2.ensures.engine ∙ ap (with_text (codes "page") page_text) fourth in
     let said = c.in-Some.ensures.means (record { text = page_text; syntax = angles }) page_tree (ap (λ t. t.texts (codes "page")) last) ∣ page_has ∣₁ in
-    subst (λ e. Answers e (Some (codes "page")) page_text page_tree (view c.args.value.now) c.in-Some.rendered) last said
+    subst (λ e. AnswersTree e (Some (codes "page")) page_text page_tree (view c.args.value.now) c.in-Some.rendered) last said

@@ -1,7 +1,7 @@
 use Rattle.std.proofs.Common.{rules, ◌≡◌, ◌∙◌, ℕ, List, [], ◌∷◌, Option, Result, ap, sym, subst}
 use Rattle.upon_types.specs.declared.error.Error.{Error}
 use Rattle.upon_meaning_spec.specs.Outcome.{Outcome, States, states}
-use Rattle.upon_vm.specs.Reports.{IsTaken, WritesAndLeaves}
+use Rattle.upon_vm.specs.Reports.{IsTakenError, WritesAndLeaves}
 use Rattle.upon_engine.specs.Sources.{source_in}
 use Rattle.upon_engine.proofs.Renderings.{on_source}
 use Rattle.upon_users.proofs.users.on_source.Goals as goal
@@ -25,7 +25,7 @@ returns-clause-means g c =
     let state = g.S.ValueSource.value_state in
     let there = (source_in done.result.1).now in
     let Says : ℕ → Outcome (States g.S.ValueSource.State (Unit {0})) → Type 0 =
-    λ limit o. WritesAndLeaves limit (IsTaken (g.O.Output.mark done.new.out)) done.result.0 (given c.args.out.now) (given done.new.out) o (states (state there) (tt {0})) in
+    λ limit o. WritesAndLeaves limit (IsTakenError (g.O.Output.mark done.new.out)) done.result.0 (given c.args.out.now) (given done.new.out) o (states (state there) (tt {0})) in
     let said = on_source _ _ Says (λ s. g.S.ValueSource.ask s.now) (λ s. state s.now) c.render_from_fn.result _ _ _ _ _ made.engine made.templates made.template made.name made.limit made.source done.ensures.means in
     let taken_out = left_as state _ _ _ _ _ _ back.result.now there (ap (λ s. s.now) back.ensures) said in
     let own = sym (ap (λ s. s.ghost_name) back.ensures ∙ ap first done.ensures.held ∙ ap (λ s. s.ghost_name) made.source) in

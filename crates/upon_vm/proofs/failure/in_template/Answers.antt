@@ -3,7 +3,7 @@ use Rattle.upon_types.specs.Error.{fault_of as error_of}
 use Rattle.upon_types.specs.Fault.{fault_with_picture, OrMemory}
 use Rattle.upon_types.specs.declared.error.Error.{Error as CodeError}
 use Rattle.upon_meaning_spec.specs.Meaning.{RunningTemplate, fault_in}
-use Rattle.upon_vm_calls.specs.Halt.{fault_of, kind_of}
+use Rattle.upon_vm_calls.specs.Halt.{halt_fault, halt_kind}
 use Rattle.upon_vm_calls.specs.declared.fault.Fault.{Fault}
 use Rattle.upon_vm_calls.specs.declared.fault.FaultKind.{FaultKind}
 use Rattle.upon_vm_calls.specs.declared.fault.FaultKind.TheVariants.{Render, Function, Format}
@@ -11,13 +11,13 @@ use Rattle.upon_vm.specs.Failures.{Names, is_memory}
 use Rattle.upon_vm.specs.Machine.{active_of}
 use Rattle.upon_vm.proofs.failure.in_template.Goals as goal
 
-no_memory : (kind : FaultKind) → is_memory (kind_of kind) ≡ false
+no_memory : (kind : FaultKind) → is_memory (halt_kind kind) ≡ false
 no_memory Render = refl
 no_memory Function = refl
 no_memory Format = refl
 
-named_in : (running : RunningTemplate) (f : Fault) (shown named : CodeError) → OrMemory (fault_with_picture running.source (fault_of f)) (error_of shown)
-    → Names running.name shown named → OrMemory (fault_in running (fault_of f)) (error_of named)
+named_in : (running : RunningTemplate) (f : Fault) (shown named : CodeError) → OrMemory (fault_with_picture running.source (halt_fault f)) (error_of shown)
+    → Names running.name shown named → OrMemory (fault_in running (halt_fault f)) (error_of named)
 named_in running f shown named (inl is) names =
     subst (λ g. OrMemory (record g { name = running.name }) (error_of named)) is
     (names.named (ap (λ g. is_memory g.kind) is ∙ no_memory f.kind) (ap (λ g. g.name) is))

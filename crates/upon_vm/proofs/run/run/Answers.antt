@@ -2,7 +2,7 @@ use Rattle.std.proofs.Common.{◌<◌, ◌∙◌, refl, sym, subst, arith}
 use Rattle.upon_render.specs.Roots.{pure_root}
 use Rattle.upon_render.specs.Stack.{root_of}
 use Rattle.upon_machine_spec.specs.Run.{steps}
-use Rattle.upon_vm.specs.Acts.{calls_of, stop_or_memory}
+use Rattle.upon_vm.specs.Acts.{calls_on, stop_or_memory}
 use Rattle.upon_vm.specs.Failures.{FailsBy, StopLies}
 use Rattle.upon_vm.specs.Machine.{active_of, state_of}
 use Rattle.upon_vm.specs.declared.machine.Running.{Running}
@@ -17,7 +17,7 @@ some-left-requires g c = let known = c.requires.starts.0 in (known.count, (known
 pub steps-init : goal.steps-init
 steps-init g c =
     let m = c.args.machine.now in
-    let calls = calls_of (g.C.Callables.callables c.args.callables.now) (g.C.Callables.default_formatter c.args.callables.now) in
+    let calls = calls_on (g.C.Callables.callables c.args.callables.now) (g.C.Callables.default_formatter c.args.callables.now) in
     let resolve = g.T.ProgramSource.resolve m.templates in
     let root = pure_root (root_of m.stack) in
     let some = c.some-left.ensures in

@@ -4,7 +4,7 @@ use Rattle.upon_render.specs.Roots.{pure_root}
 use Rattle.upon_render.specs.Stack.{root_of}
 use Rattle.upon_machine_spec.specs.Step.{step}
 use Rattle.upon_fmt.specs.Given.{Short}
-use Rattle.upon_vm.specs.Acts.{DidAll, calls_of, ended, stop_or_memory}
+use Rattle.upon_vm.specs.Acts.{DidAll, calls_on, ended, stop_or_memory}
 use Rattle.upon_vm.specs.Limits.{Leaves}
 use Rattle.upon_vm.specs.Machine.{state_of}
 use Rattle.upon_vm.proofs.Turns.{short_within, turn_cut, turn_stopped}
@@ -19,7 +19,7 @@ pub returns-in-Cut-clause-did : goal.returns-in-Cut-clause-did
 returns-in-Cut-clause-did g c =
     λ q ask has.
     let m = c.args.machine.now in
-    let calls = calls_of (g.C.Callables.callables c.args.callables.now) (g.C.Callables.default_formatter c.args.callables.now) ask in
+    let calls = calls_on (g.C.Callables.callables c.args.callables.now) (g.C.Callables.default_formatter c.args.callables.now) ask in
     let x = step calls (g.T.ProgramSource.resolve m.templates) (pure_root (root_of m.stack)) (state_of g.V.ValueSource.value_state g.T.ProgramSource.template_state q m) in
     let t = state_of g.V.ValueSource.value_state g.T.ProgramSource.template_state q c.single-done.new.machine in
     let r = ended c.single-done.result c.single-done.new.stop in
@@ -34,7 +34,7 @@ pub returns-clause-did : goal.returns-clause-did
 returns-clause-did g c =
     λ q ask has.
     let m = c.args.machine.now in
-    let calls = calls_of (g.C.Callables.callables c.args.callables.now) (g.C.Callables.default_formatter c.args.callables.now) ask in
+    let calls = calls_on (g.C.Callables.callables c.args.callables.now) (g.C.Callables.default_formatter c.args.callables.now) ask in
     let x = step calls (g.T.ProgramSource.resolve m.templates) (pure_root (root_of m.stack)) (state_of g.V.ValueSource.value_state g.T.ProgramSource.template_state q m) in
     let t = state_of g.V.ValueSource.value_state g.T.ProgramSource.template_state q c.single-done.new.machine in
     let stop = stop_or_memory c.single-done.new.stop in

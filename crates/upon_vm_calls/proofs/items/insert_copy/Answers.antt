@@ -3,7 +3,7 @@ use Rattle.std.specs.Prelude.{MatchOption}
 use Rattle.upon_types.specs.AstPath.{string_of}
 use Rattle.upon_types.specs.Val.{Val}
 use Rattle.upon_meaning_spec.specs.Evaluation.{operand}
-use Rattle.upon_vm_calls.specs.Items.{with_pair}
+use Rattle.upon_vm_calls.specs.Items.{with_operand_pair}
 use Rattle.upon_vm_calls.specs.Operands.{operands_of}
 use Rattle.upon_vm_calls.proofs.items.insert_copy.Goals as goal
 
@@ -11,5 +11,5 @@ pub returns : goal.returns
 returns c =
     λ at.
     let was = operands_of c.args.operands.now in
-    let P : Val → Type 0 = λ v. IfOk c.insert_into_top.result (λ done. MatchOption done (with_pair (string_of c.args.key.now) (operand v at ∷ was) ≡ None) (λ _. with_pair (string_of c.args.key.now) (operand v at ∷ was) ≡ Some (operands_of c.insert_into_top.new.self))) in
+    let P : Val → Type 0 = λ v. IfOk c.insert_into_top.result (λ done. MatchOption done (with_operand_pair (string_of c.args.key.now) (operand v at ∷ was) ≡ None) (λ _. with_operand_pair (string_of c.args.key.now) (operand v at ∷ was) ≡ Some (operands_of c.insert_into_top.new.self))) in
     subst P c.in_ok-try_clone.ensures (c.insert_into_top.ensures at)

@@ -1,7 +1,7 @@
 use Rattle.std.proofs.Common.{[], ◌∷◌, ◌++◌, length, refl, ap, ◌∙◌}
 use Rattle.upon_machine_spec.specs.Instr.{jump}
 use Rattle.upon_compiler.proofs.Blocks.{closed, no_else, none_open, went_on}
-use Rattle.upon_compiler.specs.After.{between, else_begun}
+use Rattle.upon_compiler.specs.After.{between_branches, else_begun}
 use Rattle.upon_compiler.specs.Compiler.{blocks_of, code_of}
 use Rattle.upon_compiler.specs.declared.compile.OpenBlock.TheVariants.{Else, For, ForElse, If}
 use Rattle.upon_compiler.proofs.compile.Compiler.begin_else.Goals as goal
@@ -15,8 +15,8 @@ returns-in_ok-enter-in-If c =
     let old = code_of c.args.self.now in
     let not = c.in-If.not in
     let start = c.in-If.start in
-    went_on (else_begun old) Else _ (between not start old) _ _ _ _ _ _ c.in-Some.block (If not start)
-    (c.enter.ensures.code ∙ c.in_ok-past-in-If.ensures.code ∙ ap (between not start) c.leave.ensures.code)
+    went_on (else_begun old) Else _ (between_branches not start old) _ _ _ _ _ _ c.in-Some.block (If not start)
+    (c.enter.ensures.code ∙ c.in_ok-past-in-If.ensures.code ∙ ap (between_branches not start) c.leave.ensures.code)
     c.in_ok-enter-in-If.ensures.blocks (c.in_ok-past-in-If.ensures.number ∙ ap length c.leave.ensures.code) c.go_past.ensures.blocks
     c.in-Some.ensures.block c.in-If.is refl
 

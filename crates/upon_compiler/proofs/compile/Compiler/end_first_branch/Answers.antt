@@ -1,6 +1,6 @@
 use Rattle.std.proofs.Common.{length, refl, ap, ◌∙◌}
 use Rattle.upon_compiler.proofs.Blocks.{closed, no_else_if, none_open, went_on}
-use Rattle.upon_compiler.specs.After.{between, else_if_begun}
+use Rattle.upon_compiler.specs.After.{between_branches, else_if_begun}
 use Rattle.upon_compiler.specs.Compiler.{blocks_of, code_of}
 use Rattle.upon_compiler.specs.declared.compile.OpenBlock.TheVariants.{ElseIf, If}
 use Rattle.upon_compiler.proofs.compile.Compiler.end_first_branch.Goals as goal
@@ -19,7 +19,7 @@ returns c =
     let old = code_of c.args.self.now in
     let not = c.in-If.not in
     let start = c.in-If.start in
-    went_on (else_if_begun old) ElseIf _ (between not start old) _ _ _ _ _ _ c.in-Some.block (If not start)
-    (c.enter.ensures.code ∙ c.in_ok-past.ensures.code ∙ ap (between not start) c.leave.ensures.code)
+    went_on (else_if_begun old) ElseIf _ (between_branches not start old) _ _ _ _ _ _ c.in-Some.block (If not start)
+    (c.enter.ensures.code ∙ c.in_ok-past.ensures.code ∙ ap (between_branches not start) c.leave.ensures.code)
     c.in_ok-enter.ensures.blocks (c.in_ok-past.ensures.number ∙ ap length c.leave.ensures.code) c.go_past.ensures.blocks
     c.in-Some.ensures.block c.in-If.is refl

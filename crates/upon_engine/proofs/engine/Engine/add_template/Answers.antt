@@ -7,7 +7,7 @@ use Rattle.upon_types.specs.declared.error.Error.{Error}
 use Rattle.upon_language_spec.specs.Grammar.{HasTree}
 use Rattle.upon_syntax.proofs.NextTokens.{handed_on}
 use Rattle.upon_engine.specs.Engine.{engine_syntax}
-use Rattle.upon_engine.specs.Texts.{stored}
+use Rattle.upon_engine.specs.Texts.{stored_template}
 use Rattle.upon_engine.proofs.OldTrees.{refused_had_none}
 use Rattle.upon_engine.proofs.Updates.{refused_stays, templates_after, templates_kept, written}
 use Rattle.upon_engine.proofs.engine.Engine.add_template.Goals as goal
@@ -30,7 +30,7 @@ returns-in-Ok-clause-engine g c =
     templates_after _ _ c.args.self.now c.insert.new.self _ _ _ _ c.in_ok-name.ensures.ok c.in-Ok.ensures.updates (λ i. Some (record { text = made.source i; syntax = made.syntax i }))
 
 pub returns-in-Ok-clause-held : goal.returns-in-Ok-clause-held
-returns-in-Ok-clause-held g c = ap is_some (written stored _ _ c.args.self.now.templates c.insert.new.self _ c.in_ok-name.ensures.ok c.in-Ok.ensures.updates)
+returns-in-Ok-clause-held g c = ap is_some (written stored_template _ _ c.args.self.now.templates c.insert.new.self _ c.in_ok-name.ensures.ok c.in-Ok.ensures.updates)
 
 pub returns-in-Err-clause-engine : goal.returns-in-Err-clause-engine
 returns-in-Err-clause-engine g c = templates_kept _ _ c.args.self.now c.insert.new.self c.in-Err.ensures.err

@@ -1,6 +1,6 @@
 use Rattle.std.proofs.Common.{rules, option_map}
 use Rattle.upon_types.specs.TreeSpans.{TreeLiesIn}
-use Rattle.upon_render.specs.Asked.{never}
+use Rattle.upon_render.specs.Asked.{refuses_all}
 use Rattle.upon_render.specs.Stack.{root_of}
 use Rattle.upon_meaning_spec.specs.Engine.{Template}
 use Rattle.upon_meaning_spec.specs.Outcome.{states}
@@ -22,5 +22,5 @@ returns-clause-means g c =
     (g.O.Output.given c.args.out.now) (g.O.Output.given ended.new.out) (states tt tt) (root_of c.new-stack.result) c.depth-depth.result c.max.result c.reported_within.result
     (g.O.Output.mark ended.new.out) (g.O.Output.mark c.reported_within.new.out) (g.O.Output.given c.reported_within.new.out)
     c.new-stack.ensures.root c.depth-depth.ensures c.max.ensures
-    (ended.ensures.ran (template_of c.args.template.now) never tt c.program_of.ensures (never_asks (root_of c.new-stack.result)))
+    (ended.ensures.ran (template_of c.args.template.now) refuses_all tt c.program_of.ensures (never_asks (root_of c.new-stack.result)))
     c.reported_within.ensures.report c.reported_within.ensures.mark c.reported_within.ensures.given

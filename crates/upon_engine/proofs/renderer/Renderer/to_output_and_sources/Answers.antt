@@ -1,6 +1,6 @@
 use Rattle.std.proofs.Common.{List, ℕ, Option, sym, subst}
 use Rattle.upon_meaning_spec.specs.Outcome.{states}
-use Rattle.upon_vm.specs.Reports.{IsTaken, WritesAndLeaves}
+use Rattle.upon_vm.specs.Reports.{IsTakenError, WritesAndLeaves}
 use Rattle.upon_vm.proofs.Writes.{marks, writes}
 use Rattle.upon_engine.specs.Calls.{call_of, outcome}
 use Rattle.upon_engine.proofs.Laws.{kept}
@@ -15,7 +15,7 @@ returns-clause-means g c =
     let mid = g.O.Output.mark c.run-ended.new.out in
     let mark = g.O.Output.mark c.reported.new.out in
     let all = writes limit mid mark old (g.O.Output.given c.run-ended.new.out) o next c.run-ended.result.0 c.reported.result c.run-ended.ensures.ran c.reported.ensures.report c.reported.ensures.mark in
-    let F : Option (List ℕ) → Type 0 = λ new. WritesAndLeaves limit (IsTaken mark) c.reported.result old new o next in
+    let F : Option (List ℕ) → Type 0 = λ new. WritesAndLeaves limit (IsTakenError mark) c.reported.result old new o next in
     subst F (sym c.reported.ensures.given) all
 
 pub returns-clause-mark : goal.returns-clause-mark

@@ -1,8 +1,8 @@
 use Rattle.std.proofs.Common.{◌<◌, List, Some, length, map, drop, sym, ap, ◌∙◌, arith}
 use Rattle.upon_types.specs.AstPath.{member_of}
 use Rattle.upon_types.specs.declared.types.ast.path.Member.{Member}
-use Rattle.upon_shape_spec.specs.Paths.{MemberShape, after_member, walk_shape}
-use Rattle.upon_shape.specs.View.{view}
+use Rattle.upon_shape_spec.specs.Paths.{MemberShape, after_member_shape, walk_shape}
+use Rattle.upon_shape.specs.View.{shape_view}
 use Rattle.upon_shape.proofs.Steps.{cut_before}
 use Rattle.upon_shape.proofs.Walks.{walk-never}
 use Rattle.upon_shape.proofs.shape.Shape.+walk.Goals as goal
@@ -14,5 +14,5 @@ returns-in-Never t c =
     let some : 0 < length path = omega arith in
     ap Some c.never.ensures
     ∙ sym (walk-never rest)
-    ∙ ap (λ (f : MemberShape). after_member f (walk_shape rest)) c.in-Never.ensures
-    ∙ ap (λ (p : List Member). walk_shape (map member_of p) (view c.args.self.now)) (sym (cut_before path 0 c.member-item.result some c.member-item.is))
+    ∙ ap (λ (f : MemberShape). after_member_shape f (walk_shape rest)) c.in-Never.ensures
+    ∙ ap (λ (p : List Member). walk_shape (map member_of p) (shape_view c.args.self.now)) (sym (cut_before path 0 c.member-item.result some c.member-item.is))

@@ -4,7 +4,7 @@ use Rattle.upon_types.specs.View.{view as value_view, vals_view}
 use Rattle.upon_meaning_spec.specs.MapOrder.{IsAmong}
 use Rattle.upon_shape_spec.specs.Fits.{Fits, AllRise}
 use Rattle.upon_shape_spec.specs.Join.{items_shape, samples_shape}
-use Rattle.upon_shape.specs.View.{view}
+use Rattle.upon_shape.specs.View.{shape_view}
 use Rattle.upon_shape.specs.declared.shape.Shape.{Shape}
 use Rattle.upon_shape.proofs.Samples.{from_one, from_both, items_shape-samples, of_samples_fit}
 use Rattle.upon_shape.proofs.shape.Shape.of_samples.Goals as goal
@@ -12,10 +12,10 @@ use Rattle.upon_shape.proofs.shape.Shape.of_samples.Goals as goal
 pub returns-clause-shape : goal.returns-clause-shape
 returns-clause-shape c =
     let vs = map value_view c.args.samples.now in
-    from_one c.joined_shape.result (λ (s : Shape). view s ≡ items_shape (vals_view c.args.samples.now)) (λ (s : Shape). view s ≡ samples_shape vs) (λ s e. e ∙ items_shape-samples vs) c.joined_shape.ensures.shape
+    from_one c.joined_shape.result (λ (s : Shape). shape_view s ≡ items_shape (vals_view c.args.samples.now)) (λ (s : Shape). shape_view s ≡ samples_shape vs) (λ s e. e ∙ items_shape-samples vs) c.joined_shape.ensures.shape
 
 pub returns-clause-fits : goal.returns-clause-fits
 returns-clause-fits c =
     let vs = map value_view c.args.samples.now in
-    from_both c.joined_shape.result (λ (s : Shape). view s ≡ items_shape (vals_view c.args.samples.now)) (λ (s : Shape). AllRise (vals_view c.args.samples.now)) (λ (s : Shape). (v : Val) → IsAmong v vs → Fits (view s) v)
-    (λ s. of_samples_fit vs (view s)) c.joined_shape.ensures.shape c.joined_shape.ensures.rises
+    from_both c.joined_shape.result (λ (s : Shape). shape_view s ≡ items_shape (vals_view c.args.samples.now)) (λ (s : Shape). AllRise (vals_view c.args.samples.now)) (λ (s : Shape). (v : Val) → IsAmong v vs → Fits (shape_view s) v)
+    (λ s. of_samples_fit vs (shape_view s)) c.joined_shape.ensures.shape c.joined_shape.ensures.rises

@@ -1,6 +1,6 @@
 use Rattle.std.proofs.Common.{rules, ◌≡◌, ◌∙◌, ℕ, Ok, Err, true, ap, sym}
 use Rattle.upon_meaning_spec.specs.Outcome.{Outcome, States}
-use Rattle.upon_vm.specs.Reports.{IsAnyIo, Writes}
+use Rattle.upon_vm.specs.Reports.{IsAnyIo, WritesReported}
 use Rattle.upon_engine.specs.Sources.{value_in}
 use Rattle.upon_engine.specs.Template.{template_of}
 use Rattle.upon.proofs.Renderings.{by_source}
@@ -15,7 +15,7 @@ returns-in-Ok g c =
     let by = c.with_template_fn-rendering.ensures in
     let contents = g.W.Write.contents in
     let Says : ℕ → Outcome (States (Unit {0}) (Unit {0})) → Type 0 = λ limit o.
-    Writes limit IsAnyIo (Ok c.in-Ok.field-0) (contents c.args.writer.now) (contents c.to_writer.new.writer) o in
+    WritesReported limit IsAnyIo (Ok c.in-Ok.field-0) (contents c.args.writer.now) (contents c.to_writer.new.writer) o in
     let good : is_path c.args.path.now ≡ true = search rules in
     record {
       means = (
@@ -35,7 +35,7 @@ returns-in-Err g c =
     let by = c.with_template_fn-rendering.ensures in
     let contents = g.W.Write.contents in
     let Says : ℕ → Outcome (States (Unit {0}) (Unit {0})) → Type 0 = λ limit o.
-    Writes limit IsAnyIo (Err c.in-Err.error) (contents c.args.writer.now) (contents c.to_writer.new.writer) o in
+    WritesReported limit IsAnyIo (Err c.in-Err.error) (contents c.args.writer.now) (contents c.to_writer.new.writer) o in
     let good : is_path c.args.path.now ≡ true = search rules in
     record {
       means = (

@@ -10,7 +10,7 @@ use Rattle.upon_machine_spec.specs.Code.{program_of}
 use Rattle.upon_instructions.specs.Program.{program_view}
 use Rattle.upon_instructions.specs.declared.types.program.Instr.{Instr}
 use Rattle.upon_syntax.specs.TagReading.{IsSyntaxError}
-use Rattle.upon_syntax.specs.Parsed.{source_of, syntax_of, IsProgramOf}
+use Rattle.upon_syntax.specs.Parsed.{source_of, syntax_of, IsParsedProgram}
 use Rattle.upon_syntax.proofs.NextTokens.{ok_on, err_on}
 use Rattle.upon_syntax.proofs.compile.parse.Parser.compile_template.Goals as goal
 
@@ -19,7 +19,7 @@ returns-clause-only_tree c =
     let delimiters = syntax_of c.args.self in
     let s = source_of c.args.self in
     let texts = c.args.self.searcher.now.syntax.has_texts in
-    let P : Vec Instr Global → Type 0 = λ code. IsProgramOf delimiters s code.items in
+    let P : Vec Instr Global → Type 0 = λ code. IsParsedProgram delimiters s code.items in
     let Q : Vec Instr Global → Type 0 = λ code. (tree : Statements) → HasTree delimiters s tree → program_view code.items ≡ program_of tree in
     ok_on P Q c.read_program.result (λ code is tree has. is.program ∙ ap program_of (one_whole_tree delimiters s is.tree tree texts is.has_tree has)) c.read_program.ensures.program
 

@@ -1,19 +1,19 @@
 use Rattle.std.proofs.Common.{◌≡◌, ◌-◌, List, [], length}
 use Rattle.upon_lexer.specs.Searcher.{searcher_delimiters}
 use Rattle.upon_compiler.specs.After.{after_all}
-use Rattle.upon_compiler.specs.Compiler.{nothing, state_of}
-use Rattle.upon_syntax.specs.PieceReading.{pieces_text, pieces_delimiters, pieces_state, HasFound}
-use Rattle.upon_syntax.specs.Pieces.{Piece}
+use Rattle.upon_compiler.specs.Compiler.{compiler_state, nothing}
+use Rattle.upon_syntax.specs.PieceReading.{text_of_reader, pieces_delimiters, pieces_state, HasFound}
+use Rattle.upon_syntax.specs.Pieces.{TemplatePiece}
 use Rattle.upon_syntax.specs.Told.{events_of}
 use Rattle.upon_syntax.proofs.compile.parse.program.read_program.Given as goal
 
 abbrev pub invariant-pieces : goal.invariant-pieces
 invariant-pieces l = record {
-  text : pieces_text l.reader ≡ l.fn.source;
+  text : text_of_reader l.reader ≡ l.fn.source;
   delimiters : pieces_delimiters l.reader ≡ searcher_delimiters l.fn.searcher;
   empty : l.code.items ≡ [];
-  found : (found : List Piece) × HasFound l.reader found × (state_of l.compiler ≡ after_all (events_of found) nothing);
+  found : (found : List TemplatePiece) × HasFound l.reader found × (compiler_state l.compiler ≡ after_all (events_of found) nothing);
 }
 
 abbrev pub decreases-pieces : goal.decreases-pieces
-decreases-pieces l = length (pieces_text l.reader) - (pieces_state l.reader).offset
+decreases-pieces l = length (text_of_reader l.reader) - (pieces_state l.reader).offset

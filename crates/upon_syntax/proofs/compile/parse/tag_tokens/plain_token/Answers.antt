@@ -4,7 +4,7 @@ use Rattle.upon_language_spec.specs.Search.{DelimiterText}
 use Rattle.upon_language_spec.specs.Lexing.{HasRead}
 use Rattle.upon_lexer.specs.Lexers.{lexer_text, lexer_delimiters, lexer_state}
 use Rattle.upon_tag_parser.specs.Literals.{lexeme_of}
-use Rattle.upon_syntax.specs.TagEnds.{ReadsOn}
+use Rattle.upon_syntax.specs.TagEnds.{ReadsOnTokens}
 use Rattle.upon_syntax.proofs.TagTokenSteps.{goes_on, plain_is_inside, plain_token, reads_spaces}
 use Rattle.upon_syntax.proofs.compile.parse.tag_tokens.plain_token.Goals as goal
 
@@ -22,7 +22,7 @@ returns-in-Some-clause-inner c = λ sort path ls read mode.
     let found = c.in-Some in
     let has_read = subst (λ x. HasRead delimiters x left ls) c.requires.same read in
     let on = goes_on delimiters s sort path ls left has_read mode after found.token found.span (found.ensures.token ls has_read) (plain_is_inside found.token found.ensures.plain) in
-    subst (λ x. ReadsOn delimiters x sort ls after (lexeme_of (record { token = found.token; span = found.span }) ∷ [])) (sym c.requires.same) on
+    subst (λ x. ReadsOnTokens delimiters x sort ls after (lexeme_of (record { token = found.token; span = found.span }) ∷ [])) (sym c.requires.same) on
 
 pub returns-in-None-clause-inner : goal.returns-in-None-clause-inner
 returns-in-None-clause-inner c = λ sort path ls read mode.
@@ -35,4 +35,4 @@ returns-in-None-clause-inner c = λ sort path ls read mode.
     let passed = c.in-None.ensures.blanks refl ls has_read in
     let Read : List DelimiterText → List ℕ → Type 0 = λ d x. HasRead d x after (ls ++ passed.0) in
     let more = subst (λ d. Read d s) c.in-None.ensures.delimiters (subst (λ x. Read (lexer_delimiters next) x) c.in-None.ensures.text passed.2) in
-    subst (λ x. ReadsOn delimiters x sort ls after []) (sym c.requires.same) (reads_spaces delimiters s sort path ls left has_read mode after passed.0 passed.1 more)
+    subst (λ x. ReadsOnTokens delimiters x sort ls after []) (sym c.requires.same) (reads_spaces delimiters s sort path ls left has_read mode after passed.0 passed.1 more)

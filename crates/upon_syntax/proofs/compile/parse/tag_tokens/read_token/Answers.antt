@@ -3,7 +3,7 @@ use Rattle.upon_language_spec.specs.Lexing.{HasRead}
 use Rattle.upon_lexer.specs.Lexers.{lexer_text, lexer_delimiters, lexer_state}
 use Rattle.upon_lexer.specs.Spelling.{IsSpelled}
 use Rattle.upon_tag_parser.specs.Literals.{before_of, lexeme_of}
-use Rattle.upon_syntax.specs.TagEnds.{ReadsOn}
+use Rattle.upon_syntax.specs.TagEnds.{ReadsOnTokens}
 use Rattle.upon_syntax.proofs.LiteralSpans.{index_digits}
 use Rattle.upon_syntax.proofs.TagTokenSteps.{ends_wrong, ends_eof, stops, goes_on}
 use Rattle.upon_syntax.proofs.compile.parse.tag_tokens.read_token.Goals as goal
@@ -45,7 +45,7 @@ returns-in-None-clause-inner c = λ sort path ls read mode.
     let has_read = subst (λ x. HasRead delimiters x left ls) c.requires.same read in
     let g = rw c.in-Ok-Some.field-0-is at c.in-Ok-Some.ensures.token ls has_read in
     let on = goes_on delimiters s sort path ls left has_read mode after token span g c.in-None.ensures.token.0 in
-    subst (λ x. ReadsOn delimiters x sort ls after (lexeme_of (record { token = token; span = span }) ∷ [])) (sym c.requires.same) on
+    subst (λ x. ReadsOnTokens delimiters x sort ls after (lexeme_of (record { token = token; span = span }) ∷ [])) (sym c.requires.same) on
 
 pub returns-in-Some-clause-ends : goal.returns-in-Some-clause-ends
 returns-in-Some-clause-ends c = λ sort path ls read mode.

@@ -1,8 +1,8 @@
 use Rattle.std.proofs.Common.{ap, sym, ◌∙◌}
 use Rattle.std.proofs.lemmas.Result.{IfOk-equal}
 use Rattle.upon_types.specs.AstPath.{ident_of, loop_vars_of, string_of}
-use Rattle.upon_compiler.specs.After.{after}
-use Rattle.upon_compiler.specs.Compiler.{state_of}
+use Rattle.upon_compiler.specs.After.{after_event}
+use Rattle.upon_compiler.specs.Compiler.{compiler_state}
 use Rattle.upon_compiler.specs.Events.{if_event, else_if_event, for_event, with_event, include_with_event}
 use Rattle.upon_tag_parser.specs.BlockTags.{tag_code}
 use Rattle.upon_syntax.specs.Told.{tag_event}
@@ -12,22 +12,22 @@ use Rattle.upon_syntax.proofs.compile.parse.tell.tell_tag.Goals as goal
 pub returns-in-If-clause-state : goal.returns-in-If-clause-state
 returns-in-If-clause-state c = λ told keeps code.
     let kept = rw c.in-If.is at keeps in
-    let old = state_of c.args.compiler.now in
+    let old = compiler_state c.args.compiler.now in
     let event = ap (if_event c.in-If.not) (code ∙ ap tag_code kept.1) ∙ ap tag_event (sym kept.1) in
-    IfOk-equal c.begin_if.result _ _ _ c.begin_if.ensures.state (ap (λ e. after e old) event)
+    IfOk-equal c.begin_if.result _ _ _ c.begin_if.ensures.state (ap (λ e. after_event e old) event)
 
 pub returns-in-ElseIf-clause-state : goal.returns-in-ElseIf-clause-state
 returns-in-ElseIf-clause-state c = λ told keeps code.
     let kept = rw c.in-ElseIf.is at keeps in
-    let old = state_of c.args.compiler.now in
+    let old = compiler_state c.args.compiler.now in
     let event = ap (else_if_event c.in-ElseIf.not) (code ∙ ap tag_code kept.1) ∙ ap tag_event (sym kept.1) in
-    IfOk-equal c.else_if.result _ _ _ c.else_if.ensures.state (ap (λ e. after e old) event)
+    IfOk-equal c.else_if.result _ _ _ c.else_if.ensures.state (ap (λ e. after_event e old) event)
 
 pub returns-in-Else-clause-state : goal.returns-in-Else-clause-state
 returns-in-Else-clause-state c = λ told keeps code.
     let kept = rw c.in-Else.is at keeps in
-    let old = state_of c.args.compiler.now in
-    IfOk-equal c.begin_else.result _ _ _ c.begin_else.ensures (ap (λ t. after (tag_event t) old) (sym kept))
+    let old = compiler_state c.args.compiler.now in
+    IfOk-equal c.begin_else.result _ _ _ c.begin_else.ensures (ap (λ t. after_event (tag_event t) old) (sym kept))
 
 pub returns-in-Else-clause-moved : goal.returns-in-Else-clause-moved
 returns-in-Else-clause-moved c = λ told keeps code.
@@ -37,8 +37,8 @@ returns-in-Else-clause-moved c = λ told keeps code.
 pub returns-in-EndIf-clause-state : goal.returns-in-EndIf-clause-state
 returns-in-EndIf-clause-state c = λ told keeps code.
     let kept = rw c.in-EndIf.is at keeps in
-    let old = state_of c.args.compiler.now in
-    c.end_if.ensures ∙ ap (λ t. after (tag_event t) old) (sym kept)
+    let old = compiler_state c.args.compiler.now in
+    c.end_if.ensures ∙ ap (λ t. after_event (tag_event t) old) (sym kept)
 
 pub returns-in-EndIf-clause-moved : goal.returns-in-EndIf-clause-moved
 returns-in-EndIf-clause-moved c = λ told keeps code.
@@ -48,17 +48,17 @@ returns-in-EndIf-clause-moved c = λ told keeps code.
 pub returns-in-For-clause-state : goal.returns-in-For-clause-state
 returns-in-For-clause-state c = λ told keeps code.
     let kept = rw c.in-For.is at keeps in
-    let old = state_of c.args.compiler.now in
+    let old = compiler_state c.args.compiler.now in
     let names = loop_vars_of c.in-For.vars.value in
     let all = code ∙ ap tag_code kept.1 in
     let event = (λ i. for_event names (kept.2 i) (all i)) ∙ ap tag_event (sym kept.1) in
-    IfOk-equal c.begin_for.result _ _ _ c.begin_for.ensures.state (ap (λ e. after e old) event)
+    IfOk-equal c.begin_for.result _ _ _ c.begin_for.ensures.state (ap (λ e. after_event e old) event)
 
 pub returns-in-EndFor-clause-state : goal.returns-in-EndFor-clause-state
 returns-in-EndFor-clause-state c = λ told keeps code.
     let kept = rw c.in-EndFor.is at keeps in
-    let old = state_of c.args.compiler.now in
-    IfOk-equal c.end_for.result _ _ _ c.end_for.ensures (ap (λ t. after (tag_event t) old) (sym kept))
+    let old = compiler_state c.args.compiler.now in
+    IfOk-equal c.end_for.result _ _ _ c.end_for.ensures (ap (λ t. after_event (tag_event t) old) (sym kept))
 
 pub returns-in-EndFor-clause-moved : goal.returns-in-EndFor-clause-moved
 returns-in-EndFor-clause-moved c = λ told keeps code.
@@ -68,15 +68,15 @@ returns-in-EndFor-clause-moved c = λ told keeps code.
 pub returns-in-With-clause-state : goal.returns-in-With-clause-state
 returns-in-With-clause-state c = λ told keeps code.
     let kept = rw c.in-With.is at keeps in
-    let old = state_of c.args.compiler.now in
+    let old = compiler_state c.args.compiler.now in
     let event = ap (with_event (ident_of c.in-With.name)) (code ∙ ap tag_code kept.1) ∙ ap tag_event (sym kept.1) in
-    IfOk-equal c.begin_with.result _ _ _ c.begin_with.ensures.state (ap (λ e. after e old) event)
+    IfOk-equal c.begin_with.result _ _ _ c.begin_with.ensures.state (ap (λ e. after_event e old) event)
 
 pub returns-in-EndWith-clause-state : goal.returns-in-EndWith-clause-state
 returns-in-EndWith-clause-state c = λ told keeps code.
     let kept = rw c.in-EndWith.is at keeps in
-    let old = state_of c.args.compiler.now in
-    IfOk-equal c.end_with.result _ _ _ c.end_with.ensures (ap (λ t. after (tag_event t) old) (sym kept))
+    let old = compiler_state c.args.compiler.now in
+    IfOk-equal c.end_with.result _ _ _ c.end_with.ensures (ap (λ t. after_event (tag_event t) old) (sym kept))
 
 pub returns-in-EndWith-clause-moved : goal.returns-in-EndWith-clause-moved
 returns-in-EndWith-clause-moved c = λ told keeps code.
@@ -86,8 +86,8 @@ returns-in-EndWith-clause-moved c = λ told keeps code.
 pub returns-in-Include-clause-state : goal.returns-in-Include-clause-state
 returns-in-Include-clause-state c = λ told keeps code.
     let kept = rw c.in-Include.is at keeps in
-    let old = state_of c.args.compiler.now in
-    IfOk-equal c.include.result _ _ _ c.include.ensures (ap (λ t. after (tag_event t) old) (sym kept))
+    let old = compiler_state c.args.compiler.now in
+    IfOk-equal c.include.result _ _ _ c.include.ensures (ap (λ t. after_event (tag_event t) old) (sym kept))
 
 pub returns-in-Include-clause-moved : goal.returns-in-Include-clause-moved
 returns-in-Include-clause-moved c = λ told keeps code.
@@ -97,6 +97,6 @@ returns-in-Include-clause-moved c = λ told keeps code.
 pub returns-in-IncludeWith-clause-state : goal.returns-in-IncludeWith-clause-state
 returns-in-IncludeWith-clause-state c = λ told keeps code.
     let kept = rw c.in-IncludeWith.is at keeps in
-    let old = state_of c.args.compiler.now in
+    let old = compiler_state c.args.compiler.now in
     let event = ap (include_with_event (string_of c.in-IncludeWith.name)) (code ∙ ap tag_code kept.1) ∙ ap tag_event (sym kept.1) in
-    IfOk-equal c.include_with.result _ _ _ c.include_with.ensures.state (ap (λ e. after e old) event)
+    IfOk-equal c.include_with.result _ _ _ c.include_with.ensures.state (ap (λ e. after_event e old) event)

@@ -4,7 +4,7 @@ use Rattle.upon_types.specs.declared.error.Error.{Error}
 use Rattle.upon_language_spec.specs.Search.{DelimiterText}
 use Rattle.upon_language_spec.specs.Cut.{Lexeme, in_comment}
 use Rattle.upon_lexer.specs.Lexers.{lexer_text, lexer_delimiters, lexer_state}
-use Rattle.upon_syntax.specs.PieceReading.{pieces_text, pieces_delimiters, pieces_state, AfterCommentBegin, AfterCommentRaw, PassesEnd, PassesComment}
+use Rattle.upon_syntax.specs.PieceReading.{text_of_reader, pieces_delimiters, pieces_state, AfterCommentBegin, AfterCommentRaw, PassesEnd, PassesComment}
 use Rattle.upon_syntax.specs.TagReading.{IsSyntaxError}
 use Rattle.upon_syntax.proofs.NextTokens.{ok_on, err_on, over, back, handed_on, next_in, cut_error, said_at, said_at_end}
 use Rattle.upon_syntax.proofs.Comments.{comment_raw, empty_fault, eof_fault}
@@ -14,7 +14,7 @@ use Rattle.upon_syntax.proofs.compile.parse.piece_reader.PieceReader.pass_commen
 pub returns-in_err-inside-clause-fault : goal.returns-in_err-inside-clause-fault
 returns-in_err-inside-clause-fault c =
     let delimiters = pieces_delimiters c.args.self.now in
-    let s = pieces_text c.args.self.now in
+    let s = text_of_reader c.args.self.now in
     let left = pieces_state c.args.self.now in
     let fault : (ls : List Lexeme) → AfterCommentBegin delimiters s left ls → IsSyntaxError delimiters s c.in_err-inside.field-0.0 = λ ls b.
     cut_error delimiters s left c.in_err-inside.field-0.0 b.read_to.clear (next_in delimiters s left (lexer_state c.next.new.self) in_comment ls (Err c.in_err-inside.field-0.0) tt b.read_to (c.in_err-inside.ensures.token ls b.read_to.read)) in
@@ -24,7 +24,7 @@ returns-in_err-inside-clause-fault c =
 pub returns-in-None-clause-fault : goal.returns-in-None-clause-fault
 returns-in-None-clause-fault c = λ ls b.
     let delimiters = pieces_delimiters c.args.self.now in
-    let s = pieces_text c.args.self.now in
+    let s = text_of_reader c.args.self.now in
     let left = pieces_state c.args.self.now in
     let gives = next_in delimiters s left (lexer_state c.next.new.self) in_comment ls (Ok None) tt b.read_to (rw c.in-None.is at c.in_ok-inside.ensures.token ls b.read_to.read) in
     let first = eof_fault delimiters s c.args.self.now.lexer.searcher.now.syntax.has_texts left ls true (codes "expected raw template, found EOF") b.read_to b.begin gives.0 refl in
@@ -33,7 +33,7 @@ returns-in-None-clause-fault c = λ ls b.
 pub returns-then-matches-clause-fault : goal.returns-then-matches-clause-fault
 returns-then-matches-clause-fault c = λ ls b.
     let delimiters = pieces_delimiters c.args.self.now in
-    let s = pieces_text c.args.self.now in
+    let s = text_of_reader c.args.self.now in
     let left = pieces_state c.args.self.now in
     let gives = next_in delimiters s left (lexer_state c.next.new.self) in_comment ls (Ok (Some (c.in-Some.token, c.in-Some.span))) tt b.read_to (rw c.in-Some.is at c.in_ok-inside.ensures.token ls b.read_to.read) in
     let ended : c.in-Some.token ≡ EndComment = elim c.match-matches.branch [
@@ -44,11 +44,11 @@ returns-then-matches-clause-fault c = λ ls b.
     said_at delimiters s (lexer_text c.next.new.self) c.in-Some.span c.in-Some.span (codes "expected raw template, found end comment") c.refusal-then-matches.result c.in_ok-inside.ensures.text refl first c.refusal-then-matches.ensures
 
 -- the raw part that was given
-given_raw : (c : goal.After-pass_comment_end) (ls : List Lexeme) → AfterCommentBegin (pieces_delimiters c.args.self.now) (pieces_text c.args.self.now) (pieces_state c.args.self.now) ls
-    → (l : Lexeme) × (l.token ≡ Raw) × AfterCommentRaw (pieces_delimiters c.args.self.now) (pieces_text c.args.self.now) (lexer_state c.next.new.self) (ls ++ l ∷ [])
+given_raw : (c : goal.After-pass_comment_end) (ls : List Lexeme) → AfterCommentBegin (pieces_delimiters c.args.self.now) (text_of_reader c.args.self.now) (pieces_state c.args.self.now) ls
+    → (l : Lexeme) × (l.token ≡ Raw) × AfterCommentRaw (pieces_delimiters c.args.self.now) (text_of_reader c.args.self.now) (lexer_state c.next.new.self) (ls ++ l ∷ [])
 given_raw c ls b =
     let delimiters = pieces_delimiters c.args.self.now in
-    let s = pieces_text c.args.self.now in
+    let s = text_of_reader c.args.self.now in
     let left = pieces_state c.args.self.now in
     let gives = next_in delimiters s left (lexer_state c.next.new.self) in_comment ls (Ok (Some (c.in-Some.token, c.in-Some.span))) tt b.read_to (rw c.in-Some.is at c.in_ok-inside.ensures.token ls b.read_to.read) in
     let other : c.in-Some.token ≡ EndComment → ⊥ = λ e. elim c.match-matches.branch [
@@ -61,7 +61,7 @@ given_raw c ls b =
 pub returns-else-matches-clause-passes : goal.returns-else-matches-clause-passes
 returns-else-matches-clause-passes c =
     let delimiters = pieces_delimiters c.args.self.now in
-    let s = pieces_text c.args.self.now in
+    let s = text_of_reader c.args.self.now in
     let delimiters' = lexer_delimiters c.next.new.self in
     let s' = lexer_text c.next.new.self in
     let mid = lexer_state c.next.new.self in
@@ -79,7 +79,7 @@ returns-else-matches-clause-passes c =
 pub returns-else-matches-clause-fault : goal.returns-else-matches-clause-fault
 returns-else-matches-clause-fault c =
     let delimiters = pieces_delimiters c.args.self.now in
-    let s = pieces_text c.args.self.now in
+    let s = text_of_reader c.args.self.now in
     let delimiters' = lexer_delimiters c.next.new.self in
     let s' = lexer_text c.next.new.self in
     let mid = lexer_state c.next.new.self in

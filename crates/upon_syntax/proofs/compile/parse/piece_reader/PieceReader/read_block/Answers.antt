@@ -8,8 +8,8 @@ use Rattle.upon_language_spec.specs.Wanted.{in_quotes}
 use Rattle.upon_language_spec.proofs.SpansLieIn.Characters.{had_utf8}
 use Rattle.upon_lexer.specs.Lexers.{lexer_text}
 use Rattle.upon_syntax.specs.declared.compile.parse.open_blocks.Closing.{Closing}
-use Rattle.upon_syntax.specs.OpenBlocks.{closer_of, stack_of}
-use Rattle.upon_syntax.specs.PieceReading.{pieces_text, pieces_delimiters, pieces_blocks, token_lexeme}
+use Rattle.upon_syntax.specs.OpenBlocks.{closer_view, stack_of}
+use Rattle.upon_syntax.specs.PieceReading.{text_of_reader, pieces_delimiters, pieces_blocks, token_lexeme}
 use Rattle.upon_syntax.specs.Pieces.{block_piece}
 use Rattle.upon_syntax.specs.TagReading.{IsSyntaxError}
 use Rattle.upon_syntax.proofs.BlockFaults.{first_lies_in}
@@ -18,14 +18,14 @@ use Rattle.upon_syntax.proofs.TagEnds.{after_begin_block, block_step, untaken_fi
 use Rattle.upon_syntax.proofs.compile.parse.piece_reader.PieceReader.read_block.Goals as goal
 
 abbrev reason : Closing → List ℕ
-reason closer = codes "unexpected " ++ (in_quotes (closer_words (closer_of closer)) ++ codes " block")
+reason closer = codes "unexpected " ++ (in_quotes (closer_words (closer_view closer)) ++ codes " block")
 
 pub returns-in_err-tag-clause-fault : goal.returns-in_err-tag-clause-fault
 returns-in_err-tag-clause-fault c =
     let self = c.args.self.now in
     let x = c.requires.given.2 in
     let fault = c.in_err-tag.ensures.fault (c.requires.given.1 ++ token_lexeme BeginBlock x.hyphen x.at ∷ []) (after_begin_block self.lexer self.lexer.searcher.now.syntax.has_texts c.requires.given.0 (pieces_blocks self) c.requires.given.1 c.args.begin x) in
-    handed_on (IsSyntaxError (pieces_delimiters self) (pieces_text self)) c.in_err-tag.field-0.0 c.from_residual.result c.from_residual.ensures.1 fault
+    handed_on (IsSyntaxError (pieces_delimiters self) (text_of_reader self)) c.in_err-tag.field-0.0 c.from_residual.result c.from_residual.ensures.1 fault
 
 pub unexpected-requires : goal.unexpected-requires
 unexpected-requires c =
@@ -38,9 +38,9 @@ unexpected-requires c =
     let a = c.in_ok-tag.ensures.tag (c.requires.given.1 ++ token_lexeme BeginBlock x.hyphen x.at ∷ []) (after_begin_block lexer texts c.requires.given.0 stack c.requires.given.1 c.args.begin x) in
     let passed = rw c.in-Some.is at c.in-Ok.ensures in
     let refused = passed a.tokens.tree a.tokens.keeps in
-    let first = untaken_first lexer texts c.requires.given.0 stack c.requires.given.1 c.args.begin c.read_block.new.lexer c.in_ok-tag.ensures.delimiters c.in_ok-tag.ensures.text (had_utf8 (pieces_delimiters self) lexer.searcher.now.syntax.has_utf8) text x c.in_ok-tag.tag c.in_ok-tag.span c.args.code.now.items c.read_block.new.code.items a c.in_ok-tag.ensures.start (closer_of c.in-Some.closer) refused.0 refused.1 in
+    let first = untaken_first lexer texts c.requires.given.0 stack c.requires.given.1 c.args.begin c.read_block.new.lexer c.in_ok-tag.ensures.delimiters c.in_ok-tag.ensures.text (had_utf8 (pieces_delimiters self) lexer.searcher.now.syntax.has_utf8) text x c.in_ok-tag.tag c.in_ok-tag.span c.args.code.now.items c.read_block.new.code.items a c.in_ok-tag.ensures.start (closer_view c.in-Some.closer) refused.0 refused.1 in
     let F : List ℕ → Type 0 = λ s. LiesIn s c.in_ok-tag.span in
-    subst F (sym c.in_ok-tag.ensures.text) (first_lies_in (pieces_delimiters self) (pieces_text self) c.in_ok-tag.span (reason c.in-Some.closer) texts lexer.searcher.now.syntax.has_utf8 text first)
+    subst F (sym c.in_ok-tag.ensures.text) (first_lies_in (pieces_delimiters self) (text_of_reader self) c.in_ok-tag.span (reason c.in-Some.closer) texts lexer.searcher.now.syntax.has_utf8 text first)
 
 pub returns-in-None-clause-tag : goal.returns-in-None-clause-tag
 returns-in-None-clause-tag c = λ before ls x.
@@ -66,5 +66,5 @@ returns-in-Some-clause-fault c =
     let a = c.in_ok-tag.ensures.tag (c.requires.given.1 ++ token_lexeme BeginBlock x.hyphen x.at ∷ []) (after_begin_block lexer texts c.requires.given.0 stack c.requires.given.1 c.args.begin x) in
     let passed = rw c.in-Some.is at c.in-Ok.ensures in
     let refused = passed a.tokens.tree a.tokens.keeps in
-    let first = untaken_first lexer texts c.requires.given.0 stack c.requires.given.1 c.args.begin c.read_block.new.lexer c.in_ok-tag.ensures.delimiters c.in_ok-tag.ensures.text (had_utf8 (pieces_delimiters self) lexer.searcher.now.syntax.has_utf8) text x c.in_ok-tag.tag c.in_ok-tag.span c.args.code.now.items c.read_block.new.code.items a c.in_ok-tag.ensures.start (closer_of c.in-Some.closer) refused.0 refused.1 in
-    said_at (pieces_delimiters self) (pieces_text self) (lexer_text c.read_block.new.lexer) c.in_ok-tag.span c.in_ok-tag.span (reason c.in-Some.closer) c.unexpected.result c.in_ok-tag.ensures.text refl first c.unexpected.ensures
+    let first = untaken_first lexer texts c.requires.given.0 stack c.requires.given.1 c.args.begin c.read_block.new.lexer c.in_ok-tag.ensures.delimiters c.in_ok-tag.ensures.text (had_utf8 (pieces_delimiters self) lexer.searcher.now.syntax.has_utf8) text x c.in_ok-tag.tag c.in_ok-tag.span c.args.code.now.items c.read_block.new.code.items a c.in_ok-tag.ensures.start (closer_view c.in-Some.closer) refused.0 refused.1 in
+    said_at (pieces_delimiters self) (text_of_reader self) (lexer_text c.read_block.new.lexer) c.in_ok-tag.span c.in_ok-tag.span (reason c.in-Some.closer) c.unexpected.result c.in_ok-tag.ensures.text refl first c.unexpected.ensures

@@ -8,7 +8,7 @@ use Rattle.upon_language_spec.specs.Lexing.{LexerState}
 use Rattle.upon_lexer.specs.Lexers.{lexer_state}
 use Rattle.upon_tag_parser.specs.WholeTags.{HoldsInline}
 use Rattle.upon_syntax.specs.declared.compile.parse.piece.Piece.TheVariants.{InlineExpr}
-use Rattle.upon_syntax.specs.PieceReading.{pieces_text, pieces_delimiters, pieces_state, pieces_blocks, token_lexeme, TokenGiven, PieceRead}
+use Rattle.upon_syntax.specs.PieceReading.{text_of_reader, pieces_delimiters, pieces_state, pieces_blocks, token_lexeme, TokenGiven, PieceRead}
 use Rattle.upon_syntax.specs.Pieces.{inline_piece}
 use Rattle.upon_syntax.specs.TagReading.{AfterBegin, AfterEnd, IsSyntaxError}
 use Rattle.upon_syntax.proofs.NextTokens.{ok_on, err_on}
@@ -22,7 +22,7 @@ returns-clause-tag c =
     let reader = c.read_inline.new in
     let after = reader.lexer in
     let delimiters = pieces_delimiters self in
-    let s = pieces_text self in
+    let s = text_of_reader self in
     let stack = pieces_blocks self in
     let old = c.args.code.now.items in
     let new = reader.code.items in
@@ -41,7 +41,7 @@ returns-clause-fault c =
     let self = c.args.self.now in
     let lexer = self.lexer in
     let delimiters = pieces_delimiters self in
-    let s = pieces_text self in
+    let s = text_of_reader self in
     let given = c.requires.given in
     let P : Error → Type 0 = λ e. (ls : List Lexeme) → AfterBegin lexer expression c.args.begin ls → IsSyntaxError delimiters s e in
     let Q : Error → Type 0 = λ e. IsSyntaxError delimiters s e in
