@@ -20,10 +20,10 @@ use Rattle.upon_language_spec.specs.LaterFaults.{Report, number_report}
 use Rattle.upon_language_spec.specs.CutFaults.{ClearTo, IsFirstCutFault}
 use Rattle.upon_language_spec.specs.Lexing.{LexerState, HasRead}
 use Rattle.upon_language_spec.specs.InTags.{is_inside, EachInside}
-use Rattle.upon_tag_parser.specs.declared.compile.parse.literal.Lexed.{Lexed}
-use Rattle.upon_tag_parser.specs.declared.compile.parse.literal_fault.Refusal.{Refusal}
-use Rattle.upon_tag_parser.specs.LiteralReasons.{report_of}
-use Rattle.upon_tag_parser.specs.Literals.{lexeme_of}
+use Rattle.upon_literals.specs.declared.literal.Lexed.{Lexed}
+use Rattle.upon_literals.specs.declared.literal_fault.Refusal.{Refusal}
+use Rattle.upon_literals.specs.LiteralReasons.{report_of}
+use Rattle.upon_literals.specs.Literals.{lexeme_of}
 use Rattle.upon_syntax.specs.declared.compile.parse.tag_tokens.Ended.{Ended}
 use Rattle.upon_syntax.specs.declared.compile.parse.tag_tokens.Ended.TheVariants.{End, Fault as CutFault, Literal, Eof}
 

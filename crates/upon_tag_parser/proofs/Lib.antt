@@ -13,5 +13,3 @@ pub mod Shown
 pub mod Stack
 pub mod Steps
 pub mod Tags
-pub mod Digits
-pub mod StringPieces

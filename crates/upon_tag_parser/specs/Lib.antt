@@ -1,5 +1,3 @@
-pub mod LiteralReasons
-pub mod Literals
 pub mod Wants
 pub mod TagTokens
 pub mod TagParsing

@@ -19,7 +19,7 @@ use Rattle.upon_language_spec.specs.PartTails.{No}
 use Rattle.upon_language_spec.specs.PartLeads.{Leads}
 use Rattle.upon_language_spec.specs.InTags.{is_inside}
 use Rattle.upon_language_spec.specs.OpenParts.{Ending, ending_parts}
-use Rattle.upon_tag_parser.specs.declared.compile.parse.literal.Lexed.{Lexed}
+use Rattle.upon_literals.specs.declared.literal.Lexed.{Lexed}
 use Rattle.upon_tag_parser.specs.declared.compile.parse.want.Want.{Want}
 use Rattle.upon_tag_parser.specs.TagParsing.{Refuses, QuietEnding, NoWord}
 use Rattle.upon_tag_parser.specs.BlockTags.{BlockTag, if_tag, else_if_tag, else_tag, endif_tag, for_tag, endfor_tag, with_tag}

@@ -24,9 +24,8 @@ use crate::compile::parse::program::read_program;
 use std::alloc::Global;
 use upon_instructions::types::program::Instr;
 use upon_lexer::compile::search::Searcher;
-pub use upon_tag_parser::compile::parse::{
-    base, expression, list, literal, literal_fault, path, scalar, tag, want,
-};
+pub use upon_literals::{literal, literal_fault};
+pub use upon_tag_parser::compile::parse::{base, expression, list, path, scalar, tag, want};
 use upon_types::error::Result;
 
 /// Parses a template's text.

@@ -4,8 +4,6 @@ pub mod brackets;
 pub mod expression;
 pub mod instructions;
 pub mod list;
-pub mod literal;
-pub mod literal_fault;
 pub mod path;
 pub mod scalar;
 pub mod tag;

@@ -15,7 +15,7 @@ use crate::compile::parse::tag_tokens::{Ended, read_tokens};
 use std::alloc::{AllocError, Global};
 use upon_instructions::types::program::Instr;
 use upon_lexer::compile::lex::Lexer;
-use upon_tag_parser::compile::parse::literal::Lexed;
+use upon_literals::literal::Lexed;
 use upon_tag_parser::compile::parse::path::{Failure, TagParser};
 use upon_tag_parser::compile::parse::tag::Tag;
 use upon_tag_parser::compile::parse::want::Want;

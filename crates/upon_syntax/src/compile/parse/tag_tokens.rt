@@ -12,15 +12,15 @@ ghost use Rattle.upon_language_spec.specs.Words.{IsRun};
 ghost use Rattle.upon_language_spec.specs.InTags.{last_or, is_inside, FineLiteral};
 ghost use Rattle.upon_lexer.specs.Spelling.{IsSpelled};
 ghost use Rattle.upon_lexer.specs.Lexers.{lexer_text, lexer_delimiters, lexer_state, ReadSoFar};
-ghost use Rattle.upon_tag_parser.specs.LiteralReasons.{report_of};
-ghost use Rattle.upon_tag_parser.specs.Literals.{lexeme_of, before_of};
+ghost use Rattle.upon_literals.specs.LiteralReasons.{report_of};
+ghost use Rattle.upon_literals.specs.Literals.{lexeme_of, before_of};
 ghost use Rattle.upon_tag_parser.specs.TagTokens.{lexemes_of, IsTagToken, EachTagToken};
 ghost use Rattle.upon_syntax.specs.TagEnds.{DenotesNothing, SignLies, StopsAt, ReadsTokens, ReadsUpTo, TagEndLies, tag_end, found_tokens};
 
 use std::alloc::AllocError;
 use upon_lexer::compile::lex::Lexer;
-use upon_tag_parser::compile::parse::literal::{Lexed, index, number_at, strange_escape};
-use upon_tag_parser::compile::parse::literal_fault::{LiteralFault, Refusal};
+use upon_literals::literal::{Lexed, index, number_at, strange_escape};
+use upon_literals::literal_fault::{LiteralFault, Refusal};
 use upon_types::error::Error;
 use upon_types::types::{Span, Token, slice};
 

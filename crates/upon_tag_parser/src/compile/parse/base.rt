@@ -13,11 +13,11 @@ ghost use Rattle.upon_tag_parser.specs.Brackets.{place, place_of, IsStep, CallGo
 
 use crate::compile::parse::brackets::{Applied, Open, Step};
 use crate::compile::parse::instructions::{append, append_literal, append_path};
-use crate::compile::parse::literal::Lexed;
 use crate::compile::parse::path::{Failure, Parsed, TagParser, expect, take, take_op};
 use crate::compile::parse::want::Want;
 use std::alloc::AllocError;
 use upon_instructions::types::program::Instr;
+use upon_literals::literal::Lexed;
 use upon_types::types::ast::Ident;
 use upon_types::types::{Span, Token};
 

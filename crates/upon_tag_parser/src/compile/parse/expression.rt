@@ -10,10 +10,10 @@ ghost use Rattle.upon_tag_parser.specs.Brackets.{PartStuck, ReadsOn, ReadsStuck}
 
 use crate::compile::parse::brackets::{Applied, Open, Receiver, Step};
 use crate::compile::parse::instructions::append;
-use crate::compile::parse::literal::Lexed;
 use crate::compile::parse::path::{Parsed, TagParser, expect, take};
 use crate::compile::parse::want::Want;
 use upon_instructions::types::program::Instr;
+use upon_literals::literal::Lexed;
 use upon_types::types::{Span, Token};
 
 impl<'a> TagParser<'a> {

@@ -13,11 +13,11 @@ ghost use Rattle.upon_tag_parser.specs.Brackets.{OpenGoesOn, OpenStuck};
 
 use crate::compile::parse::brackets::{Beginning, Open, Step};
 use crate::compile::parse::instructions::{append, replace};
-use crate::compile::parse::literal::Lexed;
 use crate::compile::parse::path::{Parsed, TagParser, expect, take};
 use crate::compile::parse::want::Want;
 use std::alloc::AllocError;
 use upon_instructions::types::program::Instr;
+use upon_literals::literal::Lexed;
 use upon_types::types::{Span, Token, ast};
 
 /// Puts a list's span, up to its closing bracket, into its first instruction, and returns it.

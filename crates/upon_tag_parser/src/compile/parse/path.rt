@@ -17,9 +17,9 @@ ghost use Rattle.upon_tag_parser.specs.declared.compile.parse.want.Want.TheVaria
 ghost use Rattle.upon_tag_parser.specs.TagTokens.{lexemes_of, is_minus, AreTagTokens, IsRest};
 ghost use Rattle.upon_tag_parser.specs.TagParsing.{IfStuck, IsStuck, IsRefused, NoWord, ReadsBase, ReadsMembers};
 
-use crate::compile::parse::literal::{Lexed, index};
 use crate::compile::parse::want::Want;
 use std::alloc::{AllocError, AllocFailed, Global};
+use upon_literals::literal::{Lexed, index};
 use upon_types::types::ast::{self, Access, AccessOp, Ident, Index, Member, Var};
 use upon_types::types::{Span, Token, slice};
 

@@ -14,10 +14,10 @@ ghost use Rattle.upon_tag_parser.specs.WholeTags.{LeadsToEnd, HoldsInline, Holds
 ghost use Rattle.upon_tag_parser.specs.WholeTags.{ReadsLoopVars, IsTooLong, NoOpeningWord};
 
 use crate::compile::parse::instructions::show;
-use crate::compile::parse::literal::Lexed;
 use crate::compile::parse::path::{Failure, Parsed, TagParser, take};
 use crate::compile::parse::want::Want;
 use upon_instructions::types::program::Instr;
+use upon_literals::literal::Lexed;
 use upon_types::types::ast::{self, Ident, KeyValue, LoopVars};
 use upon_types::types::{Span, Token};
 

@@ -13,7 +13,7 @@ use Rattle.upon_language_spec.specs.Expressions.{IsExpression}
 use Rattle.upon_language_spec.specs.Wanted.{an_end_expression}
 use Rattle.upon_language_spec.specs.OpenParts.{ending_parts}
 use Rattle.upon_language_spec.proofs.Wanted.ExpressionsLead.{base_takes}
-use Rattle.upon_tag_parser.specs.declared.compile.parse.literal.Lexed.{Lexed}
+use Rattle.upon_literals.specs.declared.literal.Lexed.{Lexed}
 use Rattle.upon_tag_parser.specs.Shown.{shown}
 use Rattle.upon_tag_parser.specs.WholeTags.{IsTooLong}
 use Rattle.upon_tag_parser.proofs.BaseStarts.{base_starts}

@@ -2,9 +2,9 @@
 use Rattle.std.specs.Prelude.{ℕ, List, ◌++◌, codes}
 use Rattle.std.specs.Fmt.{decimal}
 use Rattle.upon_language_spec.specs.LaterFaults.{Report}
-use Rattle.upon_tag_parser.specs.declared.compile.parse.literal_fault.LiteralFault.{LiteralFault}
-use Rattle.upon_tag_parser.specs.declared.compile.parse.literal_fault.LiteralFault.TheVariants.{Float, InvalidDigit, NumberOutOfRange, IndexOutOfRange, UnknownEscape}
-use Rattle.upon_tag_parser.specs.declared.compile.parse.literal_fault.Refusal.{Refusal}
+use Rattle.upon_literals.specs.declared.literal_fault.LiteralFault.{LiteralFault}
+use Rattle.upon_literals.specs.declared.literal_fault.LiteralFault.TheVariants.{Float, InvalidDigit, NumberOutOfRange, IndexOutOfRange, UnknownEscape}
+use Rattle.upon_literals.specs.declared.literal_fault.Refusal.{Refusal}
 
 -- the reason of the fault
 abbrev pub literal_reason : LiteralFault → List ℕ

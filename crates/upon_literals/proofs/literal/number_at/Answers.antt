@@ -1,6 +1,6 @@
 use Rattle.std.proofs.Common.{arith}
-use Rattle.upon_tag_parser.proofs.Digits.{offset_within}
-use Rattle.upon_tag_parser.proofs.compile.parse.literal.number_at.Goals as goal
+use Rattle.upon_literals.proofs.Digits.{offset_within}
+use Rattle.upon_literals.proofs.literal.number_at.Goals as goal
 
 pub overflow_add-result : goal.overflow_add-result
 overflow_add-result c =

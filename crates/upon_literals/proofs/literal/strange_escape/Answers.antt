@@ -4,8 +4,8 @@ use Rattle.std.proofs.lemmas.Str.{length-encode}
 use Rattle.upon_language_spec.specs.Inside.{pieces_text}
 use Rattle.upon_language_spec.specs.LiteralFaults.{escape_fault}
 use Rattle.upon_language_spec.proofs.Offsets.Bytes.{behind_byte, first_of}
-use Rattle.upon_tag_parser.proofs.StringPieces.{LeftAt, HaveFault, taken_holds, fault_after, left_at_start, at_quote, past_plain, at_backslash, not_at_end, strange, past_escape, inside_text}
-use Rattle.upon_tag_parser.proofs.compile.parse.literal.strange_escape.Goals as goal
+use Rattle.upon_literals.proofs.StringPieces.{LeftAt, HaveFault, taken_holds, fault_after, left_at_start, at_quote, past_plain, at_backslash, not_at_end, strange, past_escape, inside_text}
+use Rattle.upon_literals.proofs.literal.strange_escape.Goals as goal
 
 pub loop-c-init : goal.loop-c-init
 loop-c-init c =

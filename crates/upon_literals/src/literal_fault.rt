@@ -1,6 +1,6 @@
 // What can be wrong with a literal, and the words that report it.
 ghost use Rattle.std.specs.Prelude.{◌≡◌, string_bytes, IfOk};
-ghost use Rattle.upon_tag_parser.specs.LiteralReasons.{literal_reason};
+ghost use Rattle.upon_literals.specs.LiteralReasons.{literal_reason};
 
 use std::alloc::{AllocError, Global};
 use upon_types::types::Span;

@@ -2,8 +2,8 @@ use Rattle.std.proofs.Common.{length, ◌-◌, string_bytes}
 use Rattle.std.specs.Str.{IsCharBoundary}
 use Rattle.upon_language_spec.specs.Inside.{IsQuoted}
 use Rattle.upon_language_spec.specs.Literal.{text_of_pieces}
-use Rattle.upon_tag_parser.proofs.StringPieces.{LeftAt, HaveText}
-use Rattle.upon_tag_parser.proofs.compile.parse.literal.text.Given as goal
+use Rattle.upon_literals.proofs.StringPieces.{LeftAt, HaveText}
+use Rattle.upon_literals.proofs.literal.text.Given as goal
 
 abbrev pub invariant-loop-c : goal.invariant-loop-c
 invariant-loop-c l = record {

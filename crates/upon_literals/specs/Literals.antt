@@ -1,10 +1,10 @@
 -- What is wrong with a literal, as the code says it.
 use Rattle.std.specs.Prelude.{Option, Some, None, false}
 use Rattle.upon_language_spec.specs.Cut.{Lexeme}
-use Rattle.upon_tag_parser.specs.declared.compile.parse.literal.Lexed.{Lexed}
+use Rattle.upon_literals.specs.declared.literal.Lexed.{Lexed}
 use Rattle.upon_language_spec.specs.LiteralFaults.{NumberFault, bad_digit, too_large}
-use Rattle.upon_tag_parser.specs.declared.compile.parse.literal.DigitFault.{DigitFault}
-use Rattle.upon_tag_parser.specs.declared.compile.parse.literal.DigitFault.TheVariants.{BadDigit, TooLarge}
+use Rattle.upon_literals.specs.declared.literal.DigitFault.{DigitFault}
+use Rattle.upon_literals.specs.declared.literal.DigitFault.TheVariants.{BadDigit, TooLarge}
 
 -- what is wrong with digits
 abbrev pub fault_of_digits : DigitFault → NumberFault

@@ -4,8 +4,8 @@ use Rattle.std.proofs.lemmas.Str.{length-encode}
 use Rattle.upon_language_spec.specs.Inside.{pieces_text}
 use Rattle.upon_language_spec.specs.Literal.{text_of_pieces}
 use Rattle.upon_language_spec.proofs.Offsets.Bytes.{behind_byte, first_of}
-use Rattle.upon_tag_parser.proofs.StringPieces.{LeftAt, HaveText, left_at_start, at_quote, past_plain, at_backslash, not_at_end, taken_holds, past_escape, inside_text, text_start, text_plain, text_escape, text_end, none_strange}
-use Rattle.upon_tag_parser.proofs.compile.parse.literal.text.Goals as goal
+use Rattle.upon_literals.proofs.StringPieces.{LeftAt, HaveText, left_at_start, at_quote, past_plain, at_backslash, not_at_end, taken_holds, past_escape, inside_text, text_start, text_plain, text_escape, text_end, none_strange}
+use Rattle.upon_literals.proofs.literal.text.Goals as goal
 
 pub loop-c-init : goal.loop-c-init
 loop-c-init c =

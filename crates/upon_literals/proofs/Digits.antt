@@ -9,9 +9,9 @@ use Rattle.upon_types.specs.declared.types.Span.{Span}
 use Rattle.upon_types.specs.Span.{LiesIn, slice}
 use Rattle.upon_language_spec.specs.Literal.{sum_of_digits, digit_then, digits_in}
 use Rattle.upon_language_spec.specs.LiteralFaults.{NumberFault, bad_digit, too_large, digit_fault, number_fault, index_value}
-use Rattle.upon_tag_parser.specs.Literals.{fault_of_digits}
-use Rattle.upon_tag_parser.specs.declared.compile.parse.literal.DigitFault.{DigitFault}
-use Rattle.upon_tag_parser.specs.declared.compile.parse.literal.DigitFault.TheVariants.{BadDigit}
+use Rattle.upon_literals.specs.Literals.{fault_of_digits}
+use Rattle.upon_literals.specs.declared.literal.DigitFault.{DigitFault}
+use Rattle.upon_literals.specs.declared.literal.DigitFault.TheVariants.{BadDigit}
 use Rattle.upon_language_spec.proofs.NoTreeWithFault.LiteralValue.{no_digit_fault}
 use Rattle.upon_language_spec.proofs.Spans.Literals.{digit_in_number}
 

@@ -1,9 +1,9 @@
 use Rattle.std.proofs.Common.{◌≡◌, ℕ, ◌+◌, ◌*◌, List, drop, Some, arith, sym, ap, ◌∙◌, subst}
 use Rattle.std.specs.Char.{digit_value}
 use Rattle.upon_language_spec.specs.Literal.{sum_of_digits, digits_in}
-use Rattle.upon_tag_parser.proofs.Digits.{Onward, ended, past_underscore, past_digit}
-use Rattle.upon_tag_parser.proofs.compile.parse.literal.digits_value.Goals.{then-byte-ne95+in-Some+else-next-from, else-byte-ne95}
-use Rattle.upon_tag_parser.proofs.compile.parse.literal.digits_value.Goals as goal
+use Rattle.upon_literals.proofs.Digits.{Onward, ended, past_underscore, past_digit}
+use Rattle.upon_literals.proofs.literal.digits_value.Goals.{then-byte-ne95+in-Some+else-next-from, else-byte-ne95}
+use Rattle.upon_literals.proofs.literal.digits_value.Goals as goal
 
 pub loop-at-preserved : goal.loop-at-preserved
 loop-at-preserved c =

@@ -1,7 +1,7 @@
 use Rattle.std.proofs.Common.{◌≡◌, ◌≤◌, length, drop, ◌-◌}
 use Rattle.upon_language_spec.specs.LiteralFaults.{digit_fault}
-use Rattle.upon_tag_parser.proofs.Digits.{SumsFrom}
-use Rattle.upon_tag_parser.proofs.compile.parse.literal.digits_value.Given as goal
+use Rattle.upon_literals.proofs.Digits.{SumsFrom}
+use Rattle.upon_literals.proofs.literal.digits_value.Given as goal
 
 abbrev pub invariant-loop-at : goal.invariant-loop-at
 invariant-loop-at l = record {

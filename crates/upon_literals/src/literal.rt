@@ -8,10 +8,10 @@ ghost use Rattle.upon_language_spec.specs.LiteralFaults.{escape_fault};
 ghost use Rattle.upon_language_spec.specs.Inside.{IsQuoted};
 ghost use Rattle.upon_language_spec.specs.LaterFaults.{minus_before, start_from, number_report};
 ghost use Rattle.upon_types.specs.Span.{LiesIn, slice};
-ghost use Rattle.upon_tag_parser.specs.LiteralReasons.{report_of};
-ghost use Rattle.upon_tag_parser.specs.Literals.{fault_of_digits, before_of};
+ghost use Rattle.upon_literals.specs.LiteralReasons.{report_of};
+ghost use Rattle.upon_literals.specs.Literals.{fault_of_digits, before_of};
 
-use crate::compile::parse::literal_fault::{LiteralFault, Refusal};
+use crate::literal_fault::{LiteralFault, Refusal};
 use std::alloc::{AllocError, Global};
 use upon_lexer::compile::chars::char_at;
 use upon_types::types::{Span, Token, slice};

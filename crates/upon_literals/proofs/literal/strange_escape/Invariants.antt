@@ -2,8 +2,8 @@ use Rattle.std.proofs.Common.{length, ◌-◌, ◌+◌}
 use Rattle.std.specs.Str.{IsCharBoundary}
 use Rattle.upon_language_spec.specs.Inside.{IsQuoted}
 use Rattle.upon_language_spec.specs.LiteralFaults.{escape_fault}
-use Rattle.upon_tag_parser.proofs.StringPieces.{LeftAt, HaveFault}
-use Rattle.upon_tag_parser.proofs.compile.parse.literal.strange_escape.Given as goal
+use Rattle.upon_literals.proofs.StringPieces.{LeftAt, HaveFault}
+use Rattle.upon_literals.proofs.literal.strange_escape.Given as goal
 
 abbrev pub invariant-loop-c : goal.invariant-loop-c
 invariant-loop-c l = record {
