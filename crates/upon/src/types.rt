@@ -1,4 +1,4 @@
 // Spans, delimiters, tokens, trees and instructions.
+pub use upon_delimiters::syntax;
 pub use upon_instructions::types::program;
-pub use upon_lexer::types::syntax;
 pub use upon_types::types::{Delimiter, Span, ast, slice, token};

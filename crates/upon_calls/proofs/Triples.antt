@@ -8,7 +8,7 @@ use Rattle.upon_types.specs.declared.value.Value.{Value}
 use Rattle.upon_types.specs.declared.value.Value.TheVariants.{List as ListValue}
 use Rattle.upon_types.proofs.Views.{view-List}
 use Rattle.upon_calls.specs.Arguments.{its_text}
-use Rattle.upon_lexer.specs.SetTexts.{SetTexts, nothing_set}
+use Rattle.upon_delimiters.specs.SetTexts.{SetTexts, nothing_set}
 use Rattle.upon_calls.specs.Pairs.{if_expr, pairs_in, some_text_in, sort_in, triple_in, triple_of, with_pairs, with_sort_pair}
 use Rattle.upon_calls.specs.declared.pairs.Sort.{Sort}
 use Rattle.upon_calls.specs.declared.pairs.Sort.TheVariants.{Expr, Block, Comment}

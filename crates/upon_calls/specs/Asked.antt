@@ -2,7 +2,7 @@
 use Rattle.std.specs.Prelude.{◌≡◌, ◌||◌, ◌&&◌, ℕ, pos, List, Bool, true, false, Option, Some, None, option_map, option_and_then, unwrap_or, codes, bytes_eq}
 use Rattle.upon_types.specs.Val.{Val, bool_val, int_val, text_val, map_val, key_of, Entries, no_entries, entry_then}
 use Rattle.upon_language_spec.specs.Search.{DelimiterText}
-use Rattle.upon_lexer.specs.Syntax.{syntax_delimiters}
+use Rattle.upon_delimiters.specs.Syntax.{syntax_delimiters}
 use Rattle.upon_vm.specs.declared.limits.Limits.{Limits}
 use Rattle.upon_calls.specs.Arguments.{IsArgumentValue}
 use Rattle.upon_calls.specs.Escaping.{language_in}

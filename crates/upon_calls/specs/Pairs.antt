@@ -3,7 +3,7 @@ use Rattle.std.specs.Prelude.{ℕ, List, ◌∷◌, Option, Some, None, option_a
 use Rattle.upon_types.specs.Val.{Val, list_val, Vals, no_vals, val_then}
 use Rattle.upon_language_spec.specs.DefaultDelimiters.{default_delimiters}
 use Rattle.upon_language_spec.specs.Search.{DelimiterText}
-use Rattle.upon_lexer.specs.SetTexts.{SetTexts, nothing_set, with_expr, with_block, with_comment, built_delimiters}
+use Rattle.upon_delimiters.specs.SetTexts.{SetTexts, nothing_set, with_expr, with_block, with_comment, built_delimiters}
 use Rattle.upon_calls.specs.Arguments.{its_text}
 use Rattle.upon_calls.specs.declared.pairs.Sort.{Sort}
 use Rattle.upon_calls.specs.declared.pairs.Sort.TheVariants.{Expr, Block, Comment}

@@ -2,7 +2,7 @@
 ghost use Rattle.std.specs.Prelude.{◌≡◌, ◌↔◌, ℕ, List, [], Contains, string_bytes, IfErr, IfOk, option_map, true};
 ghost use Rattle.upon_types.specs.View.{view};
 ghost use Rattle.upon_meaning_spec.specs.Includes.{Includes};
-ghost use Rattle.upon_lexer.specs.Syntax.{syntax_delimiters};
+ghost use Rattle.upon_delimiters.specs.Syntax.{syntax_delimiters};
 ghost use Rattle.upon_engine.specs.Engine.{engine_syntax};
 ghost use Rattle.upon_engine.specs.Names.{texts};
 ghost use Rattle.upon_engine.specs.Template.{template_tree};
@@ -24,7 +24,7 @@ use std::alloc::{AllocError, Global};
 use std::borrow::CowStr;
 use upon::value::look;
 use upon::{Engine, Syntax, Template, Value};
-use upon_lexer::compile::search::Searcher;
+use upon_delimiters::search::Searcher;
 
 /// Checks templates, and returns the empty text if each of them is one and names none in an include that is not there,
 /// and if each page ends without a fault on the contexts that the options give, but that includes may be too deep one

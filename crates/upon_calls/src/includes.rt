@@ -9,8 +9,8 @@ use upon::error::ErrorKind;
 use upon::types::Span;
 use upon::types::token::Token;
 use upon::{Engine, Error, Result};
+use upon_delimiters::search::Searcher;
 use upon_lexer::compile::lex::Lexer;
-use upon_lexer::compile::search::Searcher;
 
 // How many includes of a text are shown, for each of which the text is walked from its begin.
 const PICTURES: usize = 100;

@@ -2,8 +2,8 @@
 ghost use Rattle.std.specs.Prelude.{◌≡◌, ◌<◌, length, None, Some, IfErr, IfOk, IfSome, codes, option_and_then, option_map};
 ghost use Rattle.upon_types.specs.Val.{key_of};
 ghost use Rattle.upon_types.specs.View.{view, vals_view};
-ghost use Rattle.upon_lexer.specs.Builder.{builder_texts};
-ghost use Rattle.upon_lexer.specs.Syntax.{syntax_delimiters};
+ghost use Rattle.upon_delimiters.specs.Builder.{builder_texts};
+ghost use Rattle.upon_delimiters.specs.Syntax.{syntax_delimiters};
 ghost use Rattle.upon_calls.specs.Failure.{RefusedIf};
 ghost use Rattle.upon_calls.specs.Arguments.{its_text};
 ghost use Rattle.upon_calls.specs.Pairs.{delimiters_in, pairs_in, some_text_in, sort_in, triple_in, triple_of};

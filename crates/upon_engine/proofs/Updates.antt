@@ -11,7 +11,7 @@ use Rattle.std.proofs.lemmas.Map.Text.{btree_map_updates_text}
 use Rattle.upon_types.specs.Answers.{Formatter, Function}
 use Rattle.upon_language_spec.specs.DefaultDelimiters.{default_delimiters}
 use Rattle.upon_language_spec.specs.Search.{DelimiterText}
-use Rattle.upon_lexer.specs.Searcher.{searcher_delimiters}
+use Rattle.upon_delimiters.specs.Searcher.{searcher_delimiters}
 use Rattle.upon_engine.specs.Callables.{callable_of}
 use Rattle.upon_engine.specs.Changes.{empty_engine, unless_refused, with_syntax}
 use Rattle.upon_engine.specs.Texts.{Stored, Texts, stored_template, texts_of}

@@ -2,7 +2,7 @@
 use Rattle.std.specs.Prelude.{ℕ, List, option_map}
 use Rattle.std.specs.BTreeMap.{get_by_text}
 use Rattle.upon_language_spec.specs.Search.{DelimiterText}
-use Rattle.upon_lexer.specs.Searcher.{searcher_delimiters}
+use Rattle.upon_delimiters.specs.Searcher.{searcher_delimiters}
 use Rattle.upon_meaning_spec.specs.Engine.{Table}
 use Rattle.upon_engine.specs.Template.{template_of}
 use Rattle.upon_engine.specs.declared.engine.Engine.{Engine as Held}

@@ -3,7 +3,7 @@ use Rattle.std.specs.Prelude.{ℕ, List}
 use Rattle.std.specs.Cow.{cow_str_bytes}
 use Rattle.upon_types.specs.Tree.{Statements}
 use Rattle.upon_language_spec.specs.Search.{DelimiterText}
-use Rattle.upon_lexer.specs.Syntax.{syntax_delimiters}
+use Rattle.upon_delimiters.specs.Syntax.{syntax_delimiters}
 use Rattle.upon_meaning_spec.specs.Engine.{Template}
 use Rattle.upon_compiled_spec.specs.Compiled.{the_tree}
 use Rattle.upon_engine.specs.declared.template.Template.{Template as Held}

@@ -6,8 +6,8 @@ use Rattle.std.specs.declared.alloc.Global.{Global}
 use Rattle.std.specs.declared.dyn_box.DynBox.{DynBox}
 use Rattle.upon_types.specs.Answers.{Callable, Formatter, Function}
 use Rattle.upon_language_spec.specs.Search.{DelimiterText}
-use Rattle.upon_lexer.specs.Searcher.{searcher_delimiters}
-use Rattle.upon_lexer.specs.Syntax.{syntax_delimiters}
+use Rattle.upon_delimiters.specs.Searcher.{searcher_delimiters}
+use Rattle.upon_delimiters.specs.Syntax.{syntax_delimiters}
 use Rattle.upon_engine.specs.Callables.{callable_of}
 use Rattle.upon_engine.specs.declared.engine.Engine.{Engine as Held}
 use Rattle.upon_engine.specs.declared.template.Template.{Template as HeldTemplate}

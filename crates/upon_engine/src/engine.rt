@@ -7,7 +7,7 @@ ghost use Rattle.upon_types.specs.Error.{fault_of};
 ghost use Rattle.upon_types.specs.Fault.{syntax};
 ghost use Rattle.upon_types.specs.Tree.{Statements};
 ghost use Rattle.upon_language_spec.specs.Grammar.{HasTree};
-ghost use Rattle.upon_lexer.specs.Syntax.{syntax_delimiters};
+ghost use Rattle.upon_delimiters.specs.Syntax.{syntax_delimiters};
 ghost use Rattle.upon_syntax.specs.TagReading.{IsSyntaxError};
 ghost use Rattle.upon_vm_calls.specs.Calls.{callable_sort};
 ghost use Rattle.upon_engine.specs.Before.{KeepsOldTree, HadNoTree};

@@ -1,7 +1,7 @@
 // A compiled template.
 ghost use Rattle.std.specs.Prelude.{◌≡◌};
 ghost use Rattle.std.specs.Cow.{cow_str_bytes};
-ghost use Rattle.upon_lexer.specs.Syntax.{syntax_delimiters};
+ghost use Rattle.upon_delimiters.specs.Syntax.{syntax_delimiters};
 ghost use Rattle.upon_compiled_spec.specs.Compiled.{HasProgram};
 
 use std::alloc::Global;

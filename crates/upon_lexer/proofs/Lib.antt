@@ -1,6 +1,3 @@
-pub mod Entries
-pub mod SetTexts
-pub mod SameDelimiters
 pub mod OpenBrackets
 pub mod Trims
 pub mod OpenTagPlaces
@@ -11,15 +8,4 @@ pub mod Spaces
 pub mod Starts
 pub mod Spelling
 pub mod Passing
-pub mod Siblings
-pub mod Leads
-pub mod Growth
-pub mod TrieOf
-pub mod Walk
-pub mod Written
-pub mod Ways
-pub mod Marking
-pub mod Pairing
-pub mod DefaultBest
 pub mod Plain
-pub mod Built

@@ -6,7 +6,7 @@ use Rattle.upon_types.specs.declared.types.Delimiter.{Delimiter}
 use Rattle.upon_types.specs.Span.{LiesIn}
 use Rattle.upon_types.specs.declared.error.Error.{Error}
 use Rattle.upon_language_spec.specs.Search.{DelimiterText, NoneAt, IsBestDelimiter}
-use Rattle.upon_lexer.specs.Searcher.{searcher_delimiters}
+use Rattle.upon_delimiters.specs.Searcher.{searcher_delimiters}
 use Rattle.upon_language_spec.specs.Lexing.{LexerState, HasRead, Lexes, LexesAfterSpace, EachIsSpace, IsGiven}
 use Rattle.upon_language_spec.specs.LexStep.{IsNext, IsWrong, state_after}
 use Rattle.upon_lexer.specs.OpenTags.{begin_of, mode_of}

@@ -1,10 +1,3 @@
-pub mod Entries
-pub mod Syntax
-pub mod DefaultSyntax
-pub mod SetTexts
-pub mod TagTexts
-pub mod Builder
-pub mod Searcher
 pub mod Class
 pub mod Roles
 pub mod Brackets
@@ -12,14 +5,4 @@ pub mod Reasons
 pub mod OpenTags
 pub mod Spelling
 pub mod Lexers
-pub mod Nodes
-pub mod Grown
-pub mod Trie
-pub mod Pairs
-pub mod DefaultBest
 pub mod Plain
-pub mod FewBytes
-pub mod ByteSet
-pub mod Begins
-pub mod Marks
-pub mod Ways

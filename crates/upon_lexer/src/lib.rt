@@ -2,5 +2,3 @@
 #![tactic(auto)]
 
 pub mod compile;
-pub mod laws;
-pub mod types;

@@ -1,4 +1,5 @@
 // The steps from a template's text to its program.
 pub mod parse;
 
-pub use upon_lexer::compile::{lex, search};
+pub use upon_delimiters::search;
+pub use upon_lexer::compile::lex;

@@ -2,6 +2,7 @@
 #![tactic(auto)]
 
 pub mod compile;
+pub mod types;
 
+pub use upon_delimiters::laws as default_laws;
 pub use upon_language_spec::laws;
-pub use upon_lexer::{laws as default_laws, types};

@@ -1,7 +1,7 @@
 // The calls and filters that a template's text has, by its tokens.
 use std::alloc::{AllocError, Global};
+use upon_delimiters::search::Searcher;
 use upon_lexer::compile::lex::Lexer;
-use upon_lexer::compile::search::Searcher;
 use upon_types::error;
 use upon_types::types::Span;
 use upon_types::types::token::Token;

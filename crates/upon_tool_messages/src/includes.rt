@@ -12,8 +12,8 @@ use upon::error::ErrorKind;
 use upon::types::Span;
 use upon::types::token::Token;
 use upon::{Engine, Error, Result, Template};
+use upon_delimiters::search::Searcher;
 use upon_lexer::compile::lex::Lexer;
-use upon_lexer::compile::search::Searcher;
 
 /// Returns a template that includes another one, by a quoted name.
 pub fn including(alloc: Global, quoted: &str) -> Result<Template<'static>> {

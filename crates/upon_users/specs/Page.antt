@@ -6,7 +6,7 @@ use Rattle.upon_types.specs.Tree.{Statements, raw, include, inline_expr}
 use Rattle.upon_types.specs.Val.{text_val}
 use Rattle.upon_language_spec.specs.Search.{DelimiterText}
 use Rattle.upon_language_spec.specs.ShortTrees.{at, word, name, two}
-use Rattle.upon_lexer.specs.SetTexts.{nothing_set, with_block, built_delimiters}
+use Rattle.upon_delimiters.specs.SetTexts.{nothing_set, with_block, built_delimiters}
 use Rattle.upon_meaning_spec.specs.DefaultFormat.{default_format}
 use Rattle.upon_engine.specs.Texts.{Texts}
 use Rattle.upon_engine.specs.Changes.{empty_engine, with_text, with_callable, with_syntax}

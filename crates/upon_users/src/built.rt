@@ -2,7 +2,7 @@
 ghost use Rattle.std.specs.Prelude.{◌≡◌, ◌++◌, Some, IfOk, OnOk, codes};
 ghost use Rattle.std.specs.Io.KnownBytes.{Appends};
 ghost use Rattle.upon_types.specs.View.{view};
-ghost use Rattle.upon_lexer.specs.Syntax.{syntax_delimiters};
+ghost use Rattle.upon_delimiters.specs.Syntax.{syntax_delimiters};
 ghost use Rattle.upon_engine.specs.RenderingLaws.{IsTextOrMemory};
 ghost use Rattle.upon_engine.specs.Theorem.{AnswersTree};
 ghost use Rattle.upon_users.specs.Greeting.{names};

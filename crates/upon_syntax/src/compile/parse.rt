@@ -4,7 +4,7 @@ ghost use Rattle.upon_types.specs.Tree.{Statements};
 ghost use Rattle.upon_types.specs.Error.{fault_of};
 ghost use Rattle.upon_types.specs.Fault.{syntax};
 ghost use Rattle.upon_language_spec.specs.Grammar.{HasTree};
-ghost use Rattle.upon_lexer.specs.Searcher.{searcher_delimiters};
+ghost use Rattle.upon_delimiters.specs.Searcher.{searcher_delimiters};
 ghost use Rattle.upon_machine_spec.specs.Code.{program_of};
 ghost use Rattle.upon_instructions.specs.Program.{program_view};
 ghost use Rattle.upon_syntax.specs.TagReading.{IsSyntaxError};
@@ -22,8 +22,8 @@ mod tell;
 
 use crate::compile::parse::program::read_program;
 use std::alloc::Global;
+use upon_delimiters::search::Searcher;
 use upon_instructions::types::program::Instr;
-use upon_lexer::compile::search::Searcher;
 pub use upon_literals::{literal, literal_fault};
 pub use upon_tag_parser::compile::parse::{base, expression, list, path, scalar, tag, want};
 use upon_types::error::Result;

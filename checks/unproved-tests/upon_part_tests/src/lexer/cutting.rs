@@ -3,7 +3,7 @@ use std::alloc::Global;
 use std::process::Abort;
 use std::test::Fail;
 use upon_lexer::compile::lex::Lexer;
-use upon_lexer::compile::search::Searcher;
+use upon_delimiters::search::Searcher;
 use upon_types::error::Error;
 use upon_types::types::{Span, Token};
 

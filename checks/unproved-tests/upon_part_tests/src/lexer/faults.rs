@@ -4,7 +4,7 @@ use crate::lexer::cutting::{
 };
 use std::test::Fail;
 use upon_lexer::compile::lex::Lexer;
-use upon_lexer::compile::search::Searcher;
+use upon_delimiters::search::Searcher;
 use upon_types::types::{Span, Token};
 
 #[test]

@@ -1,6 +1,6 @@
 // The search for the default delimiters.
 use std::process::Abort;
-use upon_lexer::compile::search::Searcher;
+use upon_delimiters::search::Searcher;
 use upon_types::types::{Delimiter, Span};
 
 fn finds(rt: &impl Abort, source: &str, wanted: Option<(Delimiter, Span)>) {

@@ -4,8 +4,8 @@ use std::alloc::{AllocError, Global};
 use std::process::Abort;
 use std::test::Fail;
 use std::time::CpuClock;
-use upon_lexer::compile::search::Searcher;
-use upon_lexer::types::syntax::Syntax;
+use upon_delimiters::search::Searcher;
+use upon_delimiters::syntax::Syntax;
 
 // A text of 8 KiB, each byte the same.
 fn text_of(alloc: Global, part: char) -> Result<String, AllocError> {

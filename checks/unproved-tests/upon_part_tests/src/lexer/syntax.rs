@@ -1,8 +1,8 @@
 // Syntaxes that are built, and when two are the same.
 use std::alloc::{AllocError, Global};
 use std::test::Fail;
-use upon_lexer::compile::search::Searcher;
-use upon_lexer::types::syntax::{Syntax, is_same};
+use upon_delimiters::search::Searcher;
+use upon_delimiters::syntax::{Syntax, is_same};
 use upon_types::types::{Delimiter, Span};
 
 // The syntax of the usual pairs.

@@ -2,7 +2,7 @@
 use crate::lexer::cutting::{Cut, all_cut, cut_rows, ends, holds};
 use std::test::Fail;
 use upon_lexer::compile::lex::Lexer;
-use upon_lexer::compile::search::Searcher;
+use upon_delimiters::search::Searcher;
 use upon_types::types::Token;
 
 static VECTORS: &[Cut] = cut_rows! {

@@ -3,7 +3,7 @@ use crate::lexer::cutting::{Cut, all_cut, cut_rows};
 use std::alloc::Global;
 use std::test::Fail;
 use upon_lexer::compile::lex::Lexer;
-use upon_lexer::compile::search::Searcher;
+use upon_delimiters::search::Searcher;
 use upon_types::types::{Span, Token};
 
 static TRIMMED: &[Cut] = cut_rows! {

@@ -1,6 +1,6 @@
 use Rattle.std.proofs.Common.{◌∙◌, ap, refl}
 use Rattle.upon_types.specs.View.{view}
-use Rattle.upon_lexer.specs.Syntax.{syntax_delimiters}
+use Rattle.upon_delimiters.specs.Syntax.{syntax_delimiters}
 use Rattle.upon_engine.specs.Engine.{engine_syntax}
 use Rattle.upon_calls.proofs.Checked.{all_checked, checked_more, none_checked}
 use Rattle.upon_calls.proofs.check.check_all.Goals as goal

@@ -1,6 +1,6 @@
 use Rattle.std.proofs.Common.{◌≡◌, ◌↔◌, take, true}
 use Rattle.upon_types.specs.View.{view}
-use Rattle.upon_lexer.specs.Syntax.{syntax_delimiters}
+use Rattle.upon_delimiters.specs.Syntax.{syntax_delimiters}
 use Rattle.upon_calls.specs.Check.{AreRight}
 use Rattle.upon_calls.specs.Templates.{lent_pairs}
 use Rattle.upon_calls.proofs.check.check_all.Given as goal

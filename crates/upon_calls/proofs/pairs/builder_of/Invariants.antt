@@ -1,7 +1,7 @@
 use Rattle.std.proofs.Common.{◌≡◌, drop, is_some}
 use Rattle.upon_types.specs.View.{vals_view}
-use Rattle.upon_lexer.specs.Builder.{builder_texts}
-use Rattle.upon_lexer.specs.SetTexts.{nothing_set}
+use Rattle.upon_delimiters.specs.Builder.{builder_texts}
+use Rattle.upon_delimiters.specs.SetTexts.{nothing_set}
 use Rattle.upon_calls.specs.Pairs.{with_pairs}
 use Rattle.upon_calls.proofs.pairs.builder_of.Given as goal
 

@@ -1,6 +1,6 @@
 use Rattle.std.proofs.Common.{◌≡◌, ◌∙◌, IfErr, IfOk, refl, sym, ap, subst, string_bytes, take, inl}
 use Rattle.upon_types.specs.Error.{fault_of}
-use Rattle.upon_lexer.specs.Syntax.{syntax_delimiters}
+use Rattle.upon_delimiters.specs.Syntax.{syntax_delimiters}
 use Rattle.upon_engine.specs.Texts.{texts_of}
 use Rattle.upon_engine.proofs.Boxed.{boxed_reads}
 use Rattle.upon_std.specs.Table.{standard_answer}

@@ -4,7 +4,7 @@ use Rattle.upon_types.specs.Fault.{syntax}
 use Rattle.upon_types.specs.Tree.{Statements}
 use Rattle.upon_language_spec.specs.Grammar.{HasTree}
 use Rattle.upon_language_spec.specs.Search.{DelimiterText}
-use Rattle.upon_lexer.specs.Searcher.{searcher_delimiters}
+use Rattle.upon_delimiters.specs.Searcher.{searcher_delimiters}
 use Rattle.upon_syntax.specs.Parsed.{source_of, syntax_of}
 use Rattle.upon_syntax.specs.TagReading.{IsSyntaxError}
 use Rattle.upon_compiled_spec.proofs.CompiledTree.{is_compiled}

@@ -5,8 +5,8 @@ use Rattle.upon_types.specs.Fault.{syntax}
 use Rattle.upon_types.specs.Tree.{Statements}
 use Rattle.upon_types.specs.declared.error.Error.{Error}
 use Rattle.upon_language_spec.specs.Grammar.{HasTree}
-use Rattle.upon_lexer.specs.Searcher.{searcher_delimiters}
-use Rattle.upon_lexer.specs.Syntax.{syntax_delimiters}
+use Rattle.upon_delimiters.specs.Searcher.{searcher_delimiters}
+use Rattle.upon_delimiters.specs.Syntax.{syntax_delimiters}
 use Rattle.upon_syntax.proofs.NextTokens.{handed_on}
 use Rattle.upon_compiled_spec.specs.Compiled.{HasProgram}
 use Rattle.upon_compiled_spec.proofs.CompiledTree.{kept_has, kept_only}

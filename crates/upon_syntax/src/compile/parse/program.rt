@@ -1,6 +1,6 @@
 // From a template's text to its program: the compiler is told of each piece.
 ghost use Rattle.std.specs.Prelude.{IfOk, IfErr};
-ghost use Rattle.upon_lexer.specs.Searcher.{searcher_delimiters};
+ghost use Rattle.upon_delimiters.specs.Searcher.{searcher_delimiters};
 ghost use Rattle.upon_syntax.specs.Parsed.{IsParsedProgram};
 ghost use Rattle.upon_syntax.specs.TagReading.{IsSyntaxError};
 
@@ -8,8 +8,8 @@ use crate::compile::parse::piece_reader::{Next, PieceReader};
 use crate::compile::parse::tell::tell;
 use std::alloc::Global;
 use upon_compiler::compile::Compiler;
+use upon_delimiters::search::Searcher;
 use upon_instructions::types::program::Instr;
-use upon_lexer::compile::search::Searcher;
 use upon_types::error::Result;
 
 /// Returns the program of a text, over the delimiters of a searcher. A text that has no tree is refused: the error

@@ -1,5 +1,5 @@
 use Rattle.std.proofs.Common.{◌≡◌, ◌-◌, List, [], length}
-use Rattle.upon_lexer.specs.Searcher.{searcher_delimiters}
+use Rattle.upon_delimiters.specs.Searcher.{searcher_delimiters}
 use Rattle.upon_compiler.specs.After.{after_all}
 use Rattle.upon_compiler.specs.Compiler.{compiler_state, nothing}
 use Rattle.upon_syntax.specs.PieceReading.{text_of_reader, pieces_delimiters, pieces_state, HasFound}

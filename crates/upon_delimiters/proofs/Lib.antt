@@ -1,0 +1,14 @@
+pub mod Entries
+pub mod SetTexts
+pub mod SameDelimiters
+pub mod Siblings
+pub mod Leads
+pub mod Growth
+pub mod TrieOf
+pub mod Walk
+pub mod Written
+pub mod Ways
+pub mod Marking
+pub mod Pairing
+pub mod DefaultBest
+pub mod Built

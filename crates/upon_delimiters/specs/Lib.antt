@@ -1,0 +1,17 @@
+pub mod Entries
+pub mod Syntax
+pub mod DefaultSyntax
+pub mod SetTexts
+pub mod TagTexts
+pub mod Builder
+pub mod Searcher
+pub mod Nodes
+pub mod Grown
+pub mod Trie
+pub mod Pairs
+pub mod DefaultBest
+pub mod FewBytes
+pub mod ByteSet
+pub mod Begins
+pub mod Marks
+pub mod Ways

@@ -1,9 +1,0 @@
-use Rattle.std.proofs.Common.{ℕ, ◌<◌}
-use Rattle.upon_lexer.specs.Marks.{HasMark}
-use Rattle.upon_lexer.proofs.compile.marks.mark_all.Given as goal
-
-abbrev pub invariant-loop-byte : goal.invariant-loop-byte
-invariant-loop-byte l = record {
-  marked : (b : ℕ) → b < l.byte → HasMark l.table b l.bit;
-  kept : (b c : ℕ) → HasMark l.fn.table b c → HasMark l.table b c;
-}

@@ -1,5 +1,0 @@
-use Rattle.upon_lexer.proofs.TrieOf.{nodes_of-trie}
-use Rattle.upon_lexer.proofs.laws.trie_of_any_delimiters.Goals as goal
-
-pub returns : goal.returns
-returns c = nodes_of-trie

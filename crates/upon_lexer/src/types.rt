@@ -1,2 +1,0 @@
-// The delimiters by which a text is cut.
-pub mod syntax;

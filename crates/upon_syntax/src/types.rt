@@ -1,0 +1,2 @@
+// The delimiters by which a text is cut.
+pub use upon_delimiters::syntax;
