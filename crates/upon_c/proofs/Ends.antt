@@ -7,14 +7,14 @@ use Rattle.upon_calls.specs.declared.failure.Argument.{Argument}
 use Rattle.upon_calls.specs.declared.failure.Failure.{Failure}
 use Rattle.upon_calls.specs.declared.failure.Failure.TheVariants.{Faults, Refused, NotText, OutOfMemory}
 use Rattle.upon_c.specs.Given.{GivesFailure, GivesText}
-use Rattle.upon_c.specs.Handed.{HandsOut, HasNoRoom, IsAny, IsRefusalText, NamesNoText}
+use Rattle.upon_c.specs.Handed.{HandsOut, HasNoRoom, IsAny, RefusalOf, NamesNoText}
 
 -- what is so at each status
 pub record Ends (Done Pictures : List ℕ → Type 0) (Refuses IsNotText : Argument → Type 0) (result size : ℕ) (old new : List ℕ) : Type 0 where
   pub range : result ≤ 5
   pub done : result ≡ 0 → HandsOut Done size old new
   pub faulty : result ≡ 1 → HandsOut Pictures size old new
-  pub refused : result ≡ 2 → HandsOut (IsRefusalText Refuses) size old new
+  pub refused : result ≡ 2 → HandsOut (RefusalOf Refuses) size old new
   pub not_text : result ≡ 3 → HandsOut (NamesNoText IsNotText) size old new
   pub small : result ≡ 4 → HasNoRoom (IsAny Done Pictures Refuses IsNotText) size old new
   pub memory : result ≡ 5 → (size ≡ 0) × (new ≡ old)
@@ -101,12 +101,12 @@ module _ (Done Pictures : List ℕ → Type 0) (Refuses IsNotText : Argument →
   }
 
   -- with status 2
-  at_refused : (text : List ℕ) → IsRefusalText Refuses text → size ≡ length text → Fits 2 text result old new ⊎ Lacks text result old new → Ends Done Pictures Refuses IsNotText result size old new
+  at_refused : (text : List ℕ) → RefusalOf Refuses text → size ≡ length text → Fits 2 text result old new ⊎ Lacks text result old new → Ends Done Pictures Refuses IsNotText result size old new
   at_refused text is long (inl w) = record {
     range = omega (arith, w.0);
     done = λ e. absurd (omega (arith, w.0, e));
     faulty = λ e. absurd (omega (arith, w.0, e));
-    refused = λ e. handed (IsRefusalText Refuses) 2 result size text old new long w is;
+    refused = λ e. handed (RefusalOf Refuses) 2 result size text old new long w is;
     not_text = λ e. absurd (omega (arith, w.0, e));
     small = λ e. absurd (omega (arith, w.0, e));
     memory = λ e. absurd (omega (arith, w.0, e));

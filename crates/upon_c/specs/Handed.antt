@@ -18,8 +18,8 @@ pub record HasNoRoom (Is : List ℕ → Type 0) (size : ℕ) (old new : List ℕ
   pub same : new ≡ old
 
 -- a text says that an argument is refused of which this is so
-abbrev pub IsRefusalText : (Argument → Type 0) → List ℕ → Type 0
-IsRefusalText Refuses text =
+abbrev pub RefusalOf : (Argument → Type 0) → List ℕ → Type 0
+RefusalOf Refuses text =
     (argument : Argument) × (reason : List ℕ) × (text ≡ refusal_text argument reason) × Refuses argument
 
 -- a text says that an argument is not UTF-8 of which this is so
@@ -29,4 +29,4 @@ NamesNoText IsNotText text = (argument : Argument) × (text ≡ no_text_text arg
 -- a text is one of those that a call hands out
 abbrev pub IsAny : (List ℕ → Type 0) → (List ℕ → Type 0) → (Argument → Type 0) → (Argument → Type 0) → List ℕ → Type 0
 IsAny Done Pictures Refuses IsNotText text =
-    Done text ⊎ (Pictures text ⊎ (IsRefusalText Refuses text ⊎ NamesNoText IsNotText text))
+    Done text ⊎ (Pictures text ⊎ (RefusalOf Refuses text ⊎ NamesNoText IsNotText text))

@@ -10,7 +10,7 @@ mod give;
 ghost use Rattle.std.specs.Prelude.{◌≡◌, ◌≤◌, ◌<◌, codes};
 ghost use Rattle.upon_calls.specs.Calls.{ChecksNotText, ChecksRefuse, ChecksRight, ChecksWrong, ListFaults, ListNotText, ListRefuses, ListsNeeds, RenderFaults, RenderNotText, RenderRefuses, Renders, RendersText, TextFaults, TextNotText, TextRefuses};
 ghost use Rattle.upon_c.specs.Given.{GivesText};
-ghost use Rattle.upon_c.specs.Handed.{HandsOut, HasNoRoom, IsAny, IsRefusalText, NamesNoText};
+ghost use Rattle.upon_c.specs.Handed.{HandsOut, HasNoRoom, IsAny, RefusalOf, NamesNoText};
 
 use give::{give, give_failure};
 use std::alloc::Global;
@@ -34,8 +34,7 @@ pub extern "C" fn upon_render(
     ensures faulty { result ≡ 1 → HandsOut (RenderFaults templates.now context.now name.now options.now) size.new
         out.old out.new }
     ensures refused { result ≡ 2
-        → HandsOut (IsRefusalText (RenderRefuses templates.now context.now name.now options.now)) size.new out.old
-        out.new }
+        → HandsOut (RefusalOf (RenderRefuses templates.now context.now name.now options.now)) size.new out.old out.new }
     ensures not_text { result ≡ 3
         → HandsOut (NamesNoText (RenderNotText templates.now context.now name.now options.now)) size.new out.old
         out.new }
@@ -71,7 +70,7 @@ pub extern "C" fn upon_render_text(
     ensures rendered { result ≡ 0 → HandsOut (RendersText source.now context.now options.now) size.new out.old out.new }
     ensures faulty { result ≡ 1 → HandsOut (TextFaults source.now context.now options.now) size.new out.old out.new }
     ensures refused { result ≡ 2
-        → HandsOut (IsRefusalText (TextRefuses source.now context.now options.now)) size.new out.old out.new }
+        → HandsOut (RefusalOf (TextRefuses source.now context.now options.now)) size.new out.old out.new }
     ensures not_text { result ≡ 3
         → HandsOut (NamesNoText (TextNotText source.now context.now options.now)) size.new out.old out.new }
     // The buffer has no room for a text that one of these clauses describes.
@@ -105,7 +104,7 @@ pub extern "C" fn upon_check(
     ensures right { result ≡ 0 → HandsOut (ChecksRight templates.now options.now) size.new out.old out.new }
     ensures faulty { result ≡ 1 → HandsOut (ChecksWrong templates.now options.now) size.new out.old out.new }
     ensures refused { result ≡ 2
-        → HandsOut (IsRefusalText (ChecksRefuse templates.now options.now)) size.new out.old out.new }
+        → HandsOut (RefusalOf (ChecksRefuse templates.now options.now)) size.new out.old out.new }
     ensures not_text { result ≡ 3
         → HandsOut (NamesNoText (ChecksNotText templates.now options.now)) size.new out.old out.new }
     // The buffer has no room for a text that one of these clauses describes.
@@ -140,7 +139,7 @@ pub extern "C" fn upon_names(
     ensures listed { result ≡ 0 → HandsOut (ListsNeeds templates.now name.now options.now) size.new out.old out.new }
     ensures faulty { result ≡ 1 → HandsOut (ListFaults templates.now name.now options.now) size.new out.old out.new }
     ensures refused { result ≡ 2
-        → HandsOut (IsRefusalText (ListRefuses templates.now name.now options.now)) size.new out.old out.new }
+        → HandsOut (RefusalOf (ListRefuses templates.now name.now options.now)) size.new out.old out.new }
     ensures not_text { result ≡ 3
         → HandsOut (NamesNoText (ListNotText templates.now name.now options.now)) size.new out.old out.new }
     // The buffer has no room for a text that one of these clauses describes.

@@ -21,6 +21,7 @@ use Rattle.upon_syntax.specs.declared.compile.parse.piece_reader.PieceReader.{Pi
 use Rattle.upon_syntax.specs.declared.compile.parse.piece_reader.Next.{Next}
 use Rattle.upon_syntax.specs.declared.compile.parse.piece_reader.Next.TheVariants.{OnePiece, Comment, End}
 use Rattle.upon_syntax.specs.OpenBlocks.{stack_of, kinds_of}
+use Rattle.upon_syntax.specs.TagEnds.{KeepsText}
 use Rattle.upon_syntax.specs.TagReading.{HasPieces, IsSyntaxError}
 use Rattle.upon_syntax.specs.Pieces.{TemplatePiece, KeepsPiece, piece_code, ArePieces, LeaveOpen}
 use Rattle.upon_instructions.specs.Program.{program_view}
@@ -152,6 +153,10 @@ pub record PieceFound (delimiters : List DelimiterText) (s : List ℕ) (before a
   pub code : program_view new ≡ program_view old ++ piece_code piece
 
 -- ---- the same, of a reader
+-- the reader reads the same text as before, over the same delimiters
+abbrev pub KeepsReading : PieceReader → PieceReader → Type 0
+KeepsReading reader after = KeepsText reader.lexer after.lexer
+
 -- it is between two pieces, after these tokens
 abbrev pub IsBetween : PieceReader → List Lexeme → Type 0
 IsBetween reader ls = BetweenPieces (pieces_delimiters reader) (text_of_reader reader) (pieces_state reader)

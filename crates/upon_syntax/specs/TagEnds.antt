@@ -1,5 +1,5 @@
 -- The tokens inside a tag as a lexer gives them, and where they end.
-use Rattle.std.specs.Prelude.{◌≡◌, ◌⊎◌, ℕ, ◌+◌, ◌≤◌, ◌^◌, nat_lt, List, [], ◌∷◌, ◌++◌, length, Bool, true, false}
+use Rattle.std.specs.Prelude.{◌≡◌, ◌⊎◌, ℕ, ◌+◌, ◌<◌, ◌≤◌, ◌^◌, nat_lt, List, [], ◌∷◌, ◌++◌, length, Bool, true, false}
 use Rattle.std.specs.Prelude.{Option, Some, None, codes}
 use Rattle.upon_types.specs.declared.types.Span.{Span}
 use Rattle.upon_types.specs.declared.types.token.Token.{Token}
@@ -19,11 +19,14 @@ use Rattle.upon_language_spec.specs.Faults.{span_of, lexeme_at}
 use Rattle.upon_language_spec.specs.LaterFaults.{Report, number_report}
 use Rattle.upon_language_spec.specs.CutFaults.{ClearTo, IsFirstCutFault}
 use Rattle.upon_language_spec.specs.Lexing.{LexerState, HasRead}
-use Rattle.upon_language_spec.specs.InTags.{is_inside, EachInside}
+use Rattle.upon_language_spec.specs.InTags.{is_inside, EachInside, last_or}
+use Rattle.upon_lexer.specs.declared.compile.lex.Lexer.{Lexer}
+use Rattle.upon_lexer.specs.Lexers.{lexer_text, lexer_delimiters, lexer_state, ReadSoFar}
 use Rattle.upon_literals.specs.declared.literal.Lexed.{Lexed}
 use Rattle.upon_literals.specs.declared.literal_fault.Refusal.{Refusal}
 use Rattle.upon_literals.specs.LiteralReasons.{report_of}
 use Rattle.upon_literals.specs.Literals.{lexeme_of}
+use Rattle.upon_tag_parser.specs.TagTokens.{IsTagToken}
 use Rattle.upon_syntax.specs.declared.compile.parse.tag_tokens.Ended.{Ended}
 use Rattle.upon_syntax.specs.declared.compile.parse.tag_tokens.Ended.TheVariants.{End, Fault as CutFault, Literal, Eof}
 
@@ -110,11 +113,6 @@ pub record ReadsUpTo (delimiters : List DelimiterText) (s : List ℕ) (sort : So
   pub reads : ReadsOnTokens delimiters s sort ls left tokens
   pub ends : EndsBy delimiters s sort (ls ++ reads.inner) reads.path before left after ended
 
--- the token that was found, or none
-abbrev pub found_tokens : Option Lexed → List Lexeme
-found_tokens None = []
-found_tokens (Some found) = lexeme_of found ∷ []
-
 -- the spans that are kept of where the tokens end lie in the text
 abbrev pub TagEndLies : List ℕ → Ended → Type 0
 TagEndLies s (End l) = LiesIn s l.span
@@ -128,3 +126,31 @@ tag_end (End l) = Some l
 tag_end (CutFault e) = None
 tag_end (Literal l refusal) = None
 tag_end Eof = None
+
+-- ---- the same, of a lexer
+-- the lexer reads the same text as before, over the same delimiters
+pub record KeepsText (before after : Lexer) : Type 0 where
+  pub text : lexer_text after ≡ lexer_text before
+  pub delimiters : lexer_delimiters after ≡ lexer_delimiters before
+
+-- whichever tokens were before, the lexer has read these inside an open tag
+abbrev pub ReadsInside : List ℕ → Lexer → Lexer → List Lexeme → Type 0
+ReadsInside s before after tokens = ReadsTokens (lexer_delimiters before) s (lexer_state before) (lexer_state after)
+    tokens
+
+-- The lexer has found a token inside an open tag, after the previous one: it is a token of a tag, and lies in the text
+-- up to the lexer's offset; the lexer has gone further, and whitespace left out has read this token alone.
+pub record FindsTagToken (s : List ℕ) (before after : Lexer) (previous : Option Lexeme) (found : Lexed) : Type 0 where
+  pub token : IsTagToken s previous (lexeme_of found)
+  pub sign : SignLies s (Some (lexeme_of found)) (lexer_state after).offset
+  pub further : (lexer_state before).offset < (lexer_state after).offset
+  pub inner : ReadsInside s before after (lexeme_of found ∷ [])
+
+-- After the previous token the lexer has read these inside an open tag, and reads no more there; the spans that are
+-- kept of where the tokens end lie in the text.
+pub record FindsEnd (s : List ℕ) (before after : Lexer) (previous : Option Lexeme) (tokens : List Lexeme)
+    (ended : Ended) : Type 0 where
+  pub inner : (sort : Sort) (path : Bool) (ls : List Lexeme) → ReadSoFar before ls
+      → (lexer_state before).mode ≡ in_tag sort path
+      → ReadsUpTo (lexer_delimiters before) s sort ls tokens (last_or previous tokens) (lexer_state after) ended
+  pub lies : TagEndLies s ended

@@ -5,7 +5,7 @@ use Rattle.upon_types.specs.declared.error.Error.{Error}
 use Rattle.upon_types.specs.Error.{fault_of}
 use Rattle.upon_types.specs.Fault.{syntax, out_of_memory, bare_fault, fault_with_picture}
 use Rattle.upon_language_spec.specs.Search.{DelimiterText}
-use Rattle.upon_language_spec.specs.Delimiters.{Sort, begin_token, end_token}
+use Rattle.upon_language_spec.specs.Delimiters.{Sort, expression, block, begin_token, end_token}
 use Rattle.upon_language_spec.specs.Cut.{Lexeme, in_tag, Cut, outside}
 use Rattle.upon_language_spec.specs.Faults.{lexeme_at}
 use Rattle.upon_language_spec.specs.Reading.{open_tag}
@@ -16,6 +16,9 @@ use Rattle.upon_language_spec.specs.InTags.{EachInside}
 use Rattle.upon_language_spec.specs.Stages.{Stage, EndsAt}
 use Rattle.upon_lexer.specs.declared.compile.lex.Lexer.{Lexer}
 use Rattle.upon_lexer.specs.Lexers.{lexer_text, lexer_delimiters, lexer_state, ReadSoFar}
+use Rattle.upon_tag_parser.specs.declared.compile.parse.tag.Tag.{Tag}
+use Rattle.upon_tag_parser.specs.WholeTags.{HoldsInline, HoldsTag}
+use Rattle.upon_instructions.specs.declared.types.program.Instr.{Instr}
 use Rattle.upon_syntax.specs.Pieces.{TemplatePiece, ArePieces}
 
 -- The lexer has read these tokens, and no fault holds before its offset; the last of them is the begin of a tag of this
@@ -44,6 +47,23 @@ abbrev pub IsSyntaxError : List DelimiterText → List ℕ → Error → Type 0
 IsSyntaxError delimiters s e = (fault_of e ≡ out_of_memory) ⊎ ((span : Span) × (reason : List ℕ)
     × IsFirstFault delimiters s span reason
     × (fault_of e ≡ fault_with_picture s (bare_fault syntax (Some reason) (Some span))))
+
+-- If the begin of an inline tag was read before, the tag is read to its end, and the instructions that show its
+-- expression are appended.
+abbrev pub ReadsInlineTag : Lexer → Lexer → Span → List Instr → List Instr → Type 0
+ReadsInlineTag before after begin old new = (ls : List Lexeme) → AfterBegin before expression begin ls → (end : ℕ)
+    × AfterEnd before after expression ls end (λ tokens. HoldsInline (lexer_text before) tokens old new)
+
+-- If the begin of a block's tag was read before, the tag is read to where this span ends, and the code keeps this of
+-- it; the instructions that leave the value of its expression, if it has one, are appended.
+abbrev pub ReadsBlockTag : Lexer → Lexer → Span → List Instr → List Instr → Tag → Span → Type 0
+ReadsBlockTag before after begin old new tag span = (ls : List Lexeme) → AfterBegin before block begin ls
+    → AfterEnd before after block ls span.n (λ tokens. HoldsTag (lexer_text before) tag tokens old new)
+
+-- if the begin of a tag of this sort was read, the error reports the text's first fault, or that there was no memory
+abbrev pub RefusesTag : Lexer → Sort → Span → Error → Type 0
+RefusesTag lexer sort begin e = (ls : List Lexeme) → AfterBegin lexer sort begin ls
+    → IsSyntaxError (lexer_delimiters lexer) (lexer_text lexer) e
 
 -- the text is cut whole, and its tokens are these pieces
 pub record HasPieces (delimiters : List DelimiterText) (s : List ℕ) (pieces : List TemplatePiece) : Type 0 where

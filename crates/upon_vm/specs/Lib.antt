@@ -2,7 +2,9 @@ pub mod Program
 pub mod Frames
 pub mod Machine
 pub mod Steps
+pub mod Effects
 pub mod Acts
+pub mod Ready
 pub mod Keeps
 pub mod Failures
 pub mod Runs
@@ -11,3 +13,4 @@ pub mod Limits
 pub mod Place
 pub mod Turns
 pub mod Within
+pub mod Renderings

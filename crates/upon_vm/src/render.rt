@@ -1,16 +1,14 @@
 // A rendering: the program of a template, from its start to its end.
-ghost use Rattle.std.specs.Prelude.{◌≡◌, ℕ, List, [], option_map};
+ghost use Rattle.std.specs.Prelude.{◌≡◌, []};
 ghost use Rattle.upon_types.specs.TreeSpans.{TreeLiesIn};
 ghost use Rattle.upon_render.specs.Roots.{pure_root};
 ghost use Rattle.upon_render.specs.Source.{Source};
 ghost use Rattle.upon_render.specs.Stack.{frames_of, root_of};
-ghost use Rattle.upon_meaning_spec.specs.Alone.{alone_within};
 ghost use Rattle.upon_meaning_spec.specs.Engine.{Template};
-ghost use Rattle.upon_meaning_spec.specs.Outcome.{states};
 ghost use Rattle.upon_vm.specs.Acts.{calls_on};
 ghost use Rattle.upon_vm.specs.Keeps.{HasState, SourceHas};
-ghost use Rattle.upon_vm.specs.Machine.{source_state};
 ghost use Rattle.upon_vm.specs.Program.{IsProgramOf};
+ghost use Rattle.upon_vm.specs.Renderings.{SourcesKept, rendered_alone, sources_state};
 ghost use Rattle.upon_vm.specs.Runs.{Ran, RunMarks};
 
 use crate::failure::Failure;
@@ -44,22 +42,13 @@ pub fn render<'r, V: ValueSource, T: ProgramSource<'r>, C: Callables, W: Output>
     ensures same { W.holds out.new ≡ W.holds out.old }
     ensures mark { RunMarks result.0 (W.mark out.old) (W.mark out.new) }
     ensures ran { (t : Template) (ask : Source V.State) (q : V.State) → IsProgramOf running.entry.program t
-        → SourceHas V.ask (root_of stack.entry) ask → Ran
-        result.0
-        (W.given out.old)
-        (W.given out.new)
-        (alone_within (calls_on (C.callables callables.now) (C.default_formatter callables.now) ask)
-        (T.resolve templates) running.entry.left t (option_map (λ name. name.now) running.entry.name)
-        (pure_root (root_of stack.entry)) (states (source_state V.value_state q (root_of stack.entry))
-        (T.template_state templates)))
-        (states (source_state V.value_state q (root_of result.1)) (T.template_state result.2)) }
-    ensures root { pure_root (root_of result.1) ≡ pure_root (root_of stack.entry) }
-    ensures asks { (ask : Source V.State) → SourceHas V.ask (root_of stack.entry) ask
-        → SourceHas V.ask (root_of result.1) ask }
-    ensures values_held { (names : List ℕ) → SourceHas V.holds (root_of stack.entry) names
-        → SourceHas V.holds (root_of result.1) names }
-    ensures resolve { T.resolve result.2 ≡ T.resolve templates }
-    ensures templates_held { T.holds result.2 ≡ T.holds templates }
+        → SourceHas V.ask (root_of stack.entry) ask → Ran result.0 (W.given out.old) (W.given out.new)
+        (rendered_alone (calls_on (C.callables callables.now) (C.default_formatter callables.now) ask)
+        (T.resolve templates) running.entry t (pure_root (root_of stack.entry))
+        (sources_state V.value_state T.template_state q (root_of stack.entry) templates))
+        (sources_state V.value_state T.template_state q (root_of result.1) result.2) }
+    ensures sources { SourcesKept V.ask V.holds T.resolve T.holds (root_of stack.entry) (root_of result.1)
+        templates result.2 }
 {
     let mut machine = Machine {
         running,

@@ -52,11 +52,8 @@ pub(crate) fn run<'r, V: ValueSource, T: ProgramSource<'r>, C: Callables, W: Out
     ensures kept { Kept V.ask V.holds T.resolve T.holds machine.old machine.new }
     ensures ran { (known : KnownRun V.State T.State)
         → Starts V.ask V.value_state T.template_state (T.resolve machine.old.templates) (C.callables callables.now)
-        (C.default_formatter callables.now) known machine.old → Ran
-        result
-        (W.given out.old)
-        (W.given out.new)
-        known.outcome
+        (C.default_formatter callables.now) known machine.old
+        → Ran result (W.given out.old) (W.given out.new) known.outcome
         (state_of V.value_state T.template_state known.values machine.new).asked }
 {
     let mut stop = None;

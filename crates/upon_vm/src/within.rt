@@ -1,5 +1,5 @@
 // Runs and renderings within limits: one step of the machine a turn, up to the program's end or to a limit.
-ghost use Rattle.std.specs.Prelude.{◌≡◌, ◌≤◌, ℕ, List, [], option_map, unwrap_or};
+ghost use Rattle.std.specs.Prelude.{◌≡◌, [], unwrap_or};
 ghost use Rattle.upon_types.specs.Error.{fault_of as error_of};
 ghost use Rattle.upon_types.specs.Fault.{OrMemory};
 ghost use Rattle.upon_types.specs.Span.{LiesIn};
@@ -7,20 +7,17 @@ ghost use Rattle.upon_types.specs.TreeSpans.{TreeLiesIn};
 ghost use Rattle.upon_render.specs.Roots.{pure_root};
 ghost use Rattle.upon_render.specs.Source.{Source};
 ghost use Rattle.upon_render.specs.Stack.{frames_of, root_of};
-ghost use Rattle.upon_meaning_spec.specs.Alone.{alone_within};
 ghost use Rattle.upon_meaning_spec.specs.Engine.{Template};
 ghost use Rattle.upon_meaning_spec.specs.Meaning.{fault_in};
-ghost use Rattle.upon_meaning_spec.specs.Outcome.{states};
 ghost use Rattle.upon_machine_spec.specs.Run.{run};
 ghost use Rattle.upon_machine_spec.specs.Spans.{CodeSpans};
-ghost use Rattle.upon_machine_spec.specs.State.{at_start};
 ghost use Rattle.upon_instructions.specs.Program.{program_view};
-ghost use Rattle.upon_fmt.specs.declared.output.Mark.{Mark};
 ghost use Rattle.upon_vm.specs.Acts.{calls_on};
 ghost use Rattle.upon_vm.specs.Keeps.{HasState, Kept, SourceHas};
 ghost use Rattle.upon_vm.specs.Limits.{GrowsWithin};
-ghost use Rattle.upon_vm.specs.Machine.{active_of, source_state, state_of};
+ghost use Rattle.upon_vm.specs.Machine.{active_of, state_of};
 ghost use Rattle.upon_vm.specs.Program.{IsProgramOf};
+ghost use Rattle.upon_vm.specs.Renderings.{RendersWithin, SourcesKept, sources_state};
 ghost use Rattle.upon_vm.specs.Runs.{KnownRun, Starts};
 ghost use Rattle.upon_vm.specs.Within.{IsAtLimit, IsReportWithin, MarksWithin, RanWithin, ReportMarksWithin, limit_reached};
 
@@ -112,15 +109,11 @@ pub(crate) fn run_within<'r, V: ValueSource, T: ProgramSource<'r>, C: Callables,
     ensures bounded { GrowsWithin limits.output (W.given out.old) (W.given out.new) }
     ensures ran { (known : KnownRun V.State T.State)
         → Starts V.ask V.value_state T.template_state (T.resolve machine.old.templates) (C.callables callables.now)
-        (C.default_formatter callables.now) known machine.old → RanWithin
-        limits
+        (C.default_formatter callables.now) known machine.old → RanWithin limits
         (λ n. run (calls_on (C.callables callables.now) (C.default_formatter callables.now) known.ask)
         (T.resolve machine.old.templates) (pure_root (root_of machine.old.stack)) n
         (state_of V.value_state T.template_state known.values machine.old))
-        result
-        (W.given out.old)
-        (W.given out.new)
-        known.outcome
+        result (W.given out.old) (W.given out.new) known.outcome
         (state_of V.value_state T.template_state known.values machine.new).asked }
 {
     let mut stop = None;
@@ -178,27 +171,14 @@ pub fn render_within<'r, V: ValueSource, T: ProgramSource<'r>, C: Callables, W: 
     // No more bytes are written than the limit is.
     ensures bounded { GrowsWithin limits.output (W.given out.old) (W.given out.new) }
     ensures ran { (t : Template) (ask : Source V.State) (q : V.State) → IsProgramOf running.entry.program t
-        → SourceHas V.ask (root_of stack.entry) ask → RanWithin
-        limits
-        (λ n. run (calls_on (C.callables callables.now) (C.default_formatter callables.now) ask)
-        (T.resolve templates) (pure_root (root_of stack.entry)) n
-        (at_start t (option_map (λ name. name.now) running.entry.name) running.entry.left
-        (states (source_state V.value_state q (root_of stack.entry)) (T.template_state templates))))
-        result.0
-        (W.given out.old)
-        (W.given out.new)
-        (alone_within (calls_on (C.callables callables.now) (C.default_formatter callables.now) ask)
-        (T.resolve templates) running.entry.left t (option_map (λ name. name.now) running.entry.name)
-        (pure_root (root_of stack.entry)) (states (source_state V.value_state q (root_of stack.entry))
-        (T.template_state templates)))
-        (states (source_state V.value_state q (root_of result.1)) (T.template_state result.2)) }
-    ensures root { pure_root (root_of result.1) ≡ pure_root (root_of stack.entry) }
-    ensures asks { (ask : Source V.State) → SourceHas V.ask (root_of stack.entry) ask
-        → SourceHas V.ask (root_of result.1) ask }
-    ensures values_held { (names : List ℕ) → SourceHas V.holds (root_of stack.entry) names
-        → SourceHas V.holds (root_of result.1) names }
-    ensures resolve { T.resolve result.2 ≡ T.resolve templates }
-    ensures templates_held { T.holds result.2 ≡ T.holds templates }
+        → SourceHas V.ask (root_of stack.entry) ask → RendersWithin limits
+        (calls_on (C.callables callables.now) (C.default_formatter callables.now) ask) (T.resolve templates)
+        running.entry t (pure_root (root_of stack.entry))
+        (sources_state V.value_state T.template_state q (root_of stack.entry) templates)
+        result.0 (W.given out.old) (W.given out.new)
+        (sources_state V.value_state T.template_state q (root_of result.1) result.2) }
+    ensures sources { SourcesKept V.ask V.holds T.resolve T.holds (root_of stack.entry) (root_of result.1)
+        templates result.2 }
 {
     let mut machine = Machine {
         running,

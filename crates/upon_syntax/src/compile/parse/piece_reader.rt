@@ -56,7 +56,7 @@ pub struct PieceReader<'a> {
 }
 
 impl<'a> PieceReader<'a> {
-    ghost use Rattle.upon_syntax.specs.PieceReading.{text_of_reader, pieces_delimiters, pieces_state, pieces_blocks, Pieces, IsBetween, IsGivenTo, ReadsPiece, ReadsFound, HasBegunComment, IsInComment, HasPassedEnd, HasPassedComment, HasFound, FindsNext, RefusesPieces};
+    ghost use Rattle.upon_syntax.specs.PieceReading.{text_of_reader, pieces_delimiters, pieces_state, pieces_blocks, Pieces, KeepsReading, IsBetween, IsGivenTo, ReadsPiece, ReadsFound, HasBegunComment, IsInComment, HasPassedEnd, HasPassedComment, HasFound, FindsNext, RefusesPieces};
 
     /// Creates a reader at the start of a text, over the delimiters of a searcher.
     pub fn new(alloc: Global, searcher: &'a Searcher, source: &'a str) -> PieceReader<'a>
@@ -81,8 +81,7 @@ impl<'a> PieceReader<'a> {
             → HasFound self.old found
             → FindsNext self.old self.new found code.old.items code.new.items next) }
         ensures fault { IfErr result (RefusesPieces self.old) }
-        ensures text { text_of_reader self.new ≡ text_of_reader self.old }
-        ensures delimiters { pieces_delimiters self.new ≡ pieces_delimiters self.old }
+        ensures keeps { KeepsReading self.old self.new }
     {
         let given = self.lexer.next()?;
         match given {
@@ -109,8 +108,7 @@ impl<'a> PieceReader<'a> {
             → IsGivenTo self.old before ls token span
             → ReadsFound self.old self.new before ls code.old.items code.new.items piece) }
         ensures fault { IfErr result (RefusesPieces self.old) }
-        ensures text { text_of_reader self.new ≡ text_of_reader self.old }
-        ensures delimiters { pieces_delimiters self.new ≡ pieces_delimiters self.old }
+        ensures keeps { KeepsReading self.old self.new }
     {
         match token {
             Token::BeginComment => {
@@ -133,8 +131,7 @@ impl<'a> PieceReader<'a> {
             → IsGivenTo self.old before ls BeginExpr begin
             → ReadsPiece self.old self.new before ls code.old.items code.new.items InlineExpr) }
         ensures fault { IfErr result (RefusesPieces self.old) }
-        ensures text { text_of_reader self.new ≡ text_of_reader self.old }
-        ensures delimiters { pieces_delimiters self.new ≡ pieces_delimiters self.old }
+        ensures keeps { KeepsReading self.old self.new }
     {
         self.tags.read_inline(&mut self.lexer, begin, code)
     }
@@ -146,8 +143,7 @@ impl<'a> PieceReader<'a> {
             → IsGivenTo self.old before ls BeginBlock begin
             → ReadsPiece self.old self.new before ls code.old.items code.new.items (Block tag)) }
         ensures fault { IfErr result (RefusesPieces self.old) }
-        ensures text { text_of_reader self.new ≡ text_of_reader self.old }
-        ensures delimiters { pieces_delimiters self.new ≡ pieces_delimiters self.old }
+        ensures keeps { KeepsReading self.old self.new }
     {
         let (tag, span) = self.tags.read_block(&mut self.lexer, begin, code)?;
         match self.blocks.pass(&tag, span) {
@@ -168,14 +164,11 @@ impl<'a> PieceReader<'a> {
 
     // Goes past a comment whose begin was read.
     fn pass_comment(&mut self) -> Result<()>
-        ensures passes { IfOk result (λ _. (ls : List Lexeme)
-            → HasBegunComment self.old ls
-            → HasPassedComment self.old self.new ls) }
-        ensures fault { IfErr result (λ e. (ls : List Lexeme)
-            → HasBegunComment self.old ls
-            → RefusesPieces self.old e) }
-        ensures text { text_of_reader self.new ≡ text_of_reader self.old }
-        ensures delimiters { pieces_delimiters self.new ≡ pieces_delimiters self.old }
+        ensures passes { IfOk result
+            (λ _. (ls : List Lexeme) → HasBegunComment self.old ls → HasPassedComment self.old self.new ls) }
+        ensures fault { IfErr result
+            (λ e. (ls : List Lexeme) → HasBegunComment self.old ls → RefusesPieces self.old e) }
+        ensures keeps { KeepsReading self.old self.new }
         ensures blocks { pieces_blocks self.new ≡ pieces_blocks self.old }
     {
         let inside = self.lexer.next()?;
@@ -192,14 +185,10 @@ impl<'a> PieceReader<'a> {
 
     // Goes past the end of a comment whose raw part was read.
     fn pass_comment_end(&mut self) -> Result<()>
-        ensures passes { IfOk result (λ _. (ls : List Lexeme)
-            → IsInComment self.old ls
-            → HasPassedEnd self.old self.new ls) }
-        ensures fault { IfErr result (λ e. (ls : List Lexeme)
-            → IsInComment self.old ls
-            → RefusesPieces self.old e) }
-        ensures text { text_of_reader self.new ≡ text_of_reader self.old }
-        ensures delimiters { pieces_delimiters self.new ≡ pieces_delimiters self.old }
+        ensures passes { IfOk result
+            (λ _. (ls : List Lexeme) → IsInComment self.old ls → HasPassedEnd self.old self.new ls) }
+        ensures fault { IfErr result (λ e. (ls : List Lexeme) → IsInComment self.old ls → RefusesPieces self.old e) }
+        ensures keeps { KeepsReading self.old self.new }
         ensures blocks { pieces_blocks self.new ≡ pieces_blocks self.old }
     {
         let end = self.lexer.next()?;

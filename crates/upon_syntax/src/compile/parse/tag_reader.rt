@@ -1,14 +1,12 @@
 // A whole tag of a text: its tokens from the lexer, what they are read to, and the fault where they are no tag.
-ghost use Rattle.std.specs.Prelude.{◌≡◌, ℕ, List, [], Some, None, IfOk, IfErr};
-ghost use Rattle.upon_language_spec.specs.Cut.{Lexeme};
+ghost use Rattle.std.specs.Prelude.{◌≡◌, List, [], Some, None, IfOk, IfErr};
 ghost use Rattle.upon_language_spec.specs.Delimiters.{expression, block};
-ghost use Rattle.upon_lexer.specs.Lexers.{lexer_text, lexer_delimiters};
+ghost use Rattle.upon_lexer.specs.Lexers.{lexer_text};
 ghost use Rattle.upon_language_spec.specs.Search.{DelimiterText};
-ghost use Rattle.upon_syntax.specs.TagEnds.{TagEndLies, tag_end};
+ghost use Rattle.upon_syntax.specs.TagEnds.{TagEndLies, tag_end, KeepsText};
 ghost use Rattle.upon_syntax.specs.TagFaults.{FirstLies, GoesNoFurther};
 ghost use Rattle.upon_tag_parser.specs.TagParsing.{OnStuck};
-ghost use Rattle.upon_tag_parser.specs.WholeTags.{HoldsInline, HoldsTag};
-ghost use Rattle.upon_syntax.specs.TagReading.{AfterBegin, AfterEnd, IsSyntaxError};
+ghost use Rattle.upon_syntax.specs.TagReading.{IsSyntaxError, ReadsInlineTag, ReadsBlockTag, RefusesTag};
 
 use crate::compile::parse::tag_faults::{refuse, refuse_end};
 use crate::compile::parse::tag_tokens::{Ended, read_tokens};
@@ -53,18 +51,9 @@ impl<'a> TagReader<'a> {
         code: &mut Vec<Instr>,
     ) -> Result<()>
         requires same { reader_text self.now ≡ lexer_text lexer.now }
-        ensures tag { IfOk result (λ _. (ls : List Lexeme) → AfterBegin lexer.old expression begin ls
-            → (end : ℕ) × AfterEnd
-            lexer.old
-            lexer.new
-            expression
-            ls
-            end
-            (λ tokens. HoldsInline (lexer_text lexer.old) tokens code.old.items code.new.items)) }
-        ensures fault { IfErr result (λ e. (ls : List Lexeme) → AfterBegin lexer.old expression begin ls
-            → IsSyntaxError (lexer_delimiters lexer.old) (lexer_text lexer.old) e) }
-        ensures text { lexer_text lexer.new ≡ lexer_text lexer.old }
-        ensures delimiters { lexer_delimiters lexer.new ≡ lexer_delimiters lexer.old }
+        ensures tag { IfOk result (λ _. ReadsInlineTag lexer.old lexer.new begin code.old.items code.new.items) }
+        ensures fault { IfErr result (RefusesTag lexer.old expression begin) }
+        ensures keeps { KeepsText lexer.old lexer.new }
         ensures reader { reader_text self.new ≡ reader_text self.old }
     {
         let ended = read_tokens(self.source, lexer, &mut self.tokens)?;
@@ -87,19 +76,11 @@ impl<'a> TagReader<'a> {
         code: &mut Vec<Instr>,
     ) -> Result<(Tag, Span)>
         requires same { reader_text self.now ≡ lexer_text lexer.now }
-        ensures tag { IfOk result (λ r. (ls : List Lexeme) → AfterBegin lexer.old block begin ls
-            → AfterEnd
-            lexer.old
-            lexer.new
-            block
-            ls
-            r.1.n
-            (λ tokens. HoldsTag (lexer_text lexer.old) r.0 tokens code.old.items code.new.items)) }
+        ensures tag { IfOk result
+            (λ r. ReadsBlockTag lexer.old lexer.new begin code.old.items code.new.items r.0 r.1) }
         ensures start { IfOk result (λ r. r.1.m ≡ begin.m) }
-        ensures fault { IfErr result (λ e. (ls : List Lexeme) → AfterBegin lexer.old block begin ls
-            → IsSyntaxError (lexer_delimiters lexer.old) (lexer_text lexer.old) e) }
-        ensures text { lexer_text lexer.new ≡ lexer_text lexer.old }
-        ensures delimiters { lexer_delimiters lexer.new ≡ lexer_delimiters lexer.old }
+        ensures fault { IfErr result (RefusesTag lexer.old block begin) }
+        ensures keeps { KeepsText lexer.old lexer.new }
         ensures reader { reader_text self.new ≡ reader_text self.old }
     {
         let ended = read_tokens(self.source, lexer, &mut self.tokens)?;

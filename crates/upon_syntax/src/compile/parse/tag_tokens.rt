@@ -1,21 +1,21 @@
 // The tokens inside a tag, up to where they end.
-ghost use Rattle.std.specs.Prelude.{◌≡◌, ◌<◌, ◌≤◌, List, [], ◌∷◌, Bool, true, false, Option, Some, None, IfOk, IfErr};
-ghost use Rattle.std.specs.Prelude.{IfSome, MatchOption};
+ghost use Rattle.std.specs.Prelude.{◌≡◌, ◌≤◌, [], true, false, Option, Some, None, IfOk, IfErr, IfSome, IfNone};
+ghost use Rattle.std.specs.Prelude.{MatchOption};
 ghost use Rattle.std.specs.Char.{is_ascii_digit};
 ghost use Rattle.upon_types.specs.declared.types.token.Token.TheVariants.{Index, Number, String};
 ghost use Rattle.upon_types.specs.Span.{LiesIn, slice};
-ghost use Rattle.upon_language_spec.specs.Cut.{Lexeme, in_tag};
-ghost use Rattle.upon_language_spec.specs.Delimiters.{Sort};
+ghost use Rattle.upon_language_spec.specs.Cut.{Lexeme};
 ghost use Rattle.upon_language_spec.specs.Inside.{continues_number, IsQuoted};
 ghost use Rattle.upon_language_spec.specs.Tokens.{is_raw};
 ghost use Rattle.upon_language_spec.specs.Words.{IsRun};
-ghost use Rattle.upon_language_spec.specs.InTags.{last_or, is_inside, FineLiteral};
+ghost use Rattle.upon_language_spec.specs.InTags.{is_inside, FineLiteral};
 ghost use Rattle.upon_lexer.specs.Spelling.{IsSpelled};
-ghost use Rattle.upon_lexer.specs.Lexers.{lexer_text, lexer_delimiters, lexer_state, ReadSoFar};
+ghost use Rattle.upon_lexer.specs.Lexers.{lexer_text, lexer_state};
 ghost use Rattle.upon_literals.specs.LiteralReasons.{report_of};
 ghost use Rattle.upon_literals.specs.Literals.{lexeme_of, before_of};
-ghost use Rattle.upon_tag_parser.specs.TagTokens.{lexemes_of, IsTagToken, EachTagToken};
-ghost use Rattle.upon_syntax.specs.TagEnds.{DenotesNothing, SignLies, StopsAt, ReadsTokens, ReadsUpTo, TagEndLies, tag_end, found_tokens};
+ghost use Rattle.upon_tag_parser.specs.TagTokens.{lexemes_of, EachTagToken};
+ghost use Rattle.upon_syntax.specs.TagEnds.{DenotesNothing, SignLies, StopsAt, TagEndLies, tag_end, KeepsText, ReadsInside};
+ghost use Rattle.upon_syntax.specs.TagEnds.{FindsTagToken, FindsEnd};
 
 use std::alloc::AllocError;
 use upon_lexer::compile::lex::Lexer;
@@ -59,21 +59,8 @@ pub fn read_tokens(
 ) -> Result<Ended, AllocError>
     requires same { source.now ≡ lexer_text lexer.now }
     ensures tokens { EachTagToken source.now None (lexemes_of tokens.new.items) }
-    ensures inner { IfOk result (λ ended. (sort : Sort) (path : Bool) (ls : List Lexeme)
-        → ReadSoFar lexer.old ls
-        → (lexer_state lexer.old).mode ≡ in_tag sort path
-        → ReadsUpTo
-        (lexer_delimiters lexer.old)
-        source.now
-        sort
-        ls
-        (lexemes_of tokens.new.items)
-        (last_or None (lexemes_of tokens.new.items))
-        (lexer_state lexer.new)
-        ended) }
-    ensures lies { IfOk result (TagEndLies source.now) }
-    ensures text { lexer_text lexer.new ≡ lexer_text lexer.old }
-    ensures delimiters { lexer_delimiters lexer.new ≡ lexer_delimiters lexer.old }
+    ensures ends { IfOk result (FindsEnd source.now lexer.old lexer.new None (lexemes_of tokens.new.items)) }
+    ensures keeps { KeepsText lexer.old lexer.new }
 {
     tokens.clear();
     let mut before = None;
@@ -96,20 +83,11 @@ pub fn read_tokens(
 // The next token inside a tag, if it is a frequent one; `None` says nothing, but that whitespace may have been read.
 fn plain_token(source: &str, lexer: &mut Lexer) -> Option<Lexed>
     requires same { source.now ≡ lexer_text lexer.now }
-    ensures token { IfSome result
-        (λ found. (before : Option Lexeme) → IsTagToken source.now before (lexeme_of found)) }
-    ensures sign { IfSome result
-        (λ found. SignLies source.now (Some (lexeme_of found)) (lexer_state lexer.new).offset) }
-    ensures further { IfSome result (λ _. (lexer_state lexer.old).offset < (lexer_state lexer.new).offset) }
+    ensures found { IfSome result
+        (λ found. (before : Option Lexeme) → FindsTagToken source.now lexer.old lexer.new before found) }
+    ensures blanks { IfNone result (ReadsInside source.now lexer.old lexer.new []) }
     ensures onward { (lexer_state lexer.old).offset ≤ (lexer_state lexer.new).offset }
-    ensures inner { ReadsTokens
-        (lexer_delimiters lexer.old)
-        source.now
-        (lexer_state lexer.old)
-        (lexer_state lexer.new)
-        (found_tokens result) }
-    ensures text { lexer_text lexer.new ≡ lexer_text lexer.old }
-    ensures delimiters { lexer_delimiters lexer.new ≡ lexer_delimiters lexer.old }
+    ensures keeps { KeepsText lexer.old lexer.new }
 {
     match lexer.next_plain() {
         Some((token, span)) => Some(Lexed { token, span }),
@@ -121,30 +99,9 @@ fn plain_token(source: &str, lexer: &mut Lexer) -> Option<Lexed>
 fn read_token(source: &str, lexer: &mut Lexer, before: Option<Lexed>) -> Result<Lexed, Ended>
     requires same { source.now ≡ lexer_text lexer.now }
     requires sign { SignLies source.now (before_of before) (lexer_state lexer.now).offset }
-    ensures token { IfOk result (λ found. IsTagToken source.now (before_of before) (lexeme_of found)) }
-    ensures sign { IfOk result (λ found. SignLies source.now (Some (lexeme_of found)) (lexer_state lexer.new).offset) }
-    ensures further { IfOk result (λ _. (lexer_state lexer.old).offset < (lexer_state lexer.new).offset) }
-    ensures inner { IfOk result (λ found. ReadsTokens
-        (lexer_delimiters lexer.old)
-        source.now
-        (lexer_state lexer.old)
-        (lexer_state lexer.new)
-        (lexeme_of found ∷ [])) }
-    ensures ends { IfErr result (λ ended. (sort : Sort) (path : Bool) (ls : List Lexeme)
-        → ReadSoFar lexer.old ls
-        → (lexer_state lexer.old).mode ≡ in_tag sort path
-        → ReadsUpTo
-        (lexer_delimiters lexer.old)
-        source.now
-        sort
-        ls
-        []
-        (before_of before)
-        (lexer_state lexer.new)
-        ended) }
-    ensures lies { IfErr result (TagEndLies source.now) }
-    ensures text { lexer_text lexer.new ≡ lexer_text lexer.old }
-    ensures delimiters { lexer_delimiters lexer.new ≡ lexer_delimiters lexer.old }
+    ensures found { IfOk result (FindsTagToken source.now lexer.old lexer.new (before_of before)) }
+    ensures ends { IfErr result (FindsEnd source.now lexer.old lexer.new (before_of before) []) }
+    ensures keeps { KeepsText lexer.old lexer.new }
 {
     match lexer.next() {
         Err(e) => Err(Ended::Fault(e)),

@@ -43,7 +43,7 @@ less-left-requires g c = let still = c.steps.invariant.enough.2 in omega (arith,
 pub step-requires : goal.step-requires
 step-requires g c κs =
     let h = c.steps.invariant.going c.requires.starts.0 c.requires.starts.1 in
-    ((refl, tt), (h.running.lies.active, (h.unbounded, way_frames h)))
+    ((refl, tt), record { spans = h.running.lies.active; unbounded = h.unbounded; frames = way_frames h })
 
 pub end_of-requires : goal.end_of-requires
 end_of-requires g c =

@@ -12,6 +12,6 @@ act-requires g c κs =
     let machine = c.args.machine.now in
     let program = machine.running.program in
     let next = c.in-Some.ensures.next in
-    let spans = code_spans_at (LiesIn program.source.now) (program_view program.instrs.now) machine.position (instr_of c.in-Some.instr.now) next c.requires.spans in
-    let frame = subst (λ i. NeedsFrames i (frames_of machine.stack) (callers_view machine.waiting.items)) (sym next) c.requires.frames in
-    ((refl, tt), (c.in-Some.ensures.room, (spans, (c.requires.unbounded, frame))))
+    let spans = code_spans_at (LiesIn program.source.now) (program_view program.instrs.now) machine.position (instr_of c.in-Some.instr.now) next c.requires.ready.spans in
+    let frame = subst (λ i. NeedsFrames i (frames_of machine.stack) (callers_view machine.waiting.items)) (sym next) c.requires.ready.frames in
+    ((refl, tt), record { room = c.in-Some.ensures.room; spans = spans; unbounded = c.requires.ready.unbounded; frame = frame })

@@ -48,17 +48,7 @@ returns-clause-ran g c t ask q program asks =
     (is_at_start value_state template_state q t m program c.new.ensures.items refl c.new-2.ensures c.requires.frames)
     (c.run_within-ended.ensures.ran known from)
 
-pub returns-clause-root : goal.returns-clause-root
-returns-clause-root g c = c.run_within-ended.ensures.kept.root
-
-pub returns-clause-asks : goal.returns-clause-asks
-returns-clause-asks g c = c.run_within-ended.ensures.kept.asks
-
-pub returns-clause-resolve : goal.returns-clause-resolve
-returns-clause-resolve g c = c.run_within-ended.ensures.kept.resolve
-
-pub returns-clause-values_held : goal.returns-clause-values_held
-returns-clause-values_held g c = c.run_within-ended.ensures.kept.values_held
-
-pub returns-clause-templates_held : goal.returns-clause-templates_held
-returns-clause-templates_held g c = c.run_within-ended.ensures.kept.templates_held
+pub returns-clause-sources : goal.returns-clause-sources
+returns-clause-sources g c =
+    let kept = c.run_within-ended.ensures.kept in
+    record { root = kept.root; asks = kept.asks; values_held = kept.values_held; resolve = kept.resolve; templates_held = kept.templates_held }

@@ -44,7 +44,7 @@ less-left-requires g c = let still = c.turns.invariant.enough.2 in omega (arith,
 pub take_turn-requires : goal.take_turn-requires
 take_turn-requires g c κs =
     let h = c.turns.invariant.going c.requires.starts.0 c.requires.starts.1 in
-    ((refl, tt), (h.spent.lies.active, (h.unbounded, within_frames h)))
+    ((refl, tt), record { spans = h.spent.lies.active; unbounded = h.unbounded; frames = within_frames h })
 
 pub at_limit-requires : goal.at_limit-requires
 at_limit-requires g c =

@@ -11,8 +11,8 @@ returns-clause-ran g c t is =
 
 pub returns-clause-asks : goal.returns-clause-asks
 returns-clause-asks g c =
-    as_before g.S.ValueSource.ask _ _ _ c.in-Some.source c.with_value_fn-stack.ensures.root c.in-Some.ensures c.render-ended.ensures.asks
+    as_before g.S.ValueSource.ask _ _ _ c.in-Some.source c.with_value_fn-stack.ensures.root c.in-Some.ensures c.render-ended.ensures.sources.asks
 
 pub returns-clause-held : goal.returns-clause-held
 returns-clause-held g c =
-    as_before g.S.ValueSource.holds _ _ _ c.in-Some.source c.with_value_fn-stack.ensures.root c.in-Some.ensures c.render-ended.ensures.values_held
+    as_before g.S.ValueSource.holds _ _ _ c.in-Some.source c.with_value_fn-stack.ensures.root c.in-Some.ensures c.render-ended.ensures.sources.values_held

@@ -20,24 +20,24 @@ pieces-preserved-in-Continue-branch-3 c =
     let both = found_told delimiters s (pieces_state c.pieces.reader) (pieces_state reader) (pieces_blocks reader) found c.pieces.code.items c.next.new.code.items c.tell.new.code.items c.in-OnePiece.piece old new on c.pieces.invariant.empty told said.state said.moved in
     let F : List DelimiterText → List ℕ → Type 0 = λ x y. HasTold x y (pieces_state reader) (pieces_blocks reader) new in
     record {
-      text = c.in_ok-piece.ensures.text ∙ c.pieces.invariant.text;
-      delimiters = c.in_ok-piece.ensures.delimiters ∙ c.pieces.invariant.delimiters;
+      text = c.in_ok-piece.ensures.keeps.text ∙ c.pieces.invariant.text;
+      delimiters = c.in_ok-piece.ensures.keeps.delimiters ∙ c.pieces.invariant.delimiters;
       empty = both.0;
-      found = over F delimiters (pieces_delimiters reader) s (text_of_reader reader) c.in_ok-piece.ensures.delimiters c.in_ok-piece.ensures.text both.1;
+      found = over F delimiters (pieces_delimiters reader) s (text_of_reader reader) c.in_ok-piece.ensures.keeps.delimiters c.in_ok-piece.ensures.keeps.text both.1;
     }
 
 pub pieces-smaller-in-Continue-branch-3 : goal.pieces-smaller-in-Continue-branch-3
 pieces-smaller-in-Continue-branch-3 c =
     let (found, so_far, told) = c.pieces.invariant.found in
     let on = rw c.in-OnePiece.is at c.in_ok-piece.ensures.found found so_far in
-    let same : length (text_of_reader c.next.new.self) ≡ length (text_of_reader c.pieces.reader) = ap (λ (s : List ℕ). length s) c.in_ok-piece.ensures.text in
+    let same : length (text_of_reader c.next.new.self) ≡ length (text_of_reader c.pieces.reader) = ap (λ (s : List ℕ). length s) c.in_ok-piece.ensures.keeps.text in
     omega (arith, same, on.gone.further, on.gone.within)
 
 pub pieces-smaller : goal.pieces-smaller
 pieces-smaller c =
     let (found, so_far, told) = c.pieces.invariant.found in
     let on = rw c.in-Comment.is at c.in_ok-piece.ensures.found found so_far in
-    let same : length (text_of_reader c.next.new.self) ≡ length (text_of_reader c.pieces.reader) = ap (λ (s : List ℕ). length s) c.in_ok-piece.ensures.text in
+    let same : length (text_of_reader c.next.new.self) ≡ length (text_of_reader c.pieces.reader) = ap (λ (s : List ℕ). length s) c.in_ok-piece.ensures.keeps.text in
     omega (arith, same, on.0.further, on.0.within)
 
 pub pieces-preserved : goal.pieces-preserved
@@ -49,10 +49,10 @@ pieces-preserved c =
     let reader = c.next.new.self in
     let F : List DelimiterText → List ℕ → Type 0 = λ x y. HasTold x y (pieces_state reader) (pieces_blocks reader) (compiler_state c.pieces.compiler) in
     record {
-      text = c.in_ok-piece.ensures.text ∙ c.pieces.invariant.text;
-      delimiters = c.in_ok-piece.ensures.delimiters ∙ c.pieces.invariant.delimiters;
+      text = c.in_ok-piece.ensures.keeps.text ∙ c.pieces.invariant.text;
+      delimiters = c.in_ok-piece.ensures.keeps.delimiters ∙ c.pieces.invariant.delimiters;
       empty = on.1 ∙ c.pieces.invariant.empty;
-      found = over F delimiters (pieces_delimiters reader) s (text_of_reader reader) c.in_ok-piece.ensures.delimiters c.in_ok-piece.ensures.text (found, on.0.so_far, told);
+      found = over F delimiters (pieces_delimiters reader) s (text_of_reader reader) c.in_ok-piece.ensures.keeps.delimiters c.in_ok-piece.ensures.keeps.text (found, on.0.so_far, told);
     }
 
 pub returns-in-End-clause-program : goal.returns-in-End-clause-program

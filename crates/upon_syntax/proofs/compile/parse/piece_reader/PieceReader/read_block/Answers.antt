@@ -38,9 +38,9 @@ unexpected-requires c =
     let a = c.in_ok-tag.ensures.tag (c.requires.given.1 ++ token_lexeme BeginBlock x.hyphen x.at ∷ []) (after_begin_block lexer texts c.requires.given.0 stack c.requires.given.1 c.args.begin x) in
     let passed = rw c.in-Some.is at c.in-Ok.ensures in
     let refused = passed a.tokens.tree a.tokens.keeps in
-    let first = untaken_first lexer texts c.requires.given.0 stack c.requires.given.1 c.args.begin c.read_block.new.lexer c.in_ok-tag.ensures.delimiters c.in_ok-tag.ensures.text (had_utf8 (pieces_delimiters self) lexer.searcher.now.syntax.has_utf8) text x c.in_ok-tag.tag c.in_ok-tag.span c.args.code.now.items c.read_block.new.code.items a c.in_ok-tag.ensures.start (closer_view c.in-Some.closer) refused.0 refused.1 in
+    let first = untaken_first lexer texts c.requires.given.0 stack c.requires.given.1 c.args.begin c.read_block.new.lexer c.in_ok-tag.ensures.keeps.delimiters c.in_ok-tag.ensures.keeps.text (had_utf8 (pieces_delimiters self) lexer.searcher.now.syntax.has_utf8) text x c.in_ok-tag.tag c.in_ok-tag.span c.args.code.now.items c.read_block.new.code.items a c.in_ok-tag.ensures.start (closer_view c.in-Some.closer) refused.0 refused.1 in
     let F : List ℕ → Type 0 = λ s. LiesIn s c.in_ok-tag.span in
-    subst F (sym c.in_ok-tag.ensures.text) (first_lies_in (pieces_delimiters self) (text_of_reader self) c.in_ok-tag.span (reason c.in-Some.closer) texts lexer.searcher.now.syntax.has_utf8 text first)
+    subst F (sym c.in_ok-tag.ensures.keeps.text) (first_lies_in (pieces_delimiters self) (text_of_reader self) c.in_ok-tag.span (reason c.in-Some.closer) texts lexer.searcher.now.syntax.has_utf8 text first)
 
 pub returns-in-None-clause-tag : goal.returns-in-None-clause-tag
 returns-in-None-clause-tag c = λ before ls x.
@@ -52,7 +52,7 @@ returns-in-None-clause-tag c = λ before ls x.
     let a = c.in_ok-tag.ensures.tag (ls ++ token_lexeme BeginBlock x.hyphen x.at ∷ []) (after_begin_block lexer texts before stack ls c.args.begin x) in
     let passed = rw c.in-None.is at c.in-Ok.ensures in
     let taken = passed a.tokens.tree a.tokens.keeps in
-    let on = block_step lexer texts before stack ls c.args.begin c.read_block.new.lexer c.in_ok-tag.ensures.delimiters c.in_ok-tag.ensures.text (had_utf8 (pieces_delimiters self) lexer.searcher.now.syntax.has_utf8) text x c.in_ok-tag.tag c.in_ok-tag.span c.args.code.now.items c.read_block.new.code.items a c.in_ok-tag.ensures.start (stack_of c.pass.new.self) taken.0 taken.1 in
+    let on = block_step lexer texts before stack ls c.args.begin c.read_block.new.lexer c.in_ok-tag.ensures.keeps.delimiters c.in_ok-tag.ensures.keeps.text (had_utf8 (pieces_delimiters self) lexer.searcher.now.syntax.has_utf8) text x c.in_ok-tag.tag c.in_ok-tag.span c.args.code.now.items c.read_block.new.code.items a c.in_ok-tag.ensures.start (stack_of c.pass.new.self) taken.0 taken.1 in
     record { piece = block_piece a.tokens.tree; reads = on; keeps = (a.tokens.tree, refl, a.tokens.keeps); code = a.tokens.code }
 
 pub returns-in-Some-clause-fault : goal.returns-in-Some-clause-fault
@@ -66,5 +66,5 @@ returns-in-Some-clause-fault c =
     let a = c.in_ok-tag.ensures.tag (c.requires.given.1 ++ token_lexeme BeginBlock x.hyphen x.at ∷ []) (after_begin_block lexer texts c.requires.given.0 stack c.requires.given.1 c.args.begin x) in
     let passed = rw c.in-Some.is at c.in-Ok.ensures in
     let refused = passed a.tokens.tree a.tokens.keeps in
-    let first = untaken_first lexer texts c.requires.given.0 stack c.requires.given.1 c.args.begin c.read_block.new.lexer c.in_ok-tag.ensures.delimiters c.in_ok-tag.ensures.text (had_utf8 (pieces_delimiters self) lexer.searcher.now.syntax.has_utf8) text x c.in_ok-tag.tag c.in_ok-tag.span c.args.code.now.items c.read_block.new.code.items a c.in_ok-tag.ensures.start (closer_view c.in-Some.closer) refused.0 refused.1 in
-    said_at (pieces_delimiters self) (text_of_reader self) (lexer_text c.read_block.new.lexer) c.in_ok-tag.span c.in_ok-tag.span (reason c.in-Some.closer) c.unexpected.result c.in_ok-tag.ensures.text refl first c.unexpected.ensures
+    let first = untaken_first lexer texts c.requires.given.0 stack c.requires.given.1 c.args.begin c.read_block.new.lexer c.in_ok-tag.ensures.keeps.delimiters c.in_ok-tag.ensures.keeps.text (had_utf8 (pieces_delimiters self) lexer.searcher.now.syntax.has_utf8) text x c.in_ok-tag.tag c.in_ok-tag.span c.args.code.now.items c.read_block.new.code.items a c.in_ok-tag.ensures.start (closer_view c.in-Some.closer) refused.0 refused.1 in
+    said_at (pieces_delimiters self) (text_of_reader self) (lexer_text c.read_block.new.lexer) c.in_ok-tag.span c.in_ok-tag.span (reason c.in-Some.closer) c.unexpected.result c.in_ok-tag.ensures.keeps.text refl first c.unexpected.ensures

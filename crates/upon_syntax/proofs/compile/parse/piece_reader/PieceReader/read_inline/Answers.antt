@@ -33,7 +33,7 @@ returns-clause-tag c =
     ok_on P Q c.read_inline.result (λ _ read before ls x.
     let (to, a) = read (ls ++ token_lexeme BeginExpr x.hyphen x.at ∷ []) (after_begin_expr lexer texts before stack ls begin x) in
     let span = span_of x.at.m a.ends.to in
-    let on = inline_step lexer texts before stack ls begin after c.read_inline.ensures.delimiters c.read_inline.ensures.text x to old new a in
+    let on = inline_step lexer texts before stack ls begin after c.read_inline.ensures.keeps.delimiters c.read_inline.ensures.keeps.text x to old new a in
     record { piece = inline_piece a.tokens.tree span; reads = on; keeps = (a.tokens.tree, span, refl); code = a.tokens.code }) c.read_inline.ensures.tag
 
 pub returns-clause-fault : goal.returns-clause-fault

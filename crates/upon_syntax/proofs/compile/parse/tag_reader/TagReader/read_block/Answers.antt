@@ -36,7 +36,7 @@ returns-in-Err-clause-fault c = λ ls a.
     let after = lexer_state c.read_tokens.new.lexer in
     let Each : List ℕ → Type 0 = λ x. EachTagToken x None (lexemes_of tokens) in
     let Reads : List ℕ → Type 0 = λ x. ReadsUpTo (lexer_delimiters lexer) x block ls (lexemes_of tokens) (last_or None (lexemes_of tokens)) after ended in
-    let reads = subst Reads c.requires.same (c.in_ok-ended.ensures.inner block false ls a.read (mode_is lexer block c.args.begin ls a)) in
+    let reads = subst Reads c.requires.same (c.in_ok-ended.ensures.ends.inner block false ls a.read (mode_is lexer block c.args.begin ls a)) in
     let tag = tag_read lexer block c.args.begin ls a from (lexemes_of tokens) after ended refl (λ hyphen. refl) refl (subst Each c.requires.same c.in_ok-ended.ensures.tokens) reads in
     let Stuck : List ℕ → List Lexed → Type 0 = λ x ks. OnStuck c.in-Err.failure (IsStuck x from ks) in
     let stuck : Stuck s tokens = subst (λ ks. Stuck s ks) c.deref.ensures.value (subst (λ x. Stuck x c.deref.result.now) (c.parser.ensures ∙ c.requires.same) c.in-Err.ensures.stuck) in
@@ -61,7 +61,7 @@ returns-in-Err-end_of-clause-fault c =
     let Goes : List ℕ → Type 0 = λ x. GoesNoFurther (lexer_delimiters lexer) x want.EndBlock [] ended in
     λ ls a.
     let Reads : List ℕ → Type 0 = λ x. ReadsUpTo (lexer_delimiters lexer) x block ls (lexemes_of tokens) (last_or None (lexemes_of tokens)) after ended in
-    let reads = subst Reads c.requires.same (c.in_ok-ended.ensures.inner block false ls a.read (mode_is lexer block c.args.begin ls a)) in
+    let reads = subst Reads c.requires.same (c.in_ok-ended.ensures.ends.inner block false ls a.read (mode_is lexer block c.args.begin ls a)) in
     let tag = tag_read lexer block c.args.begin ls a from (lexemes_of tokens) after ended refl (λ hyphen. refl) refl (subst Each c.requires.same c.in_ok-ended.ensures.tokens) reads in
     subst Fault c.requires.same (c.in-Err-end_of.ensures.fault (lexer_delimiters lexer) (λ none. subst Goes (sym c.requires.same) (end_stops (lexer_delimiters lexer) s block ls from (lexemes_of tokens) after ended want.EndBlock EndBlock tag to none)))
 
@@ -74,7 +74,7 @@ returns-in-Ok-end_of-clause-tag c = λ ls a.
     let after = lexer_state c.read_tokens.new.lexer in
     let Each : List ℕ → Type 0 = λ x. EachTagToken x None (lexemes_of tokens) in
     let Reads : List ℕ → Type 0 = λ x. ReadsUpTo (lexer_delimiters lexer) x block ls (lexemes_of tokens) (last_or None (lexemes_of tokens)) after ended in
-    let reads = subst Reads c.requires.same (c.in_ok-ended.ensures.inner block false ls a.read (mode_is lexer block c.args.begin ls a)) in
+    let reads = subst Reads c.requires.same (c.in_ok-ended.ensures.ends.inner block false ls a.read (mode_is lexer block c.args.begin ls a)) in
     let tag = tag_read lexer block c.args.begin ls a from (lexemes_of tokens) after ended refl (λ hyphen. refl) refl (subst Each c.requires.same c.in_ok-ended.ensures.tokens) reads in
     let same = c.parser.ensures ∙ c.requires.same in
     let To : List ℕ → List Lexed → Type 0 = λ x ks. LeadsToEnd x from (lexemes_of ks) EndBlock an_end_block in
@@ -84,4 +84,4 @@ returns-in-Ok-end_of-clause-tag c = λ ls a.
     let Is : List ℕ → List Lexed → Type 0 = λ x ks. HoldsTag x c.in-Ok.tag (lexemes_of ks) old new in
     let is : Is s tokens = subst (λ ks. Is s ks) c.deref.ensures.value (subst (λ x. Is x c.deref.result.now) same c.in-Ok.ensures.tag) in
     let (l, ends, at) = c.in-Ok-end_of.ensures.end in
-    after_end lexer c.read_tokens.new.lexer block ls from to.to (lexemes_of tokens) ended l c.in-Ok-end_of.end (λ ts. HoldsTag s c.in-Ok.tag ts old new) c.in_ok-ended.ensures.text c.in_ok-ended.ensures.delimiters tag (leads_all s from (lexemes_of tokens) EndBlock an_end_block to) to.ends (end_is ended l ends) at is
+    after_end lexer c.read_tokens.new.lexer block ls from to.to (lexemes_of tokens) ended l c.in-Ok-end_of.end (λ ts. HoldsTag s c.in-Ok.tag ts old new) c.in_ok-ended.ensures.keeps.text c.in_ok-ended.ensures.keeps.delimiters tag (leads_all s from (lexemes_of tokens) EndBlock an_end_block to) to.ends (end_is ended l ends) at is

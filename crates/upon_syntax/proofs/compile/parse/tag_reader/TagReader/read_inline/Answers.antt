@@ -39,7 +39,7 @@ returns-in-Err-clause-fault c = λ ls a.
     let after = lexer_state c.read_tokens.new.lexer in
     let Each : List ℕ → Type 0 = λ x. EachTagToken x None (lexemes_of tokens) in
     let Reads : List ℕ → Type 0 = λ x. ReadsUpTo (lexer_delimiters lexer) x expression ls (lexemes_of tokens) (last_or None (lexemes_of tokens)) after ended in
-    let reads = subst Reads c.requires.same (c.in_ok-ended.ensures.inner expression false ls a.read (mode_is lexer expression c.args.begin ls a)) in
+    let reads = subst Reads c.requires.same (c.in_ok-ended.ensures.ends.inner expression false ls a.read (mode_is lexer expression c.args.begin ls a)) in
     let tag = tag_read lexer expression c.args.begin ls a from (lexemes_of tokens) after ended refl (λ hyphen. refl) refl (subst Each c.requires.same c.in_ok-ended.ensures.tokens) reads in
     let Stuck : List ℕ → List Lexed → Type 0 = λ x ks. OnStuck c.in-Err.failure (IsStuck x from ks) in
     let stuck : Stuck s tokens = subst (λ ks. Stuck s ks) c.deref.ensures.value (subst (λ x. Stuck x c.deref.result.now) (c.parser.ensures ∙ c.requires.same) c.in-Err.ensures.stuck) in
@@ -65,7 +65,7 @@ returns-in_err-end_of-in-Ok-clause-fault c =
     let Goes : List ℕ → Type 0 = λ x. GoesNoFurther (lexer_delimiters lexer) x want.EndExpr [] ended in
     let fault : P e = λ ls a.
     let Reads : List ℕ → Type 0 = λ x. ReadsUpTo (lexer_delimiters lexer) x expression ls (lexemes_of tokens) (last_or None (lexemes_of tokens)) after ended in
-    let reads = subst Reads c.requires.same (c.in_ok-ended.ensures.inner expression false ls a.read (mode_is lexer expression c.args.begin ls a)) in
+    let reads = subst Reads c.requires.same (c.in_ok-ended.ensures.ends.inner expression false ls a.read (mode_is lexer expression c.args.begin ls a)) in
     let tag = tag_read lexer expression c.args.begin ls a from (lexemes_of tokens) after ended refl (λ hyphen. refl) refl (subst Each c.requires.same c.in_ok-ended.ensures.tokens) reads in
     subst Fault c.requires.same (c.in_err-end_of-in-Ok.ensures.fault (lexer_delimiters lexer) (λ none. subst Goes (sym c.requires.same) (end_stops (lexer_delimiters lexer) s expression ls from (lexemes_of tokens) after ended want.EndExpr EndExpr tag to none))) in
     handed_on P e c.from_residual-in_err-end_of-in-Ok.result c.from_residual-in_err-end_of-in-Ok.ensures.1 fault
@@ -79,7 +79,7 @@ returns-in_ok-end_of-in-Ok-clause-tag c = λ ls a.
     let after = lexer_state c.read_tokens.new.lexer in
     let Each : List ℕ → Type 0 = λ x. EachTagToken x None (lexemes_of tokens) in
     let Reads : List ℕ → Type 0 = λ x. ReadsUpTo (lexer_delimiters lexer) x expression ls (lexemes_of tokens) (last_or None (lexemes_of tokens)) after ended in
-    let reads = subst Reads c.requires.same (c.in_ok-ended.ensures.inner expression false ls a.read (mode_is lexer expression c.args.begin ls a)) in
+    let reads = subst Reads c.requires.same (c.in_ok-ended.ensures.ends.inner expression false ls a.read (mode_is lexer expression c.args.begin ls a)) in
     let tag = tag_read lexer expression c.args.begin ls a from (lexemes_of tokens) after ended refl (λ hyphen. refl) refl (subst Each c.requires.same c.in_ok-ended.ensures.tokens) reads in
     let same = c.parser.ensures ∙ c.requires.same in
     let To : List ℕ → List Lexed → Type 0 = λ x ks. LeadsToEnd x from (lexemes_of ks) EndExpr an_end_expression in
@@ -90,4 +90,4 @@ returns-in_ok-end_of-in-Ok-clause-tag c = λ ls a.
     let is : Is s tokens = subst (λ ks. Is s ks) c.deref.ensures.value (subst (λ x. Is x c.deref.result.now) same c.in-Ok.ensures.tag) in
     let (l, ends, at) = c.in_ok-end_of-in-Ok.ensures.end in
     let n = c.in_ok-end_of-in-Ok.field-0 in
-    (n, after_end lexer c.read_tokens.new.lexer expression ls from to.to (lexemes_of tokens) ended l n (λ ts. HoldsInline s ts old new) c.in_ok-ended.ensures.text c.in_ok-ended.ensures.delimiters tag (leads_all s from (lexemes_of tokens) EndExpr an_end_expression to) to.ends (end_is ended l ends) at is)
+    (n, after_end lexer c.read_tokens.new.lexer expression ls from to.to (lexemes_of tokens) ended l n (λ ts. HoldsInline s ts old new) c.in_ok-ended.ensures.keeps.text c.in_ok-ended.ensures.keeps.delimiters tag (leads_all s from (lexemes_of tokens) EndExpr an_end_expression to) to.ends (end_is ended l ends) at is)
