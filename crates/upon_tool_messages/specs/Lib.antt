@@ -1,3 +1,6 @@
 pub mod Status
 pub mod Library
 pub mod Colors
+pub mod Gone
+pub mod CallCheck
+pub mod Terminal

@@ -1,7 +1,8 @@
 // Calls in templates that fail on any values: of functions that there are not, and with another number of arguments
 // than a function expects.
-ghost use Rattle.std.specs.Prelude.{◌≡◌, ◌≤◌, true};
+ghost use Rattle.std.specs.Prelude.{◌≡◌, ◌≤◌, ◌↔◌, IfOk, OnErr, OnOk, false, true};
 ghost use Rattle.upon_types.specs.Span.{LiesIn};
+ghost use Rattle.upon_tool_messages.specs.CallCheck.{checked_callables, is_right_so_far};
 
 use crate::failure::report_hinted;
 use crate::near::callable_hint;
@@ -23,7 +24,10 @@ pub struct CallCheck<'k> {
 
 impl<'k> CallCheck<'k> {
     /// Creates one that has seen no call.
-    pub fn new(callables: Declared<'k>) -> CallCheck<'k> {
+    pub fn new(callables: Declared<'k>) -> CallCheck<'k>
+        ensures callables { checked_callables result ≡ callables.entry }
+        ensures right { is_right_so_far result ≡ true }
+    {
         CallCheck {
             callables,
             is_right: true,
@@ -31,13 +35,16 @@ impl<'k> CallCheck<'k> {
     }
 
     /// Returns whether no call fails of those that it has seen.
-    pub fn is_right(&self) -> bool {
+    pub fn is_right(&self) -> bool
+        ensures { result ≡ is_right_so_far self.now }
+    {
         self.is_right
     }
 
     /// Returns the status of a check in which nothing else is wrong.
     pub fn status(&self) -> u8
-        ensures { result ≤ 1 }
+        ensures range { result ≤ 1 }
+        ensures right { (result ≡ 0) ↔ (is_right_so_far self.now ≡ true) }
     {
         if self.is_right { 0 } else { 1 }
     }
@@ -50,7 +57,14 @@ impl<'k> CallCheck<'k> {
         name: &str,
         source: &str,
         err: &mut E,
-    ) -> Result<(), AllocError> {
+    ) -> Result<(), AllocError>
+        ensures callables { checked_callables self.new ≡ checked_callables self.old }
+        // A call that failed before is not forgotten.
+        ensures kept { is_right_so_far self.old ≡ false → is_right_so_far self.new ≡ false }
+        // If no call failed so far, nothing is said of this text.
+        ensures silent { OnOk result (is_right_so_far self.new ≡ true → err.new ≡ err.old) }
+        ensures unended { OnErr result (self.new ≡ self.old) }
+    {
         let Ok(calls) = calls_in(alloc, source) else {
             return Err(AllocError);
         };
@@ -73,7 +87,9 @@ impl<'k> CallCheck<'k> {
         call: FoundCall,
         is_pictured: bool,
         err: &mut E,
-    ) -> Result<bool, AllocError> {
+    ) -> Result<bool, AllocError>
+        ensures { IfOk result (λ is_wrong. is_wrong ≡ false → err.new ≡ err.old) }
+    {
         let called = source.get(call.name.m..call.name.n).unwrap_or_default();
         let Some(fault) = fault_of(alloc, &self.callables, called, call.arguments)? else {
             return Ok(false);

@@ -1,5 +1,6 @@
 // Why a run of the program fails, its status, and what is said of it.
-ghost use Rattle.std.specs.Prelude.{◌≡◌};
+ghost use Rattle.std.specs.Prelude.{◌≡◌, ◌↔◌, true};
+ghost use Rattle.upon_tool_messages.specs.Gone.{IsReaderGone};
 ghost use Rattle.upon_tool_messages.specs.Status.{data_status, is_memory_error, tool_status, IsMemory};
 
 use crate::hints::hint_of;
@@ -132,17 +133,16 @@ fn data_status(fault: &ContextFault<'_>) -> u8
 }
 
 /// Says what an error is, with its picture, ended by a newline; nothing, if the reader of the output has gone.
-pub fn report_fault<E: Write>(alloc: Global, error: &Error, err: &mut E) {
+pub fn report_fault<E: Write>(alloc: Global, error: &Error, err: &mut E)
+    ensures { IsReaderGone error.now → err.new ≡ err.old }
+{
     report_hinted(alloc, error, None, err);
 }
 
 /// Says the same, with a hint if one is given.
-pub(crate) fn report_hinted<E: Write>(
-    alloc: Global,
-    error: &Error,
-    hint: Option<&str>,
-    err: &mut E,
-) {
+pub(crate) fn report_hinted<E: Write>(alloc: Global, error: &Error, hint: Option<&str>, err: &mut E)
+    ensures { IsReaderGone error.now → err.new ≡ err.old }
+{
     if is_broken_pipe(error) {
         return;
     }
@@ -179,7 +179,10 @@ pub fn is_memory(error: &Error) -> bool
     }
 }
 
-fn is_broken_pipe(error: &Error) -> bool {
+// Whether an error is of a write whose reader has gone.
+fn is_broken_pipe(error: &Error) -> bool
+    ensures { (result ≡ true) ↔ IsReaderGone error.now }
+{
     match error.kind() {
         ErrorKind::Io(error) => error.kind() == io::ErrorKind::BrokenPipe,
         _ => false,

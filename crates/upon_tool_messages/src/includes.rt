@@ -1,4 +1,5 @@
 // Where a text includes templates, and which.
+ghost use Rattle.std.specs.Prelude.{◌≡◌, [], IfOk};
 ghost use Rattle.upon_types.specs.Span.{LiesIn};
 
 use crate::library::Library;
@@ -25,7 +26,7 @@ pub fn including(alloc: Global, quoted: &str) -> Result<Template<'static>> {
 
 /// Shows the first include of each of these names in a text, as the error with which a rendering would end there, and
 /// says how many more there are. The first hundred are shown with their pictures, and with the files of a library that
-/// have a name near to it; the others in a line each.
+/// have a name near to it; the others in a line each. Of no names nothing is said.
 pub fn show_includes<E: io::Write>(
     alloc: Global,
     library: &Library,
@@ -33,7 +34,9 @@ pub fn show_includes<E: io::Write>(
     source: &str,
     missing: &[&str],
     err: &mut E,
-) -> Result<()> {
+) -> Result<()>
+    ensures { missing.now ≡ [] → err.new ≡ err.old }
+{
     let mut counts = counts(alloc, source, missing)?;
     let searcher = Searcher::new();
     let mut lexer = Lexer::new(alloc, &searcher, source);
@@ -57,7 +60,9 @@ pub fn show_includes<E: io::Write>(
 }
 
 // How many includes of each of these names a text has.
-fn counts(alloc: Global, source: &str, names: &[&str]) -> Result<BTreeMap<String, usize>> {
+fn counts(alloc: Global, source: &str, names: &[&str]) -> Result<BTreeMap<String, usize>>
+    ensures { names.now ≡ [] → IfOk result (λ counts. counts.entries ≡ []) }
+{
     let mut counts = zeros(alloc, names)?;
     let searcher = Searcher::new();
     let mut lexer = Lexer::new(alloc, &searcher, source);
@@ -78,7 +83,9 @@ fn counts(alloc: Global, source: &str, names: &[&str]) -> Result<BTreeMap<String
 }
 
 // No include of each of these names.
-fn zeros(alloc: Global, names: &[&str]) -> Result<BTreeMap<String, usize>> {
+fn zeros(alloc: Global, names: &[&str]) -> Result<BTreeMap<String, usize>>
+    ensures { names.now ≡ [] → IfOk result (λ counts. counts.entries ≡ []) }
+{
     let mut counts = BTreeMap::new(alloc);
     for name in names {
         drop(counts.insert(String::from_str(alloc, name)?, 0)?);

@@ -1,4 +1,8 @@
 // Hints below the pictures of errors that say that a name is not there: which names there are that are near to it.
+ghost use Rattle.std.specs.Prelude.{◌≡◌, [], None, IsOk, Ok, false};
+ghost use Rattle.upon_types.specs.Error.{fault_of};
+ghost use Rattle.upon_tool_messages.specs.Gone.{IsReaderGone};
+
 use crate::failure::{is_memory, report_hinted};
 use crate::hints::{Marked, mark_in};
 use crate::includes::included;
@@ -18,7 +22,10 @@ pub fn report_near<E: Write>(
     known: &Known<'_>,
     error: &Error,
     err: &mut E,
-) {
+)
+    // The error of a write gives no reason; if that is that the reader of the output has gone, nothing is said.
+    ensures { IsReaderGone error.now → (fault_of error.now).reason ≡ None → err.new ≡ err.old }
+{
     say(alloc, error, near_hint(alloc, engine, known, error), err);
 }
 
@@ -39,7 +46,9 @@ fn say<E: Write>(
     error: &Error,
     hint: Result<Option<String>, AllocError>,
     err: &mut E,
-) {
+)
+    ensures { IsReaderGone error.now → IsOk hint → err.new ≡ err.old }
+{
     match hint {
         Ok(Some(hint)) => report_hinted(alloc, error, Some(hint.as_str()), err),
         Ok(None) => report_hinted(alloc, error, None, err),
@@ -61,7 +70,9 @@ const NO_CALLABLE: &str = "unknown formatter or function";
 const NO_TEMPLATE: &str = "unknown template";
 
 // Whether an error of this reason says that a name is not there.
-fn is_of_name(reason: &str) -> bool {
+fn is_of_name(reason: &str) -> bool
+    ensures { reason.now ≡ [] → result ≡ false }
+{
     matches!(
         reason,
         NO_VARIABLE | NO_MEMBER | NO_FUNCTION | NO_CALLABLE | NO_TEMPLATE
@@ -74,7 +85,9 @@ fn near_hint(
     engine: &Engine<'_>,
     known: &Known<'_>,
     error: &Error,
-) -> Result<Option<String>, AllocError> {
+) -> Result<Option<String>, AllocError>
+    ensures { (fault_of error.now).reason ≡ None → result ≡ Ok None }
+{
     let reason = error.reason().unwrap_or_default();
     if !is_of_name(reason) {
         return Ok(None);

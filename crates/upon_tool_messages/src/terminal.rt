@@ -18,8 +18,16 @@ pub struct Terminal<'e, E> {
 }
 
 impl<'e, E: Write> Terminal<'e, E> {
+    ghost use Rattle.std.specs.Prelude.{◌≡◌, []};
+    ghost use Rattle.upon_tool_messages.specs.Terminal.{held_line, paints_lines, terminal_writer};
+
     /// Creates one that hands on to a writer.
-    pub fn new(alloc: Global, err: &'e mut E, has_colors: bool) -> Terminal<'e, E> {
+    pub fn new(alloc: Global, err: &'e mut E, has_colors: bool) -> Terminal<'e, E>
+        // It has handed nothing on, and holds nothing.
+        ensures writer { terminal_writer result ≡ err.entry }
+        ensures held { held_line result ≡ [] }
+        ensures paints { paints_lines result ≡ has_colors }
+    {
         Terminal {
             err,
             has_colors,
