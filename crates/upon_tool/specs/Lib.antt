@@ -9,3 +9,4 @@ pub mod Work
 pub mod Checked
 pub mod Fitting
 pub mod Calls
+pub mod Progress
