@@ -1,1 +1,2 @@
 mod WrongArguments
+mod Written

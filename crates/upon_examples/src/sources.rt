@@ -1,4 +1,6 @@
 // Contexts and templates from functions.
+ghost use Rattle.std.specs.Prelude.{◌≡◌, ◌++◌, ℕ, List, string_bytes};
+
 use std::alloc::{AllocError, Global};
 use std::borrow::CowStr;
 use std::collections::BTreeMap;
@@ -90,12 +92,16 @@ impl<'r> CallName<'r> for Counted<'r> {
 }
 
 /// Writes a template with another in place of each that it includes, and answers how many those are.
+#[tactic(auto, using(crate::proofs::Written::left_follows))]
 pub fn with_counted(
     engine: &Engine<'_>,
     template: &Template<'_>,
     included: &Template<'_>,
     out: &mut String,
-) -> upon::Result<u32> {
+) -> upon::Result<u32>
+    // What is written follows what was there, after an error too.
+    ensures { (written : List ℕ) × (string_bytes out.new ≡ string_bytes out.old ++ written) }
+{
     let context = Value::None;
     let mut templates = TemplateFn::new(Counted {
         template: included.lent(),
