@@ -4,6 +4,7 @@ use Rattle.std.specs.Str.{IsUtf8}
 use Rattle.std.proofs.Math.Logic.{∥∥₁_elim, ∥∥₁_map}
 use Rattle.upon_types.specs.Tree.{Statements}
 use Rattle.upon_types.specs.TreeSpans.{TreeLiesIn}
+use Rattle.upon_types.proofs.OnlyOne.{only_one}
 use Rattle.upon_types.proofs.Sets.{Statements-one_path}
 use Rattle.upon_language_spec.specs.Grammar.{HasTree}
 use Rattle.upon_language_spec.specs.LiesIn.{HasUtf8}
@@ -14,7 +15,7 @@ use Rattle.upon_language_spec.proofs.OneTree.Tree.{one_whole_tree}
 use Rattle.upon_machine_spec.specs.Code.{program_of}
 use Rattle.upon_instructions.specs.Program.{program_view}
 use Rattle.upon_instructions.specs.declared.types.program.Instr.{Instr}
-use Rattle.upon_compiled_spec.specs.Compiled.{HasProgram, the_tree}
+use Rattle.upon_compiled_spec.specs.Compiled.{HasProgram, IsCompiled, the_tree}
 use Rattle.upon_machine_spec.proofs.Sets.{Instrs-one_path}
 use Rattle.upon_compiled_spec.proofs.TreeSpans.{TreeLiesIn-prop, tree_spans}
 
@@ -50,15 +51,13 @@ module _ (d e : List DelimiterText) (same : d ≡ e) where
       → HasTexts e → ∥ HasUtf8 e ∥₁ → IsUtf8 s → HasProgram e u instrs
   is_compiled s u instrs tree su has code texts utf8 text =
       let k : HasTree e u tree = subst (λ x. HasTree e x tree) su (subst (λ x. HasTree x s tree) same has) in
-      ∣ (
-        tree,
-        record {
-          has_tree = k;
-          only_tree = λ other h. one_whole_tree e u other tree texts h k;
-          program = code;
-          spans = tree_spans u tree (tree_lies_in e u tree texts (had_utf8 e utf8) (subst IsUtf8 su text) k);
-        },
-      ) ∣₁
+      let compiled : IsCompiled e u instrs tree = record {
+        has_tree = k;
+        only_tree = λ other h. one_whole_tree e u other tree texts h k;
+        program = code;
+        spans = tree_spans u tree (tree_lies_in e u tree texts (had_utf8 e utf8) (subst IsUtf8 su text) k);
+      } in
+      ∣ (only_one Statements-one_path (IsCompiled e u instrs) (λ a b one other. other.only_tree a one.has_tree), (tree, ∣ compiled ∣₁)) ∣₁
 
   -- the tree that is kept is the text's
   pub kept_has : (s u : List ℕ) (instrs : List Instr) (h : HasProgram e u instrs) (tree : Statements) → s ≡ u → HasTree d s tree → HasTree d u (kept e u instrs h)

@@ -1,10 +1,9 @@
 -- What a compiled template keeps: its text has one tree, and the instructions are that tree's program.
 use Rattle.std.specs.Prelude.{◌≡◌, ℕ, List}
 use Rattle.std.proofs.Math.Logic.{∥∥₁_elim}
+use mathlib.Core.HProp.{IsProp-prop}
 use Rattle.upon_types.specs.Tree.{Statements}
 use Rattle.upon_types.specs.TreeSpans.{TreeLiesIn}
-use Rattle.upon_types.proofs.OnlyOne.{only_one}
-use Rattle.upon_types.proofs.Sets.{Statements-one_path}
 use Rattle.upon_language_spec.specs.Grammar.{HasTree}
 use Rattle.upon_language_spec.specs.Search.{DelimiterText}
 use Rattle.upon_machine_spec.specs.Code.{program_of}
@@ -19,18 +18,16 @@ pub record IsCompiled (delimiters : List DelimiterText) (s : List ℕ) (instrs :
   pub program : program_view instrs ≡ program_of tree
   pub spans : TreeLiesIn s tree
 
--- some tree is; that it is, has one proof at most
-abbrev pub HasProgram : List DelimiterText → List ℕ → List Instr → Type 0
-HasProgram delimiters s instrs = ∥ ((tree : Statements) × IsCompiled delimiters s instrs tree) ∥₁
-
--- the tree that is
+-- a tree that is
 abbrev pub CompiledTree : List DelimiterText → List ℕ → List Instr → Type 0
 CompiledTree delimiters s instrs = (tree : Statements) × ∥ IsCompiled delimiters s instrs tree ∥₁
 
--- the tree, out of the fact that there is one: there is one at most
+-- there is one such tree, and at most one
+abbrev pub HasProgram : List DelimiterText → List ℕ → List Instr → Type 0
+HasProgram delimiters s instrs =
+    ∥ (IsProp (CompiledTree delimiters s instrs) × CompiledTree delimiters s instrs) ∥₁
+
+-- the tree, out of the fact that there is one, and at most one
 abbrev pub the_tree : (delimiters : List DelimiterText) (s : List ℕ) (instrs : List Instr)
     → HasProgram delimiters s instrs → CompiledTree delimiters s instrs
-the_tree delimiters s instrs h =
-    ∥∥₁_elim h
-    (only_one Statements-one_path (IsCompiled delimiters s instrs) (λ a b k l. l.only_tree a k.has_tree))
-    (λ k. (k.0, ∣ k.1 ∣₁))
+the_tree delimiters s instrs h = ∥∥₁_elim h (∥∥₁_elim h IsProp-prop (λ k. k.0)) (λ k. k.1)
