@@ -1,10 +1,10 @@
 -- What a function answers that hands on templates, by what these denote.
 use Rattle.std.proofs.Common.{Result, Ok, Err, ap}
-use Rattle.upon_render.specs.Asked.{HasReply}
-use Rattle.upon_render.specs.Finding.{Reply, reply}
-use Rattle.upon_render.specs.Source.{SourceAnswer}
-use Rattle.upon_render.specs.declared.source.SourceError.{SourceError}
-use Rattle.upon_render.specs.declared.source.SourceError.TheVariants.{Refused, Memory}
+use Rattle.upon_lookup.specs.Asked.{HasReply}
+use Rattle.upon_lookup.specs.Finding.{Reply, reply}
+use Rattle.upon_lookup.specs.Source.{SourceAnswer}
+use Rattle.upon_lookup.specs.declared.source.SourceError.{SourceError}
+use Rattle.upon_lookup.specs.declared.source.SourceError.TheVariants.{Refused, Memory}
 use Rattle.upon_engine.specs.HandsOn.{shown_answer}
 use Rattle.upon_engine.specs.Template.{template_of}
 use Rattle.upon_engine.specs.declared.template.Template.{Template}

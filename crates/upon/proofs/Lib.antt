@@ -4,3 +4,4 @@ pub mod Ended
 pub mod Boxed
 pub mod Renderings
 pub mod TemplateSpans
+pub mod RenderingLaws

@@ -1,17 +1,17 @@
 // Sources of templates, ready to use: one template, a map of templates, and a function.
 ghost use Rattle.std.specs.Prelude.{◌≡◌, ℕ, List, option_map};
-ghost use Rattle.upon_engine.specs.EngineNeeds.{table_in};
+ghost use Rattle.upon_engine.specs.Engine.{table_in};
 ghost use Rattle.upon_engine.specs.Template.{template_of};
 ghost use Rattle.upon_engine.specs.declared.template.Template.{Template as Held};
-ghost use Rattle.upon_render.specs.Asked.{HasReply};
-ghost use Rattle.upon_render.specs.Finding.{Reply};
-ghost use Rattle.upon_render.specs.Source.{SourceAnswer};
+ghost use Rattle.upon_lookup.specs.Asked.{HasReply};
+ghost use Rattle.upon_lookup.specs.Finding.{Reply};
+ghost use Rattle.upon_lookup.specs.Source.{SourceAnswer};
 
 use std::alloc::Global;
 use std::collections::BTreeMap;
 use upon_engine::sources::TemplateSource;
 use upon_engine::template::Template;
-use upon_render::source::SourceError;
+use upon_lookup::source::SourceError;
 
 /// The source that has one template, under each name.
 #[derive(Clone, Copy)]

@@ -3,7 +3,7 @@ use Rattle.std.proofs.Common.{◌≡◌, ℕ, zero, suc, ◌≤◌, List, [], �
 use Rattle.std.proofs.lemmas.Slice.Eq.{bytes_eq-Decides}
 use Rattle.upon_types.specs.Path.{Ident}
 use Rattle.upon_types.specs.Val.{Val}
-use Rattle.upon_render.specs.Environment.{Environment, context, root_environment}
+use Rattle.upon_lookup.specs.Environment.{Environment, context, root_environment}
 use Rattle.upon_meaning_spec.specs.Alone.{running, on_template, included, alone_within}
 use Rattle.upon_meaning_spec.specs.Engine.{Template, Table, Calls, table_answer, from_table}
 use Rattle.upon_meaning_spec.specs.Meaning.{RunningTemplate}

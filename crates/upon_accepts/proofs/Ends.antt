@@ -10,7 +10,7 @@ use Rattle.upon_types.specs.Tree.{Statements}
 use Rattle.upon_types.specs.Val.{Val}
 use Rattle.upon_types.specs.declared.error.Error.{Error}
 use Rattle.upon_language_spec.specs.Grammar.{HasTree}
-use Rattle.upon_render.specs.Asked.{refuses_all}
+use Rattle.upon_lookup.specs.Asked.{refuses_all}
 use Rattle.upon_meaning_spec.specs.Alone.{includes_left, fault_of_end}
 use Rattle.upon_meaning_spec.specs.DefaultFormat.{formatter_or_default}
 use Rattle.upon_meaning_spec.specs.Engine.{Table, Template, calls_of}

@@ -1,8 +1,8 @@
 -- A table whose templates are those of before, under each name that is reached, answers as the table of before.
 use Rattle.std.proofs.Common.{◌≡◌, ℕ, List, [], Option, Some, None, refl, ap, ◌∙◌, option_map}
-use Rattle.upon_render.specs.Environment.{Root}
-use Rattle.upon_render.specs.Finding.{reply}
-use Rattle.upon_render.specs.Source.{says}
+use Rattle.upon_lookup.specs.Environment.{Root}
+use Rattle.upon_lookup.specs.Finding.{reply}
+use Rattle.upon_lookup.specs.Source.{says}
 use Rattle.upon_meaning_spec.specs.Alone.{includes_left, alone}
 use Rattle.upon_meaning_spec.specs.Engine.{Table, Calls, table_answer, from_table}
 use Rattle.upon_meaning_spec.specs.Includes.{Reaches}

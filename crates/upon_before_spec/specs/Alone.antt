@@ -1,10 +1,10 @@
 -- What a template meant by itself before `for .. else`, with the templates that it included.
 use Rattle.std.specs.Prelude.{ℕ, zero, suc, List, Option, Some, None, codes}
 use Rattle.upon_types.specs.Path.{Ident}
-use Rattle.upon_render.specs.Environment.{Root, root_environment}
-use Rattle.upon_render.specs.Finding.{Reply, reply}
-use Rattle.upon_render.specs.LookupFaults.{wrong}
-use Rattle.upon_render.specs.Source.{SourceAnswer, says, refuses}
+use Rattle.upon_lookup.specs.Environment.{Root, root_environment}
+use Rattle.upon_lookup.specs.Finding.{Reply, reply}
+use Rattle.upon_lookup.specs.LookupFaults.{wrong}
+use Rattle.upon_lookup.specs.Source.{SourceAnswer, says, refuses}
 use Rattle.upon_meaning_spec.specs.Alone.{includes_left}
 use Rattle.upon_meaning_spec.specs.Engine.{Calls}
 use Rattle.upon_meaning_spec.specs.Meaning.{RunningTemplate, fault_in, Inclusion}

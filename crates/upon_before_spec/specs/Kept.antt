@@ -1,6 +1,6 @@
 -- When all that a template reaches was a template before `for .. else`.
 use Rattle.std.specs.Prelude.{◌≡◌, ℕ, List, option_map}
-use Rattle.upon_render.specs.Source.{Source, says}
+use Rattle.upon_lookup.specs.Source.{Source, says}
 use Rattle.upon_meaning_spec.specs.Engine.{Engine, Resolver, Table, calls_of}
 use Rattle.upon_meaning_spec.specs.Includes.{Includes, Reaches}
 use Rattle.upon_before_spec.specs.Tree.{Statements}

@@ -1,6 +1,6 @@
 -- The trees of before as trees of today: each `for` has no other branch. So too templates, answers and tables.
-use Rattle.upon_render.specs.Finding.{Reply, reply}
-use Rattle.upon_render.specs.Source.{SourceAnswer, says, refuses}
+use Rattle.upon_lookup.specs.Finding.{Reply, reply}
+use Rattle.upon_lookup.specs.Source.{SourceAnswer, says, refuses}
 use Rattle.upon_types.specs.Tree.{Statement, raw, inline_expr, include, if_else, for_loop, with, Statements, no_statements, statement_then, Else, no_else, otherwise}
 use Rattle.upon_meaning_spec.specs.Engine.{Template}
 use Rattle.upon_before_spec.specs.Tree.{Statement as StatementBefore, raw as raw_before, inline_expr as inline_before, include as include_before, if_else as if_before, for_loop as for_before, with as with_before, Statements as StatementsBefore, no_statements as none_before, statement_then as then_before, Else as ElseBefore, no_else as no_else_before, otherwise as otherwise_before}

@@ -2,7 +2,7 @@
 // `else` in a `for`; and each template that reaches none but templates of before means what it meant.
 ghost use Rattle.std.specs.Prelude.{◌≡◌, ◌⊎◌, ℕ, List, Option, Bool, true};
 ghost use Rattle.upon_types.specs.declared.types.Span.{Span};
-ghost use Rattle.upon_render.specs.Environment.{Root};
+ghost use Rattle.upon_lookup.specs.Environment.{Root};
 ghost use Rattle.upon_language_spec.specs.Search.{DelimiterText};
 ghost use Rattle.upon_language_spec.specs.FirstFault.{IsFirstFault};
 ghost use Rattle.upon_language_spec.specs.Grammar.{HasTree};

@@ -10,7 +10,7 @@ use Rattle.upon_types.specs.declared.error.Error.{Error}
 use Rattle.upon_language_spec.specs.Grammar.{HasTree}
 use Rattle.upon_language_spec.specs.Search.{DelimiterText}
 use Rattle.upon_meaning_spec.specs.Includes.{Includes}
-use Rattle.upon_engine.specs.Names.{texts}
+use Rattle.upon_needs.specs.Names.{texts}
 use Rattle.upon_calls.specs.Check.{is_missing, AreRight, IsRight}
 use Rattle.upon_calls.specs.Failure.{is_memory_kind}
 use Rattle.upon_calls.specs.Templates.{lent_pairs}

@@ -7,7 +7,7 @@ use Rattle.upon_types.specs.Val.{Val}
 use Rattle.upon_meaning_spec.specs.DefaultFormat.{formatter_or_default}
 use Rattle.upon_shape_spec.specs.Declared.{Declared, KeepsDeclared}
 use Rattle.upon_shape_spec.specs.Shape.{Shape}
-use Rattle.upon_engine.specs.Names.{texts}
+use Rattle.upon_needs.specs.Names.{texts}
 use Rattle.upon_engine.specs.Texts.{Texts}
 use Rattle.upon_accepts.specs.EndsOn.{EndsOn}
 use Rattle.upon_calls.specs.Asked.{Asked}

@@ -5,7 +5,7 @@ use Rattle.std.proofs.lemmas.List.{drop_all, drop_more, map-append}
 use Rattle.upon_types.specs.Val.{Val}
 use Rattle.upon_types.specs.View.{view, vals_view}
 use Rattle.upon_types.specs.declared.value.Value.{Value}
-use Rattle.upon_engine.specs.Names.{texts}
+use Rattle.upon_needs.specs.Names.{texts}
 use Rattle.upon_calls.specs.Contexts.{read_each}
 
 -- what was read, before what is left

@@ -6,11 +6,11 @@ use Rattle.upon_meaning_spec.specs.Engine.{Table, Template}
 use Rattle.upon_meaning_spec.specs.Includes.{Reaches}
 use Rattle.upon_meaning_spec.specs.Missing.{Missing}
 use Rattle.upon_meaning_spec.specs.Needs.{NeedsAll, NeedsName}
-use Rattle.upon_engine.specs.EngineNeeds.{needed_names, reached_templates, missing_names, needs_whole}
-use Rattle.upon_engine.specs.Names.{Rise}
+use Rattle.upon_needs.specs.EngineNeeds.{needed_names, reached_templates, missing_names, needs_whole}
+use Rattle.upon_needs.specs.Names.{Rise}
 use Rattle.upon_engine.specs.Texts.{Stored, Texts}
 use Rattle.upon_engine.specs.Theorem.{IsTable, IsTemplateOf}
-use Rattle.upon_engine.specs.declared.needs.Needs.{Needs}
+use Rattle.upon_needs.specs.declared.needs.Needs.{Needs}
 use Rattle.upon_calls.specs.Names.{needs_data, ListsNamed, NeededBy}
 use Rattle.upon_calls.specs.declared.failure.Failure.{Failure}
 

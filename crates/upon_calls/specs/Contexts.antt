@@ -13,7 +13,7 @@ use Rattle.upon_shape_spec.specs.Fits.{Fits, MapsRise}
 use Rattle.upon_shape_spec.specs.Shape.{Shape}
 use Rattle.upon_shape.specs.View.{shape_view}
 use Rattle.upon_schema.specs.Valid.{Valid}
-use Rattle.upon_engine.specs.Names.{texts}
+use Rattle.upon_needs.specs.Names.{texts}
 use Rattle.upon_engine.specs.Texts.{Stored, Texts}
 use Rattle.upon_engine.specs.Theorem.{IsTable, meaning}
 use Rattle.upon_calls.specs.Arguments.{IsArgumentValue, its_text}

@@ -8,11 +8,11 @@ use Rattle.upon_meaning_spec.specs.Engine.{Table, Template}
 use Rattle.upon_meaning_spec.specs.Includes.{Reaches}
 use Rattle.upon_meaning_spec.specs.Missing.{Missing}
 use Rattle.upon_meaning_spec.specs.Needs.{NeedsAll, NeedsName}
-use Rattle.upon_engine.specs.EngineNeeds.{needed_names, reached_templates, missing_names, needs_whole}
-use Rattle.upon_engine.specs.Names.{Rise}
+use Rattle.upon_needs.specs.EngineNeeds.{needed_names, reached_templates, missing_names, needs_whole}
+use Rattle.upon_needs.specs.Names.{Rise}
 use Rattle.upon_engine.specs.Texts.{Texts}
 use Rattle.upon_engine.specs.Theorem.{IsTable}
-use Rattle.upon_engine.specs.declared.needs.Needs.{Needs}
+use Rattle.upon_needs.specs.declared.needs.Needs.{Needs}
 
 -- The names are those that the tree needs of its context, in ascending order; the templates those that it reaches and
 -- that the table has; the missing ones those that it reaches and that the table has not; the whole context counts if an

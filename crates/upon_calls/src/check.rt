@@ -4,7 +4,7 @@ ghost use Rattle.upon_types.specs.View.{view};
 ghost use Rattle.upon_meaning_spec.specs.Includes.{Includes};
 ghost use Rattle.upon_delimiters.specs.Syntax.{syntax_delimiters};
 ghost use Rattle.upon_engine.specs.Engine.{engine_syntax};
-ghost use Rattle.upon_engine.specs.Names.{texts};
+ghost use Rattle.upon_needs.specs.Names.{texts};
 ghost use Rattle.upon_engine.specs.Template.{template_tree};
 ghost use Rattle.upon_calls.specs.Asked.{asked_by};
 ghost use Rattle.upon_calls.specs.Calls.{AreRightOn, AreWrongOn, CheckFails, ChecksRight};
@@ -23,7 +23,7 @@ use crate::templates::sources_of;
 use std::alloc::{AllocError, Global};
 use std::borrow::CowStr;
 use upon::value::look;
-use upon::{Engine, Syntax, Template, Value};
+use upon::{Engine, Syntax, Template, Value, includes};
 use upon_delimiters::search::Searcher;
 
 /// Checks templates, and returns the empty text if each of them is one and names none in an include that is not there,
@@ -175,7 +175,7 @@ fn missing<'t>(
         ↔ (Includes name (template_tree template.now) × (is_missing (view templates.now) name ≡ true))) }
 {
     let mut missing = Vec::new(alloc);
-    let names = template.includes()?;
+    let names = includes(template)?;
     for name in names.as_slice() {
         if is_missing(templates, name) {
             missing.push(*name)?;

@@ -3,7 +3,7 @@ ghost use Rattle.std.specs.Prelude.{◌≡◌, None, Some, IfErr, IfOk, map, cod
 ghost use Rattle.upon_types.specs.Val.{entry_then, key_of, list_val, map_val, no_entries};
 ghost use Rattle.upon_types.specs.View.{view, vals_view};
 ghost use Rattle.upon_shape.specs.View.{shape_view};
-ghost use Rattle.upon_engine.specs.Names.{texts};
+ghost use Rattle.upon_needs.specs.Names.{texts};
 ghost use Rattle.upon_calls.specs.Arguments.{its_text};
 ghost use Rattle.upon_calls.specs.Asked.{asked_by, Asks, AsksNothing};
 ghost use Rattle.upon_calls.specs.Contexts.{contexts_by, read_each, pages_in, sample_in, samples_in, AsksCheck, AsksNoCheck, IsShapeBy, NoShapeBy, SamplesFit};

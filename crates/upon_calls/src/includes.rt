@@ -8,7 +8,7 @@ use std::collections::BTreeSet;
 use upon::error::ErrorKind;
 use upon::types::Span;
 use upon::types::token::Token;
-use upon::{Engine, Error, Result};
+use upon::{Engine, Error, Result, includes};
 use upon_delimiters::search::Searcher;
 use upon_lexer::compile::lex::Lexer;
 
@@ -59,7 +59,7 @@ fn included(alloc: Global, quoted: &str) -> Result<String> {
     source.push_str(quoted)?;
     source.push_str(" %}")?;
     let template = Engine::new(alloc).compile(CowStr::Owned(source))?;
-    let names = template.includes()?;
+    let names = includes(&template)?;
     let name = names.first().copied().unwrap_or_default();
     Ok(String::from_str(alloc, name)?)
 }

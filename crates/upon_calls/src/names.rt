@@ -3,7 +3,7 @@ ghost use Rattle.std.specs.Prelude.{◌≡◌, None, Some, map, IfErr, IfOk, IsO
 ghost use Rattle.serde_json.specs.Data.{string};
 ghost use Rattle.serde_json.specs.View.{items_of, items_view, view};
 ghost use Rattle.serde_json.specs.Written.{compact_text};
-ghost use Rattle.upon_engine.specs.Names.{texts};
+ghost use Rattle.upon_needs.specs.Names.{texts};
 ghost use Rattle.upon_calls.specs.Calls.{ListFails, ListsNeeds};
 ghost use Rattle.upon_calls.specs.Names.{needs_data, ListsNamed};
 ghost use Rattle.upon_calls.specs.Work.{WorkFails};
@@ -16,8 +16,7 @@ use crate::templates::sources_of;
 use crate::work::{Work, carry_out, no_template};
 use serde_json::{Value as Json, json};
 use std::alloc::{AllocError, Global};
-use upon::{AnyEngine, Engine, EngineTexts, Needs, theorem};
-use upon_engine::laws_of_templates;
+use upon::{AnyEngine, Engine, EngineTexts, Needs, laws_of_templates, needs_of, theorem};
 
 /// Returns what the template of a name needs, as an object of JSON in a line: `names` of the context, `templates` that
 /// are there and `missing` ones, and whether the `whole` context counts.
@@ -48,7 +47,7 @@ pub(crate) fn list(alloc: Global, engine: &Engine<'_>, name: &str) -> Result<Str
 {
     theorem::one_table(engine);
     laws_of_templates::templates_are_the_table(engine);
-    match engine.needs(name) {
+    match needs_of(engine, name) {
         Some(needs) => listed(alloc, needs),
         None => Err(no_template(alloc, name)),
     }

@@ -2,7 +2,7 @@
 ghost use Rattle.std.specs.Prelude.{◌≡◌, ⊤, None, Some, ℕ, List, [], All, Contains, IfErr, IfOk, IfSome, IsNone, IsSome, map, option_map, string_bytes, true, false};
 ghost use Rattle.upon_types.specs.View.{view};
 ghost use Rattle.upon_shape.specs.View.{shape_view};
-ghost use Rattle.upon_engine.specs.Names.{texts};
+ghost use Rattle.upon_needs.specs.Names.{texts};
 ghost use Rattle.upon_calls.specs.Asked.{asked_by};
 ghost use Rattle.upon_calls.specs.Check.{is_missing};
 ghost use Rattle.upon_calls.specs.Contexts.{checked_pages, AreThere, EndsOnEach, IsOneMissing};

@@ -1,7 +1,7 @@
 // What a path finds in a scope.
 ghost use Rattle.std.specs.Prelude.{◌≡◌, IfOk, None, map, option_copied, option_map};
 ghost use Rattle.upon_types.specs.AstPath.{first_member, member_of, rest_members};
-ghost use Rattle.upon_render.specs.Lookup.{state_map};
+ghost use Rattle.upon_lookup.specs.Lookup.{state_map};
 ghost use Rattle.upon_shape_spec.specs.Doubts as doubts;
 ghost use Rattle.upon_shape_spec.specs.Join.{shape_of};
 ghost use Rattle.upon_shape_spec.specs.Paths.{walk_shape};

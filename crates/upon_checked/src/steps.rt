@@ -1,7 +1,7 @@
 // Steps of a walk, one for each kind of instruction.
 ghost use Rattle.std.specs.Prelude.{◌≡◌, None, Some, ℕ, IfOk, OnOk, if◌then◌else◌, option_map};
 ghost use Rattle.upon_types.specs.AstPath.{first_member, ident_of, loop_vars_of, rest_members, string_of};
-ghost use Rattle.upon_types.specs.View.{view as value_view};
+ghost use Rattle.upon_types.specs.View.{view};
 ghost use Rattle.upon_shape_spec.specs.Accepted.{is_planned};
 ghost use Rattle.upon_shape_spec.specs.Doubts as doubts;
 ghost use Rattle.upon_shape_spec.specs.ExpressionShapes.{literal_shape as spec_literal_shape};
@@ -258,7 +258,7 @@ pub(crate) fn starts_literal<'t>(
     literal: &Literal,
 ) -> Result<Option<Doubt<'t>>, AllocError>
     ensures { IfOk result (λ d. (number : ℕ) → AlwaysSteps
-        number (known_view known.old) (instr.expr_start_literal (value_view literal.now.value) literal.now.span)
+        number (known_view known.old) (instr.expr_start_literal (view literal.now.value) literal.now.span)
         (maybe_doubt d) (known_view known.new)) }
 {
     leave(known, literal_shape(&literal.value), literal.span)?;
@@ -267,7 +267,7 @@ pub(crate) fn starts_literal<'t>(
 
 // Returns the shape of a value that occurs in a template.
 fn literal_shape(value: &Value) -> Shape
-    ensures { shape_view result ≡ spec_literal_shape (value_view value.now) }
+    ensures { shape_view result ≡ spec_literal_shape (view value.now) }
 {
     match value {
         Value::None => Shape::none(),

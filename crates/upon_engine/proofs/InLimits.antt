@@ -9,8 +9,8 @@ use Rattle.upon_types.specs.Val.{Val}
 use Rattle.upon_types.specs.View.{view}
 use Rattle.upon_types.specs.declared.error.Error.{Error}
 use Rattle.upon_types.specs.declared.value.Value.{Value as CodeValue}
-use Rattle.upon_render.specs.Asked.{refuses_all}
-use Rattle.upon_render.specs.Environment.{context}
+use Rattle.upon_lookup.specs.Asked.{refuses_all}
+use Rattle.upon_lookup.specs.Environment.{context}
 use Rattle.upon_render.specs.Roots.{pure_root}
 use Rattle.upon_render.specs.declared.stack.Root.{Root}
 use Rattle.upon_render.specs.declared.stack.Root.TheVariants.{Value, Source}
@@ -22,9 +22,9 @@ use Rattle.upon_machine_spec.specs.State.{at_start}
 use Rattle.upon_machine_spec.proofs.FollowsTree.Templates.{simulates}
 use Rattle.upon_machine_spec.proofs.Midway.{longer}
 use Rattle.upon_fmt.specs.declared.output.Mark.{Mark}
-use Rattle.upon_vm.specs.Keeps.{SourceHas}
+use Rattle.upon_vm_steps.specs.Keeps.{SourceHas}
 use Rattle.upon_vm.specs.Limits.{AtMost}
-use Rattle.upon_vm.specs.Machine.{source_state}
+use Rattle.upon_vm_steps.specs.Machine.{source_state}
 use Rattle.upon_vm.specs.Reports.{IsAnyIo, IsTakenError}
 use Rattle.upon_vm.specs.Within.{EndsSo, FitsLimits, IsReportWithin, RanWithin, ReportMarksWithin, TextWithin, WritesWithin}
 use Rattle.upon_vm.specs.declared.limits.Limits.{Limits}

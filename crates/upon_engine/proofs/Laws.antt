@@ -1,7 +1,7 @@
 -- What each call of rendering keeps, by the laws of what templates mean.
 use Rattle.std.proofs.Common.{◌≡◌, ◌≢◌, ◌≤◌, ◌<◌, ℕ, List, refl, sym, ap, ◌∙◌, subst}
 use Rattle.upon_types.specs.Val.{map_val}
-use Rattle.upon_render.specs.Environment.{context}
+use Rattle.upon_lookup.specs.Environment.{context}
 use Rattle.upon_meaning_spec.specs.Alone.{includes_left}
 use Rattle.upon_meaning_spec.specs.Engine.{Table, Resolver, from_table}
 use Rattle.upon_meaning_spec.specs.GreaterDepth.{GoesOn}

@@ -6,12 +6,4 @@ pub mod Renderings
 pub mod TemplateSpans
 pub mod Tables
 pub mod Boxed
-pub mod SetsOfNames
-pub mod NeededNames
-pub mod RenderingLaws
-pub mod IndexStarts
-pub mod OpenBlocks
-pub mod Links
-pub mod SearchSteps
-pub mod Begun
 pub mod InLimits

@@ -4,9 +4,9 @@ use Rattle.std.specs.declared.alloc.Global.{Global}
 use Rattle.std.specs.declared.dyn_box.DynBox.{DynBox}
 use Rattle.upon_types.specs.Answers.{Formatter, Function}
 use Rattle.upon_types.specs.Val.{Val}
-use Rattle.upon_render.specs.Asked.{refuses_all}
-use Rattle.upon_render.specs.Environment.{context, value_source}
-use Rattle.upon_render.specs.Source.{Source}
+use Rattle.upon_lookup.specs.Asked.{refuses_all}
+use Rattle.upon_lookup.specs.Environment.{context, value_source}
+use Rattle.upon_lookup.specs.Source.{Source}
 use Rattle.upon_meaning_spec.specs.Engine.{Engine, Template, Resolver, calls_of, from_table}
 use Rattle.upon_meaning_spec.specs.Outcome.{Outcome, States, states}
 use Rattle.upon_engine.specs.Base.{ContextBase, on_root, outcome_over}

@@ -2,16 +2,16 @@
 use Rattle.std.proofs.Common.{◌≡◌, ℕ, List, Option, Result, Bor, refl, sym, subst}
 use Rattle.upon_types.specs.View.{view}
 use Rattle.upon_types.specs.declared.value.Value.{Value as CodeValue}
-use Rattle.upon_render.specs.Environment.{context, value_source}
+use Rattle.upon_lookup.specs.Environment.{context, value_source}
 use Rattle.upon_render.specs.Roots.{pure_root}
-use Rattle.upon_render.specs.Source.{Source as Asking}
+use Rattle.upon_lookup.specs.Source.{Source as Asking}
 use Rattle.upon_render.specs.declared.stack.Root.{Root}
 use Rattle.upon_render.specs.declared.stack.Root.TheVariants.{Value, Source}
 use Rattle.upon_meaning_spec.specs.Alone.{alone_within}
 use Rattle.upon_meaning_spec.specs.Engine.{Calls, Resolver, Template}
 use Rattle.upon_meaning_spec.specs.Outcome.{states}
-use Rattle.upon_vm.specs.Keeps.{SourceHas}
-use Rattle.upon_vm.specs.Machine.{source_state}
+use Rattle.upon_vm_steps.specs.Keeps.{SourceHas}
+use Rattle.upon_vm_steps.specs.Machine.{source_state}
 use Rattle.upon_vm.specs.Runs.{Ran}
 use Rattle.upon_vm.specs.declared.failure.Failure.{Failure}
 use Rattle.upon_vm.specs.declared.run.Ending.{Ending}

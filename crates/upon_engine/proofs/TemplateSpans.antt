@@ -1,8 +1,8 @@
 -- The spans in the tree of a template lie in its text, and those of templates that a source hands on.
 use Rattle.std.proofs.Common.{◌≡◌, ℕ, List, Option, option_map, subst}
 use Rattle.upon_types.specs.TreeSpans.{TreeLiesIn}
-use Rattle.upon_render.specs.Finding.{Reply}
-use Rattle.upon_render.specs.Source.{SourceAnswer, says, refuses}
+use Rattle.upon_lookup.specs.Finding.{Reply}
+use Rattle.upon_lookup.specs.Source.{SourceAnswer, says, refuses}
 use Rattle.upon_meaning_spec.specs.Engine.{Template as Meant, from_table}
 use Rattle.upon_meaning_spec.specs.RenderFaults.{TemplatesLie}
 use Rattle.upon_compiled_spec.proofs.CompiledTree.{spans}

@@ -6,7 +6,7 @@ use Rattle.upon_types.specs.Fault.{Fault}
 use Rattle.upon_types.specs.View.{view}
 use Rattle.upon_types.specs.declared.error.Error.{Error}
 use Rattle.upon_types.specs.declared.value.Value.{Value}
-use Rattle.upon_render.specs.Environment.{Root, context, value_source, nothing}
+use Rattle.upon_lookup.specs.Environment.{Root, context, value_source, nothing}
 use Rattle.upon_serde.specs.Reads.{ReadsDatum}
 use Rattle.upon_serde.specs.Refusal.{IsRefusal}
 use Rattle.upon_meaning_spec.specs.Alone.{alone_within, includes_left}

@@ -1,7 +1,7 @@
 -- What a rendering is made of, and what its template means so.
 use Rattle.std.specs.Prelude.{ℕ, List, Option, option_map}
 use Rattle.upon_types.specs.Answers.{Callable, Formatter}
-use Rattle.upon_render.specs.Source.{Source}
+use Rattle.upon_lookup.specs.Source.{Source}
 use Rattle.upon_meaning_spec.specs.Engine.{Template, Resolver, Rendering}
 use Rattle.upon_meaning_spec.specs.Outcome.{Outcome, States, states}
 use Rattle.upon_engine.specs.Base.{ContextBase, outcome_over}

@@ -5,7 +5,7 @@ use Rattle.upon_types.specs.Expression.{Expression}
 use Rattle.upon_types.specs.Path.{Ident}
 use Rattle.upon_types.specs.Tree.{include}
 use Rattle.upon_types.specs.Val.{Val, Entries, map_val, entry_at}
-use Rattle.upon_render.specs.Environment.{Environment, context}
+use Rattle.upon_lookup.specs.Environment.{Environment, context}
 use Rattle.upon_meaning_spec.specs.Alone.{included, alone}
 use Rattle.upon_meaning_spec.specs.Engine.{Template, Table, from_table}
 use Rattle.upon_meaning_spec.specs.GreaterDepth.{GoesOn}

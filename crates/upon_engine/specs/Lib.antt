@@ -15,9 +15,3 @@ pub mod Texts
 pub mod Changes
 pub mod Theorem
 pub mod Within
-pub mod Names
-pub mod IndexStarts
-pub mod OpenBlocks
-pub mod Unseen
-pub mod EngineNeeds
-pub mod RenderingLaws

@@ -5,8 +5,8 @@ use Rattle.upon_types.specs.Tree.{Statements}
 use Rattle.upon_types.specs.Val.{Val}
 use Rattle.upon_types.specs.declared.error.Error.{Error}
 use Rattle.upon_language_spec.specs.Grammar.{HasTree}
-use Rattle.upon_render.specs.Asked.{refuses_all}
-use Rattle.upon_render.specs.Environment.{context}
+use Rattle.upon_lookup.specs.Asked.{refuses_all}
+use Rattle.upon_lookup.specs.Environment.{context}
 use Rattle.upon_meaning_spec.specs.Alone.{alone}
 use Rattle.upon_meaning_spec.specs.Engine.{Engine, Table, Template, Rendering, rendering_of}
 use Rattle.upon_meaning_spec.specs.Outcome.{Outcome, States, states}
@@ -52,6 +52,5 @@ AnswersTree e name source tree v result =
 -- a writer that may fail receives what the tree of a text means, or a beginning of it, by what it has and had
 abbrev pub Sends : Texts → Option (List ℕ) → List ℕ → Statements → Val → Result (Unit {0}) Error
     → Option (List ℕ) → Option (List ℕ) → Type 0
-Sends e name source tree v result old new =
-    (table : Table) → IsTable e.texts table → WritesReported e.depth IsAnyIo result old new
-    (meaning e table name source tree v)
+Sends e name s tree v r old new =
+    (table : Table) → IsTable e.texts table → WritesReported e.depth IsAnyIo r old new (meaning e table name s tree v)

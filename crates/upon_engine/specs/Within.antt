@@ -5,7 +5,7 @@ use Rattle.upon_types.specs.Error.{fault_of}
 use Rattle.upon_types.specs.Tree.{Statements}
 use Rattle.upon_types.specs.Val.{Val}
 use Rattle.upon_types.specs.declared.error.Error.{Error}
-use Rattle.upon_render.specs.Environment.{context}
+use Rattle.upon_lookup.specs.Environment.{context}
 use Rattle.upon_meaning_spec.specs.Alone.{includes_left}
 use Rattle.upon_meaning_spec.specs.Engine.{Table}
 use Rattle.upon_meaning_spec.specs.Outcome.{Outcome, States, states}

@@ -168,7 +168,7 @@ impl<'e> Engine<'e> {
     }
 
     /// Returns the template of a name.
-    pub(crate) fn held(&self, name: &str) -> Option<&Template<'e>>
+    pub fn held(&self, name: &str) -> Option<&Template<'e>>
         ensures { option_map (λ t. template_of t.now) result ≡ engine_templates self.now name.now }
     {
         self.templates.get(name)
@@ -186,7 +186,7 @@ impl<'e> Engine<'e> {
     }
 
     /// Returns the templates by their names.
-    pub(crate) fn templates(&self) -> &BTreeMap<String, Template<'e>>
+    pub fn templates(&self) -> &BTreeMap<String, Template<'e>>
         ensures { result.now ≡ self.now.templates }
     {
         &self.templates

@@ -6,7 +6,7 @@ ghost use Rattle.upon_vm.specs.Runs.{Ran, RunMarks};
 ghost use Rattle.upon_meaning_spec.specs.Outcome.{states};
 ghost use Rattle.upon_engine.specs.Template.{template_of};
 ghost use Rattle.upon_engine.specs.Answers.{AnswersText};
-ghost use Rattle.upon_render.specs.Environment.{Root};
+ghost use Rattle.upon_lookup.specs.Environment.{Root};
 ghost use Rattle.upon_engine.specs.Base.{IsContextOf, on_root};
 ghost use Rattle.upon_engine.specs.Calls.{call_of, outcome, engine_in, renderer_values, templates_in, template_in, name_in, limit_in};
 ghost use Rattle.upon_engine.specs.Engine.{engine_depth};
@@ -21,15 +21,15 @@ use serde::Serialize;
 use std::alloc::Global;
 use std::io;
 use upon_fmt::output::{LentWriter, Output};
-use upon_render::source::ValueSource;
+use upon_lookup::source::ValueSource;
 use upon_serde::to_value;
 use upon_types::error;
 use upon_types::value::Value;
 use upon_vm::failure::Failure;
-use upon_vm::machine::Running;
 use upon_vm::report::reported;
 use upon_vm::run::Ending;
 use upon_vm_calls::callables::Callables;
+use upon_vm_steps::machine::Running;
 
 /// A rendering before it is made: a template, what its names call, what it is rendered on, where the templates that it
 /// includes come from, and how deep includes may go.

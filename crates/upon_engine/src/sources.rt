@@ -1,16 +1,16 @@
 // Where the templates of includes come from.
 ghost use Rattle.std.specs.Prelude.{◌≡◌, ℕ, List};
-ghost use Rattle.upon_render.specs.Asked.{HasReply};
+ghost use Rattle.upon_lookup.specs.Asked.{HasReply};
 ghost use Rattle.upon_meaning_spec.specs.Engine.{Resolver};
 ghost use Rattle.upon_meaning_spec.specs.RenderFaults.{TemplatesLie};
-ghost use Rattle.upon_vm.specs.Program.{IsProgramOf};
+ghost use Rattle.upon_vm_steps.specs.Program.{IsProgramOf};
 ghost use Rattle.upon_engine.specs.Template.{template_of};
 
 use crate::engine::Engine;
 use crate::template::Template;
 use std::marker::PhantomData;
-use upon_render::source::SourceError;
-use upon_vm::source::{Program, ProgramSource};
+use upon_lookup::source::SourceError;
+use upon_vm_steps::source::{Program, ProgramSource};
 
 /// What gives templates by their names.
 ///

@@ -59,7 +59,7 @@ impl<'s> Template<'s> {
     }
 
     /// Returns what took memory for its instructions.
-    pub(crate) fn alloc(&self) -> Global {
+    pub fn alloc(&self) -> Global {
         *self.instrs.allocator()
     }
 

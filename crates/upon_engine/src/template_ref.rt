@@ -18,7 +18,7 @@ use crate::template::Template;
 use crate::values::{Context, SerdeContext, SourceValues};
 use serde::Serialize;
 use upon_instructions::types::program::Instr;
-use upon_render::source::ValueSource;
+use upon_lookup::source::ValueSource;
 use upon_types::value::Value;
 
 /// A template that an engine holds, with its name. A fault of its rendering has the name.

@@ -1,27 +1,27 @@
 // What a template is rendered on: a value that is lent or owned, or a source of values.
 ghost use Rattle.std.specs.Prelude.{◌≡◌, ℕ, List, option_map};
 ghost use Rattle.upon_types.specs.TreeSpans.{TreeLiesIn};
-ghost use Rattle.upon_render.specs.Source.{Source};
+ghost use Rattle.upon_lookup.specs.Source.{Source};
 ghost use Rattle.upon_meaning_spec.specs.Engine.{Template};
 ghost use Rattle.upon_meaning_spec.specs.Outcome.{states};
-ghost use Rattle.upon_vm.specs.Acts.{calls_on};
-ghost use Rattle.upon_vm.specs.Program.{IsProgramOf};
+ghost use Rattle.upon_vm_steps.specs.Acts.{calls_on};
+ghost use Rattle.upon_vm_steps.specs.Program.{IsProgramOf};
 ghost use Rattle.upon_vm.specs.Runs.{Ran, RunMarks};
-ghost use Rattle.upon_render.specs.Environment.{Root};
+ghost use Rattle.upon_lookup.specs.Environment.{Root};
 ghost use Rattle.upon_engine.specs.Base.{ContextBase, on_root, outcome_within};
 
 use crate::sources::{Programs, ShorterLoans, TemplateSource};
 use std::alloc::Global;
 use upon_fmt::output::Output;
-use upon_render::source::{NoSource, ValueSource};
+use upon_lookup::source::{NoSource, ValueSource};
 use upon_render::stack::Stack;
 use upon_types::error;
 use upon_types::value::Value;
 use upon_vm::failure::Failure;
-use upon_vm::machine::Running;
 use upon_vm::render::render;
 use upon_vm::run::Ending;
 use upon_vm_calls::callables::Callables;
+use upon_vm_steps::machine::Running;
 
 /// What a template is rendered on.
 pub trait Values<'r, T: TemplateSource<'r>>: Drop {
@@ -76,8 +76,8 @@ pub struct Context<'r> {
 impl<'r, T: TemplateSource<'r>> Values<'r, T> for Context<'r> {
     ghost use Rattle.std.specs.Prelude.{[]};
     ghost use Rattle.upon_types.specs.View.{view};
-    ghost use Rattle.upon_render.specs.Asked.{refuses_all};
-    ghost use Rattle.upon_render.specs.Environment.{context};
+    ghost use Rattle.upon_lookup.specs.Asked.{refuses_all};
+    ghost use Rattle.upon_lookup.specs.Environment.{context};
     ghost use Rattle.upon_engine.specs.Base.{on_root};
 
     ghost State = { Unit {0} };
@@ -113,7 +113,7 @@ pub struct SerdeContext {
 
 impl<'r, T: TemplateSource<'r>> Values<'r, T> for SerdeContext {
     ghost use Rattle.std.specs.Prelude.{[]};
-    ghost use Rattle.upon_render.specs.Asked.{refuses_all};
+    ghost use Rattle.upon_lookup.specs.Asked.{refuses_all};
     ghost use Rattle.upon_engine.specs.Sources.{base_in};
 
     ghost State = { Unit {0} };
@@ -170,7 +170,7 @@ impl<S> SourceValues<S> {
 }
 
 impl<'r, S: ValueSource, T: TemplateSource<'r>> Values<'r, T> for SourceValues<S> {
-    ghost use Rattle.upon_render.specs.Environment.{value_source};
+    ghost use Rattle.upon_lookup.specs.Environment.{value_source};
     ghost use Rattle.upon_engine.specs.Base.{on_root};
 
     ghost State = { S.State };

@@ -19,13 +19,13 @@ use crate::template::Template;
 use std::borrow::CowStr;
 use std::io;
 use upon_fmt::output::{LentWriter, Output};
-use upon_render::source::NoSource;
+use upon_lookup::source::NoSource;
 use upon_render::stack::Stack;
 use upon_types::error::Result;
 use upon_types::value::Value;
 pub use upon_vm::limits::Limits;
-use upon_vm::machine::Running;
 use upon_vm::within::{render_within, reported_within};
+use upon_vm_steps::machine::Running;
 
 impl<'e> Engine<'e> {
     /// Renders the text of a template on a value within limits, or says why there is no text.

@@ -7,8 +7,8 @@ use Rattle.upon_functions.specs.Integers.{i64_range, u8_range}
 use Rattle.upon_functions.specs.Outcome.{Returned}
 use Rattle.upon_meaning_spec.proofs.Computing.{computing}
 use Rattle.upon_meaning_spec.specs.Evaluation.{Operand, answer_value, operand, values_of}
-use Rattle.upon_render.specs.Finding.{Finding, at_fault, found}
-use Rattle.upon_render.specs.LookupFaults.{wrong}
+use Rattle.upon_lookup.specs.Finding.{Finding, at_fault, found}
+use Rattle.upon_lookup.specs.LookupFaults.{wrong}
 use Rattle.upon_examples.specs.Callables.{doubled, added, echoed}
 use Rattle.upon_types.specs.Val.{Val, int_val, text_val}
 use Rattle.upon_types.specs.declared.types.Span.{Span}

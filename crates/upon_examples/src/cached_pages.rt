@@ -1,6 +1,6 @@
 // Pages that are rendered again only if a value changed that they need: the example of docs/NEEDS.md.
 use std::alloc::Global;
-use upon::{Engine, Result, Value};
+use upon::{Engine, Result, Value, needs_of};
 
 /// A page, with the values that it was rendered on.
 #[derive(Drop)]
@@ -33,7 +33,7 @@ pub fn page_of(
     context: &Value,
     last: Option<Page>,
 ) -> Result<Option<Page>> {
-    let Some(needs) = engine.needs(name) else {
+    let Some(needs) = needs_of(engine, name) else {
         return Ok(None);
     };
     let on = values_of(alloc, needs?.names(), context)?;

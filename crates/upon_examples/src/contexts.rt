@@ -2,7 +2,7 @@
 use serde::Serialize;
 use std::alloc::{AllocError, Global};
 use std::collections::BTreeMap;
-use upon_render::source::{SourceError, ValueMember, ValueSource};
+use upon_lookup::source::{SourceError, ValueMember, ValueSource};
 use upon_serde::{Result, Value, to_value, value};
 
 /// Returns John, written out.
@@ -76,8 +76,8 @@ pub struct Placeholder {
 impl ValueSource for Placeholder {
     ghost use Rattle.std.specs.Prelude.{[], string_bytes};
     ghost use Rattle.upon_types.specs.Val.{text_val};
-    ghost use Rattle.upon_render.specs.Finding.{reply};
-    ghost use Rattle.upon_render.specs.Source.{says};
+    ghost use Rattle.upon_lookup.specs.Finding.{reply};
+    ghost use Rattle.upon_lookup.specs.Source.{says};
 
     ghost State = { Unit {0} };
 

@@ -1,6 +1,6 @@
 -- No value writes markup.
 use Rattle.std.proofs.Common.{◌≡◌, ℕ, List, [], ◌∷◌, Option, ◌||◌, refl, ap, ◌∙◌}
-use Rattle.upon_render.specs.Environment.{Root}
+use Rattle.upon_lookup.specs.Environment.{Root}
 use Rattle.upon_meaning_spec.specs.Alone.{alone}
 use Rattle.upon_meaning_spec.specs.DefaultFormat.{default_format}
 use Rattle.upon_meaning_spec.specs.Engine.{Template, Rendering}

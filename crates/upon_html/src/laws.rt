@@ -1,7 +1,7 @@
 // What an escaped text holds, and that nothing is lost.
 ghost use Rattle.std.specs.Prelude.{◌≡◌, ◌≤◌, ◌*◌, ℕ, List, Option, false, length};
 ghost use Rattle.upon_types.specs.Val.{Val};
-ghost use Rattle.upon_render.specs.Environment.{Root};
+ghost use Rattle.upon_lookup.specs.Environment.{Root};
 ghost use Rattle.upon_meaning_spec.specs.Alone.{alone};
 ghost use Rattle.upon_meaning_spec.specs.Engine.{Template, Rendering};
 ghost use Rattle.upon_meaning_spec.specs.Outcome.{States};

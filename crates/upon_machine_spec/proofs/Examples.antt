@@ -4,7 +4,7 @@ use Rattle.upon_types.specs.Expression.{base}
 use Rattle.upon_types.specs.Path.{item}
 use Rattle.upon_types.specs.Tree.{if_else, for_loop, include, with, otherwise, no_else}
 use Rattle.upon_types.specs.Val.{int_val}
-use Rattle.upon_render.specs.Environment.{context}
+use Rattle.upon_lookup.specs.Environment.{context}
 use Rattle.upon_meaning_spec.specs.Engine.{calls_of, from_table}
 use Rattle.upon_meaning_spec.specs.Outcome.{text_outcome}
 use Rattle.upon_meaning_spec.proofs.Computing.{computing}

@@ -1,7 +1,7 @@
 -- In the midst of a run: each step gives more of the outcome's text, brings the end nearer, and is never stuck; the last one gives the
 -- outcome's end and states.
 use Rattle.std.proofs.Common.{◌≡◌, ℕ, zero, suc, ◌+◌, ◌<◌, ◌≤◌, List, [], ◌++◌, Option, Some, None, option_map, refl, sym, ap, ◌∙◌, arith, append_assoc, append-nil}
-use Rattle.upon_render.specs.Environment.{Root}
+use Rattle.upon_lookup.specs.Environment.{Root}
 use Rattle.upon_meaning_spec.specs.Engine.{Calls, Resolver}
 use Rattle.upon_meaning_spec.specs.Outcome.{End, Outcome, States, with_text_before}
 use Rattle.upon_machine_spec.specs.Run.{on_next, run, count_next, steps, text_of_next, Midway}

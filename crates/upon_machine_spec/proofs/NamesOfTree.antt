@@ -10,7 +10,7 @@ use Rattle.upon_machine_spec.specs.Code.{expression_code, emission_code, jump_un
 use Rattle.upon_machine_spec.specs.Instr.{Instr, jump, emit_raw, loop_start, with_start, with_end}
 use Rattle.upon_machine_spec.specs.Instr.{include as enter, include_with as enter_with}
 use Rattle.upon_machine_spec.specs.ProgramNames.{loop_binds, count_after, unbound, is_this, plain_include, any_include, begins, passes_on, IsListed}
-use Rattle.upon_machine_spec.specs.ProgramNames.{includes as includes_of}
+use Rattle.upon_machine_spec.specs.ProgramNames.{includes}
 use Rattle.upon_machine_spec.proofs.Walks.{plain_append, either, forward_keeps, back_ends, Walks, walk_nothing, walk_plain, walk_then, walk_after, walk_block}
 use Rattle.upon_machine_spec.proofs.NamesOfExpressions.{of_expression, of_emission, plain, none, this_name, that_name, loop_names, with_last, after_none, joined, f, g, expression_begins, emission_begins, in_value, nothing_passes, nothing_included}
 
@@ -251,5 +251,5 @@ module _ (via : List ℕ) where
     else_includes at no_else = none
     else_includes at (otherwise body) = statements_include (at + 1) body
 
-  pub tree_includes : (tree : Statements) → IsListed (includes_of (program_of tree)) via ↔ Includes via tree
+  pub tree_includes : (tree : Statements) → IsListed (includes (program_of tree)) via ↔ Includes via tree
   tree_includes tree = let w = statements_include 0 tree in let same = listed any_include via (program_of tree) in (λ e. w.0 (sym same ∙ e), λ h. same ∙ w.1 h)

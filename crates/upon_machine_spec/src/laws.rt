@@ -2,7 +2,7 @@
 ghost use Rattle.std.specs.Prelude.{◌≡◌, ◌↔◌, ℕ, ◌<◌, List, ◌++◌, length, Option, Some, true};
 ghost use Rattle.upon_types.specs.Tree.{Statements};
 ghost use Rattle.upon_types.specs.TreeSpans.{TreeLiesIn};
-ghost use Rattle.upon_render.specs.Environment.{Root};
+ghost use Rattle.upon_lookup.specs.Environment.{Root};
 ghost use Rattle.upon_meaning_spec.specs.Alone.{alone_within};
 ghost use Rattle.upon_meaning_spec.specs.Engine.{Template, Calls, Resolver};
 ghost use Rattle.upon_meaning_spec.specs.Includes.{Includes};

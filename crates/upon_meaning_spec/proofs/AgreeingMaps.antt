@@ -4,12 +4,12 @@ use Rattle.upon_types.specs.declared.types.Span.{Span}
 use Rattle.upon_types.specs.declared.types.ast.path.AccessOp.{AccessOp}
 use Rattle.upon_types.specs.Path.{Access, by_index, by_key, Member}
 use Rattle.upon_types.specs.Val.{Entries, map_val, entry_at}
-use Rattle.upon_render.specs.Environment.{context, root_environment}
-use Rattle.upon_render.specs.Finding.{reply}
-use Rattle.upon_render.specs.Lookup.{lookup, or_not_in_scope}
-use Rattle.upon_render.specs.LookupFaults.{not_in_map}
-use Rattle.upon_render.specs.Source.{Source}
-use Rattle.upon_render.specs.Walk.{after_first, found_or_missed, walk}
+use Rattle.upon_lookup.specs.Environment.{context, root_environment}
+use Rattle.upon_lookup.specs.Finding.{reply}
+use Rattle.upon_lookup.specs.Lookup.{lookup, or_not_in_scope}
+use Rattle.upon_lookup.specs.LookupFaults.{not_in_map}
+use Rattle.upon_lookup.specs.Source.{Source}
+use Rattle.upon_lookup.specs.Walk.{after_first, found_or_missed, walk}
 use Rattle.upon_meaning_spec.specs.Names.{AgreeOn}
 use Rattle.upon_meaning_spec.proofs.SameLookups.{Known, FoundAlike}
 

@@ -4,7 +4,7 @@ use Rattle.upon_types.specs.Expression.{Expression}
 use Rattle.upon_types.specs.Path.{Ident}
 use Rattle.upon_types.specs.Tree.{include}
 use Rattle.upon_types.specs.Val.{Val}
-use Rattle.upon_render.specs.Environment.{Environment, context, alone_over}
+use Rattle.upon_lookup.specs.Environment.{Environment, context, alone_over}
 use Rattle.upon_meaning_spec.specs.Alone.{with_template, included, alone_within, includes_left, alone}
 use Rattle.upon_meaning_spec.specs.Engine.{Template, Calls, Resolver, Rendering}
 use Rattle.upon_meaning_spec.specs.IncludeFinds.{IncludeFinds}

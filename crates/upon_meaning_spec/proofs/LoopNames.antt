@@ -3,11 +3,11 @@ use Rattle.std.proofs.Common.{◌≡◌, ℕ, List, [], ◌∷◌, ◌++◌, Boo
 use Rattle.std.proofs.lemmas.Slice.Eq.{bytes_eq-Decides}
 use Rattle.upon_types.specs.Path.{Access, by_index, by_key, Member}
 use Rattle.upon_types.specs.Val.{Val}
-use Rattle.upon_render.specs.Environment.{Binding, Root, Environment, bind, bind_all, first_bound, binding_of}
-use Rattle.upon_render.specs.Finding.{Finding, found, at_fault, reply}
-use Rattle.upon_render.specs.Lookup.{maybe_bound, bound_value, or_root, lookup}
-use Rattle.upon_render.specs.Source.{Source}
-use Rattle.upon_render.specs.Walk.{as_some}
+use Rattle.upon_lookup.specs.Environment.{Binding, Root, Environment, bind, bind_all, first_bound, binding_of}
+use Rattle.upon_lookup.specs.Finding.{Finding, found, at_fault, reply}
+use Rattle.upon_lookup.specs.Lookup.{maybe_bound, bound_value, or_root, lookup}
+use Rattle.upon_lookup.specs.Source.{Source}
+use Rattle.upon_lookup.specs.Walk.{as_some}
 use Rattle.upon_meaning_spec.specs.Names.{IsName}
 use Rattle.upon_meaning_spec.specs.Shadowing.{Binds}
 

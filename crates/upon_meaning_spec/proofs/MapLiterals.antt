@@ -5,8 +5,8 @@ use Rattle.upon_types.specs.Expression.{Items, no_items, item_then, mapping}
 use Rattle.upon_types.specs.Path.{Ident, key_value}
 use Rattle.upon_types.specs.Val.{Entries, no_entries, map_val, key_of, entry_list, rises}
 use Rattle.upon_types.proofs.Bindings.{one_map}
-use Rattle.upon_render.specs.Environment.{Environment}
-use Rattle.upon_render.specs.Finding.{Finding, found, at_fault, Reply, reply, with_found}
+use Rattle.upon_lookup.specs.Environment.{Environment}
+use Rattle.upon_lookup.specs.Finding.{Finding, found, at_fault, Reply, reply, with_found}
 use Rattle.upon_render.specs.Items.{items_of, entry_binds}
 use Rattle.upon_meaning_spec.specs.Engine.{Calls}
 use Rattle.upon_meaning_spec.specs.Entries.{with_entry}

@@ -16,8 +16,8 @@ use Rattle.upon_types.specs.Path.{Ident, key_value}
 use Rattle.upon_types.specs.Val.{Val, Entries, no_entries, entry_then, map_val, entry_at, key_of, entry_list, rises}
 use Rattle.upon_types.specs.Conversions.{or_else, last_at}
 use Rattle.upon_types.proofs.Copies.{is_less}
-use Rattle.upon_render.specs.Environment.{Environment}
-use Rattle.upon_render.specs.Finding.{Finding, found, at_fault, reply, on_found}
+use Rattle.upon_lookup.specs.Environment.{Environment}
+use Rattle.upon_lookup.specs.Finding.{Finding, found, at_fault, reply, on_found}
 use Rattle.upon_render.specs.Items.{items_of, entry_binds}
 use Rattle.upon_meaning_spec.specs.Engine.{Calls}
 use Rattle.upon_meaning_spec.specs.Entries.{with_entry}

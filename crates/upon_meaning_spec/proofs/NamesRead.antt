@@ -1,8 +1,8 @@
 -- Templates of a table, or of a source that hands them on: what is rendered depends on the names that are read and on the templates that are reached, alone.
 use Rattle.std.proofs.Common.{◌≡◌, ℕ, List, [], Option, inl, refl}
 use Rattle.upon_types.specs.Val.{Entries, map_val, entry_at}
-use Rattle.upon_render.specs.Environment.{Root, context, root_environment}
-use Rattle.upon_render.specs.Finding.{reply}
+use Rattle.upon_lookup.specs.Environment.{Root, context, root_environment}
+use Rattle.upon_lookup.specs.Finding.{reply}
 use Rattle.upon_meaning_spec.specs.Alone.{running, included, alone_within, includes_left, alone}
 use Rattle.upon_meaning_spec.specs.Engine.{Template, Table, Calls, Resolver, from_table, table_answer}
 use Rattle.upon_meaning_spec.specs.Includes.{Reaches}

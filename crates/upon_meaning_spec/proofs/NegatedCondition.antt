@@ -3,8 +3,8 @@ use Rattle.std.proofs.Common.{◌≡◌, true, false, refl, ap, not}
 use Rattle.upon_types.specs.Expression.{Expression}
 use Rattle.upon_types.specs.Tree.{if_else, Statements, otherwise}
 use Rattle.upon_types.specs.Val.{Val}
-use Rattle.upon_render.specs.Environment.{Environment}
-use Rattle.upon_render.specs.Finding.{Finding, found, at_fault}
+use Rattle.upon_lookup.specs.Environment.{Environment}
+use Rattle.upon_lookup.specs.Finding.{Finding, found, at_fault}
 use Rattle.upon_types.specs.Truth.{truth}
 use Rattle.upon_meaning_spec.specs.Engine.{Calls}
 use Rattle.upon_meaning_spec.specs.Evaluation.{Operand, evaluate}

@@ -1,7 +1,7 @@
 -- What a tree reaches through a table: the includes of a template that it reaches are reached too, and nothing else is read.
 use Rattle.std.proofs.Common.{◌≡◌, ℕ, List, [], ◌∷◌, ◌++◌, Option, Some, None, inr, ap}
 use Rattle.upon_types.specs.Tree.{Statements}
-use Rattle.upon_render.specs.Source.{says}
+use Rattle.upon_lookup.specs.Source.{says}
 use Rattle.upon_meaning_spec.specs.Engine.{Template, Table, Resolver, table_answer, from_table}
 use Rattle.upon_meaning_spec.specs.Includes.{Includes, ReachesBy, Reaches}
 use Rattle.upon_meaning_spec.specs.Names.{Reads}

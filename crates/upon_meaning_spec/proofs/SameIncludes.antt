@@ -1,8 +1,8 @@
 -- What an include means stays the same where the names that are read are found alike, and the names of includes are answered alike.
 use Rattle.std.proofs.Common.{◌≡◌, ℕ, zero, suc, List, Some, refl, ◌∙◌}
 use Rattle.upon_types.specs.Path.{Ident}
-use Rattle.upon_render.specs.Environment.{Environment}
-use Rattle.upon_render.specs.Source.{SourceAnswer, says, refuses}
+use Rattle.upon_lookup.specs.Environment.{Environment}
+use Rattle.upon_lookup.specs.Source.{SourceAnswer, says, refuses}
 use Rattle.upon_meaning_spec.specs.Alone.{running, on_template, with_template, included}
 use Rattle.upon_meaning_spec.specs.Engine.{Template, Calls, Resolver}
 use Rattle.upon_meaning_spec.specs.Includes.{Includes}

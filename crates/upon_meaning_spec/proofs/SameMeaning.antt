@@ -4,8 +4,8 @@ use Rattle.upon_types.specs.Expression.{Expression, base, filtered, Base, var, l
 use Rattle.upon_types.specs.Path.{Ident, Access, by_index, by_key, path_span}
 use Rattle.upon_types.specs.Tree.{Statement, raw, inline_expr, include, if_else, for_loop, with, Statements, no_statements, statement_then, Else, no_else, otherwise}
 use Rattle.upon_types.specs.Val.{Entries, no_entries}
-use Rattle.upon_render.specs.Environment.{Binding, binding, plain, Environment, bind_all, with_name, alone_over, iteration, loop_state}
-use Rattle.upon_render.specs.Finding.{Finding, found, at_fault, with_found}
+use Rattle.upon_lookup.specs.Environment.{Binding, binding, plain, Environment, bind_all, with_name, alone_over, iteration, loop_state}
+use Rattle.upon_lookup.specs.Finding.{Finding, found, at_fault, with_found}
 use Rattle.upon_render.specs.Items.{items_of}
 use Rattle.upon_meaning_spec.specs.Emission.{emit, emit_base, emit_call, emit_value}
 use Rattle.upon_meaning_spec.specs.Engine.{Calls}

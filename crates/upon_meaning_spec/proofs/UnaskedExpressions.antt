@@ -5,10 +5,10 @@ use Rattle.upon_types.specs.Expression.{Expression, base, filtered, Base, var, l
 use Rattle.upon_types.specs.Path.{Ident, Member, path_span}
 use Rattle.upon_types.specs.Val.{Val, list_val, map_val, Entries, no_entries}
 use Rattle.upon_types.specs.View.{vals_of}
-use Rattle.upon_render.specs.Environment.{Binding, Environment, context}
-use Rattle.upon_render.specs.Finding.{Finding, found, at_fault, Reply, reply, on_found, with_found}
-use Rattle.upon_render.specs.Lookup.{bindings_walk, or_root, lookup}
-use Rattle.upon_render.specs.Source.{refuses, Source}
+use Rattle.upon_lookup.specs.Environment.{Binding, Environment, context}
+use Rattle.upon_lookup.specs.Finding.{Finding, found, at_fault, Reply, reply, on_found, with_found}
+use Rattle.upon_lookup.specs.Lookup.{bindings_walk, or_root, lookup}
+use Rattle.upon_lookup.specs.Source.{refuses, Source}
 use Rattle.upon_meaning_spec.specs.Emission.{Emission, format_outcome, emit_found, callable_outcome, emit_call, emit_value, emit, emit_base}
 use Rattle.upon_meaning_spec.specs.Engine.{Calls}
 use Rattle.upon_meaning_spec.specs.Entries.{with_entry}

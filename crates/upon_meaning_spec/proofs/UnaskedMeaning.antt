@@ -4,10 +4,10 @@ use Rattle.upon_types.specs.Expression.{expression_span}
 use Rattle.upon_types.specs.Path.{Ident}
 use Rattle.upon_types.specs.Tree.{Statement, raw, inline_expr, include, if_else, for_loop, with, Statements, no_statements, statement_then, Else, no_else, otherwise}
 use Rattle.upon_types.specs.Val.{Val}
-use Rattle.upon_render.specs.Environment.{Binding, binding, plain, loop_state, context}
-use Rattle.upon_render.specs.Finding.{Finding, found, at_fault, Reply}
+use Rattle.upon_lookup.specs.Environment.{Binding, binding, plain, loop_state, context}
+use Rattle.upon_lookup.specs.Finding.{Finding, found, at_fault, Reply}
 use Rattle.upon_render.specs.Items.{items_of}
-use Rattle.upon_render.specs.Source.{SourceAnswer, says, refuses, Source}
+use Rattle.upon_lookup.specs.Source.{SourceAnswer, says, refuses, Source}
 use Rattle.upon_meaning_spec.specs.Alone.{running, on_template, included, alone_within}
 use Rattle.upon_meaning_spec.specs.Engine.{Template, Calls, Resolver}
 use Rattle.upon_meaning_spec.specs.Evaluation.{Operand}

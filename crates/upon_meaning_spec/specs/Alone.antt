@@ -2,10 +2,10 @@
 use Rattle.std.specs.Prelude.{ℕ, zero, suc, ◌-◌, max, List, Option, Some, None}
 use Rattle.upon_types.specs.Fault.{Fault}
 use Rattle.upon_types.specs.Path.{Ident}
-use Rattle.upon_render.specs.Environment.{Root, root_environment}
-use Rattle.upon_render.specs.Finding.{Reply}
-use Rattle.upon_render.specs.LookupFaults.{wrong}
-use Rattle.upon_render.specs.Source.{SourceAnswer, says, refuses}
+use Rattle.upon_lookup.specs.Environment.{Root, root_environment}
+use Rattle.upon_lookup.specs.Finding.{Reply}
+use Rattle.upon_lookup.specs.LookupFaults.{wrong}
+use Rattle.upon_lookup.specs.Source.{SourceAnswer, says, refuses}
 use Rattle.upon_meaning_spec.specs.CallFaults.{depth_reached}
 use Rattle.upon_meaning_spec.specs.Engine.{Template, Calls, Resolver, Rendering}
 use Rattle.upon_meaning_spec.specs.Meaning.{RunningTemplate, fault_in, Inclusion, statements_mean}

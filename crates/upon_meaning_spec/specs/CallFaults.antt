@@ -4,7 +4,7 @@ use Rattle.std.specs.Fmt.{decimal, signed_decimal}
 use Rattle.upon_types.specs.declared.types.Span.{Span}
 use Rattle.upon_types.specs.Fault.{Fault, render, function, format, bare_fault}
 use Rattle.upon_types.specs.Val.{Val, int_val, kind_word}
-use Rattle.upon_render.specs.LookupFaults.{wrong}
+use Rattle.upon_lookup.specs.LookupFaults.{wrong}
 use Rattle.upon_types.specs.Answers.{Misfit, wrong_type, out_of_range}
 
 -- nothing has the name, if the value is emitted

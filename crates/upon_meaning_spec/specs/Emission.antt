@@ -4,8 +4,8 @@ use Rattle.upon_types.specs.declared.types.Span.{Span}
 use Rattle.upon_types.specs.Expression.{Expression, base, filtered, Base, var, literal, list, mapping, paren, call}
 use Rattle.upon_types.specs.Fault.{Fault}
 use Rattle.upon_types.specs.Path.{Ident}
-use Rattle.upon_render.specs.Environment.{Environment}
-use Rattle.upon_render.specs.Finding.{Finding, found, at_fault, Reply}
+use Rattle.upon_lookup.specs.Environment.{Environment}
+use Rattle.upon_lookup.specs.Finding.{Finding, found, at_fault, Reply}
 use Rattle.upon_types.specs.Answers.{FormatEnd, well, refused, Formatted, Formatter, Callable, formatter, function}
 use Rattle.upon_meaning_spec.specs.CallFaults.{unknown_callable, formatter_expects, not_formatted}
 use Rattle.upon_meaning_spec.specs.Engine.{Calls}

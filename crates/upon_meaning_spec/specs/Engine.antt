@@ -1,8 +1,8 @@
 -- What a rendering is on: the engine's templates and callables, its sources, the depth.
 use Rattle.std.specs.Prelude.{ℕ, List, Option, Some, None, codes}
 use Rattle.upon_types.specs.Tree.{Statements}
-use Rattle.upon_render.specs.Finding.{Reply, reply}
-use Rattle.upon_render.specs.Source.{SourceAnswer, says, refuses, Source}
+use Rattle.upon_lookup.specs.Finding.{Reply, reply}
+use Rattle.upon_lookup.specs.Source.{SourceAnswer, says, refuses, Source}
 use Rattle.upon_types.specs.Answers.{Callable, Formatter}
 use Rattle.upon_meaning_spec.specs.DefaultFormat.{formatter_or_default}
 

@@ -6,9 +6,9 @@ use Rattle.upon_types.specs.Fault.{Fault}
 use Rattle.upon_types.specs.Path.{Ident, path_span}
 use Rattle.upon_types.specs.Val.{Val, list_val, map_val, Entries, no_entries}
 use Rattle.upon_types.specs.View.{vals_of}
-use Rattle.upon_render.specs.Environment.{Environment}
-use Rattle.upon_render.specs.Finding.{Finding, found, at_fault, Reply, reply, with_found}
-use Rattle.upon_render.specs.Lookup.{lookup}
+use Rattle.upon_lookup.specs.Environment.{Environment}
+use Rattle.upon_lookup.specs.Finding.{Finding, found, at_fault, Reply, reply, with_found}
+use Rattle.upon_lookup.specs.Lookup.{lookup}
 use Rattle.upon_types.specs.Answers.{Misfit, Answer, gives, wrong_number, wrong_argument, declines, Callable, formatter, function}
 use Rattle.upon_meaning_spec.specs.CallFaults.{unknown_function, formatter_found, function_expects, argument_misfits, function_declined}
 use Rattle.upon_meaning_spec.specs.Engine.{Calls}

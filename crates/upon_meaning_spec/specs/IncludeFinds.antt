@@ -4,9 +4,9 @@ use Rattle.upon_types.specs.declared.types.Span.{Span}
 use Rattle.upon_types.specs.Expression.{Expression}
 use Rattle.upon_types.specs.Path.{Ident}
 use Rattle.upon_types.specs.Val.{Val}
-use Rattle.upon_render.specs.Environment.{Environment}
-use Rattle.upon_render.specs.Finding.{found, reply}
-use Rattle.upon_render.specs.Source.{says}
+use Rattle.upon_lookup.specs.Environment.{Environment}
+use Rattle.upon_lookup.specs.Finding.{found, reply}
+use Rattle.upon_lookup.specs.Source.{says}
 use Rattle.upon_meaning_spec.specs.Engine.{Template, Calls, Resolver}
 use Rattle.upon_meaning_spec.specs.Evaluation.{operand, evaluate}
 use Rattle.upon_meaning_spec.specs.Outcome.{States}

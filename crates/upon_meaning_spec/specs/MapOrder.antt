@@ -7,7 +7,7 @@ use Rattle.std.specs.Ordering.{nat_cmp}
 use Rattle.upon_types.specs.Expression.{Bases, no_bases, base_then, Items, no_items, item_then}
 use Rattle.upon_types.specs.Path.{Ident}
 use Rattle.upon_types.specs.Val.{Val, Entries, entry_at}
-use Rattle.upon_render.specs.Environment.{Binding}
+use Rattle.upon_lookup.specs.Environment.{Binding}
 use Rattle.upon_render.specs.Items.{entry_binds}
 use Rattle.upon_meaning_spec.specs.Evaluation.{Operand}
 

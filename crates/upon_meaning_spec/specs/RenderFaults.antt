@@ -9,7 +9,7 @@ use Rattle.upon_types.specs.Fault.{Kind, render, function, format, Fault}
 use Rattle.upon_types.specs.Picture.{picture}
 use Rattle.upon_types.specs.TreeSpans.{TreeLiesIn}
 use Rattle.upon_types.specs.Val.{Val, kind_word}
-use Rattle.upon_render.specs.Source.{says, refuses, ValueMember}
+use Rattle.upon_lookup.specs.Source.{says, refuses, ValueMember}
 use Rattle.upon_meaning_spec.specs.Alone.{running}
 use Rattle.upon_meaning_spec.specs.CallFaults.{number_text}
 use Rattle.upon_meaning_spec.specs.Engine.{Template, Calls, Resolver}

@@ -2,8 +2,8 @@
 use Rattle.std.specs.Prelude.{◌≡◌, ◌⊎◌, ℕ, List, [], ◌∷◌, map, codes, bytes_eq, if◌then◌else◌}
 use Rattle.upon_types.specs.Path.{Member, path_span, LoopVars, item, key_value}
 use Rattle.upon_types.specs.Val.{Val}
-use Rattle.upon_render.specs.Environment.{Binding}
-use Rattle.upon_render.specs.Finding.{Finding, found, at_fault, reply}
+use Rattle.upon_lookup.specs.Environment.{Binding}
+use Rattle.upon_lookup.specs.Finding.{Finding, found, at_fault, reply}
 use Rattle.upon_meaning_spec.specs.Emission.{emit_value}
 use Rattle.upon_meaning_spec.specs.Engine.{Calls}
 use Rattle.upon_meaning_spec.specs.Evaluation.{with_span}

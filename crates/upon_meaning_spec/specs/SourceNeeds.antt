@@ -1,7 +1,7 @@
 -- Value sources that answer alike what a template needs.
 use Rattle.std.specs.Prelude.{◌≡◌, List, ◌∷◌}
 use Rattle.upon_types.specs.Tree.{Statements}
-use Rattle.upon_render.specs.Source.{Source, ValueAccess, index, key, ValueMember}
+use Rattle.upon_lookup.specs.Source.{Source, ValueAccess, index, key, ValueMember}
 use Rattle.upon_meaning_spec.specs.Engine.{Table}
 use Rattle.upon_meaning_spec.specs.Needs.{Start, a_name, an_index, Needs}
 

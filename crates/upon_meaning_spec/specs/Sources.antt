@@ -1,6 +1,6 @@
 -- Sources of templates that hand on those of a table, and what two such sources answer alike.
 use Rattle.std.specs.Prelude.{◌≡◌, ℕ, List, Some}
-use Rattle.upon_render.specs.Source.{says}
+use Rattle.upon_lookup.specs.Source.{says}
 use Rattle.upon_meaning_spec.specs.Engine.{Template, Table, Resolver}
 
 -- a source hands on no template under a name but the one that the table holds; what it refuses, and how, is its own

@@ -1,6 +1,6 @@
 -- Renderings that differ only in their value source, and what they agree on.
 use Rattle.std.specs.Prelude.{◌≡◌}
-use Rattle.upon_render.specs.Source.{Source}
+use Rattle.upon_lookup.specs.Source.{Source}
 use Rattle.upon_meaning_spec.specs.Engine.{Calls}
 use Rattle.upon_meaning_spec.specs.Outcome.{Outcome, States}
 

@@ -6,18 +6,18 @@ use Rattle.upon_types.specs.Path.{Access, by_index, by_key, Member}
 use Rattle.upon_types.specs.Val.{Val}
 use Rattle.upon_types.specs.declared.error.Error.{Error}
 use Rattle.upon_types.specs.declared.value.cow.ValueCow.{ValueCow}
-use Rattle.upon_render.specs.Answer.{Answers, TellsFaultOrMemory, maybe_view, IsLent, IsLentIfAny, Lends}
+use Rattle.upon_lookup.specs.Answer.{Answers, TellsFaultOrMemory, maybe_view, IsLent, IsLentIfAny, Lends}
 use Rattle.upon_render.specs.Cursor.{lends_bound}
-use Rattle.upon_render.specs.Environment.{Bound, Binding, Root, Environment, bind_all, first_bound, binding_of}
-use Rattle.upon_render.specs.Finding.{Finding, found, at_fault}
+use Rattle.upon_lookup.specs.Environment.{Bound, Binding, Root, Environment, bind_all, first_bound, binding_of}
+use Rattle.upon_lookup.specs.Finding.{Finding, found, at_fault}
 use Rattle.upon_render.specs.Frames.{lends_bound_or}
-use Rattle.upon_render.specs.Lookup.{bound_value, maybe_bound, bindings_walk}
-use Rattle.upon_render.specs.Seen.{FindsMade, FindsSeen, TellsMade, TellsSeen}
-use Rattle.upon_render.specs.Settled.{SettledPath, known_path, or_root_settles, FindsSettled}
-use Rattle.upon_render.specs.declared.value.Found.{Found}
-use Rattle.upon_render.specs.declared.value.Found.TheVariants.{Lent, Held, Unknown, Below}
-use Rattle.upon_render.specs.declared.value.Made.{Made}
-use Rattle.upon_render.specs.Walk.{as_some}
+use Rattle.upon_lookup.specs.Lookup.{bound_value, maybe_bound, bindings_walk}
+use Rattle.upon_lookup.specs.Seen.{FindsMade, FindsSeen, TellsMade, TellsSeen}
+use Rattle.upon_lookup.specs.Settled.{SettledPath, known_path, or_root_settles, FindsSettled}
+use Rattle.upon_lookup.specs.declared.value.Found.{Found}
+use Rattle.upon_lookup.specs.declared.value.Found.TheVariants.{Lent, Held, Unknown, Below}
+use Rattle.upon_lookup.specs.declared.value.Made.{Made}
+use Rattle.upon_lookup.specs.Walk.{as_some}
 
 -- ---- bindings ahead of others
 abbrev first_or : Option Bound → Option Bound → Option Bound

@@ -1,5 +1,3 @@
-pub mod ValueItems
-pub mod Tells
 pub mod Starts
 pub mod Known
 pub mod PathSpan

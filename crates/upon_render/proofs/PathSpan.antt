@@ -3,7 +3,7 @@ use Rattle.std.proofs.Common.{ℕ, List, [], ◌∷◌}
 use Rattle.upon_types.specs.Path.{Member, last_member, path_span}
 use Rattle.upon_types.specs.Span.{LiesIn}
 use Rattle.upon_types.proofs.CombinedSpans.{combined_lies_in}
-use Rattle.upon_render.specs.PathSpans.{MembersLieIn}
+use Rattle.upon_lookup.specs.PathSpans.{MembersLieIn}
 
 last_step_lies_in : (source : List ℕ) (first : Member) (rest : List Member) → LiesIn source first.span → MembersLieIn source rest → LiesIn source (last_member first rest).span
 last_step_lies_in source first [] lies lie = lies

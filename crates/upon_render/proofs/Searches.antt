@@ -9,16 +9,16 @@ use Rattle.upon_types.specs.View.{view}
 use Rattle.upon_types.specs.declared.value.Value.{Value}
 use Rattle.upon_types.specs.declared.error.Error.{Error}
 use Rattle.upon_types.specs.declared.value.cow.ValueCow.{ValueCow}
-use Rattle.upon_render.specs.Answer.{Answers, IsLent, Lends}
-use Rattle.upon_render.specs.Environment.{Root, context, value_source, nothing, Environment, root_environment}
-use Rattle.upon_render.specs.Finding.{Finding, found, at_fault, Reply, reply}
+use Rattle.upon_lookup.specs.Answer.{Answers, IsLent, Lends}
+use Rattle.upon_lookup.specs.Environment.{Root, context, value_source, nothing, Environment, root_environment}
+use Rattle.upon_lookup.specs.Finding.{Finding, found, at_fault, Reply, reply}
 use Rattle.upon_render.specs.Frames.{frame_over, frames_over, frame_lends, frames_lend}
-use Rattle.upon_render.specs.Seen.{FindsMade, LooksUp, RootTells, made_view}
-use Rattle.upon_render.specs.Lookup.{or_root, root_value, lookup}
-use Rattle.upon_render.specs.Settled.{SettledPath, known_path, root_settles, or_root_settles, Settles, FindsSettled}
-use Rattle.upon_render.specs.Source.{Source}
+use Rattle.upon_lookup.specs.Seen.{FindsMade, LooksUp, RootTells, made_view}
+use Rattle.upon_lookup.specs.Lookup.{or_root, root_value, lookup}
+use Rattle.upon_lookup.specs.Settled.{SettledPath, known_path, root_settles, or_root_settles, Settles, FindsSettled}
+use Rattle.upon_lookup.specs.Source.{Source}
 use Rattle.upon_render.specs.declared.stack.State.{State}
-use Rattle.upon_render.specs.declared.value.Made.{Made}
+use Rattle.upon_lookup.specs.declared.value.Made.{Made}
 use Rattle.upon_render.proofs.Known.{bound_to-nil}
 
 -- ---- one frame more

@@ -9,7 +9,7 @@ use Rattle.upon_types.proofs.Bindings.{rises-entries}
 use Rattle.upon_types.proofs.Views.{Entry, view-List, view-Map}
 use Rattle.upon_render.specs.Items.{item_binds, entry_binds}
 use Rattle.upon_render.specs.LoopItems.{binds, lone_items, entry_items}
-use Rattle.upon_render.specs.Vals.{val_list}
+use Rattle.upon_lookup.specs.Vals.{val_list}
 
 pub binds-lone_items : (name : Ident) (vs : List Value) → map (item_binds name) (val_list (vals_view vs)) ≡ map (binds (item name)) (lone_items vs)
 binds-lone_items name [] = refl

@@ -3,10 +3,10 @@ use Rattle.std.specs.Prelude.{ℕ, List, [], ◌∷◌, map}
 use Rattle.upon_types.specs.declared.types.Span.{Span}
 use Rattle.upon_types.specs.Path.{Ident, LoopVars, item, key_value}
 use Rattle.upon_types.specs.Val.{Val, list_val, map_val, entry_list}
-use Rattle.upon_render.specs.Environment.{Binding, binding, plain, key_text}
-use Rattle.upon_render.specs.Finding.{Finding, found, at_fault}
-use Rattle.upon_render.specs.LookupFaults.{not_iterable, list_item_into_two, map_item_into_one}
-use Rattle.upon_render.specs.Vals.{val_list}
+use Rattle.upon_lookup.specs.Environment.{Binding, binding, plain, key_text}
+use Rattle.upon_lookup.specs.Finding.{Finding, found, at_fault}
+use Rattle.upon_lookup.specs.LookupFaults.{not_iterable, list_item_into_two, map_item_into_one}
+use Rattle.upon_lookup.specs.Vals.{val_list}
 
 -- the item of a list
 abbrev pub item_binds : Ident → Val → List Binding

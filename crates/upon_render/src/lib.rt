@@ -2,10 +2,6 @@
 #![tactic(auto)]
 
 mod entry;
-mod faults;
 mod items;
 pub mod iter;
-pub mod source;
 pub mod stack;
-pub mod value;
-pub mod value_fn;

@@ -4,25 +4,27 @@ ghost use Rattle.upon_types.specs.AstPath.{member_of, first_member, rest_members
 ghost use Rattle.upon_types.specs.Cow.{cow_view};
 ghost use Rattle.upon_types.specs.Span.{LiesIn};
 ghost use Rattle.upon_types.specs.View.{view};
-ghost use Rattle.upon_render.specs.Answer.{Answers, maybe_view, is_borrowed_value, IsLent, IsLentIfAny, Lends};
+ghost use Rattle.upon_lookup.specs.Answer.{Answers, maybe_view, is_borrowed_value, IsLent, IsLentIfAny, Lends};
 ghost use Rattle.upon_render.specs.Cursor.{lends_bound};
 ghost use Rattle.upon_render.specs.Loop.{cursor};
-ghost use Rattle.upon_render.specs.Environment.{Environment, value_source, binding, plain, binding_of};
+ghost use Rattle.upon_lookup.specs.Environment.{Environment, value_source, binding, plain, binding_of};
 ghost use Rattle.upon_render.specs.Frames.{frame_over, frames_over, frame_lends, frames_lend};
-ghost use Rattle.upon_render.specs.Seen.{FindsMade, FindsSeen, LooksUp, RootTells, TellsSeen, made_view};
-ghost use Rattle.upon_render.specs.Lookup.{lookup, root_value, bindings_walk, or_not_in_scope};
-ghost use Rattle.upon_render.specs.PathSpans.{MembersLieIn};
-ghost use Rattle.upon_render.specs.Settled.{known_path, FindsSettled};
-ghost use Rattle.upon_render.specs.Source.{Source};
+ghost use Rattle.upon_lookup.specs.Seen.{FindsMade, FindsSeen, LooksUp, RootTells, TellsSeen, made_view};
+ghost use Rattle.upon_lookup.specs.Lookup.{lookup, root_value, bindings_walk, or_not_in_scope};
+ghost use Rattle.upon_lookup.specs.PathSpans.{MembersLieIn};
+ghost use Rattle.upon_lookup.specs.Settled.{known_path, FindsSettled};
+ghost use Rattle.upon_lookup.specs.Source.{Source};
 ghost use Rattle.upon_render.specs.Roots.{pure_root, root_lends, HasSource, KeepsRoot, OrOutOfMemory};
-ghost use Rattle.upon_render.specs.Walk.{context_walk};
+ghost use Rattle.upon_lookup.specs.Walk.{context_walk};
 
 use crate::entry::{find_in_entry, lookup_in_entry};
-use crate::faults;
 use crate::iter::LoopState;
-use crate::source::{SourceError, ValueSource, members};
-use crate::value::{Found, Made, find_bound, find_in_context, lookup_bound, lookup_in_context};
 use std::alloc::{AllocError, Global};
+use upon_lookup::faults;
+use upon_lookup::source::{SourceError, ValueSource, members};
+use upon_lookup::value::{
+    Found, Made, find_bound, find_in_context, lookup_bound, lookup_in_context,
+};
 use upon_types::error::Result;
 use upon_types::types::ast::{Access, Ident, Member, String as Quoted, Var};
 use upon_types::value::{Value, ValueCow};

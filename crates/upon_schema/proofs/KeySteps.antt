@@ -7,7 +7,7 @@ use Rattle.upon_shape_spec.specs.Fits.{Held, Fits, KeyFits, MapsRise}
 use Rattle.upon_shape.specs.View.{shape_view, ahead}
 use Rattle.upon_shape.specs.declared.shape.Key.{Key}
 use Rattle.upon_shape.specs.declared.shape.Shape.{Shape}
-use Rattle.upon_types.specs.View.{view as value_view, vals_view}
+use Rattle.upon_types.specs.View.{view, vals_view}
 use Rattle.upon_types.specs.declared.value.Value.{Value}
 use Rattle.upon_shape.proofs.KeysAhead.{ahead-push}
 use Rattle.upon_shape.proofs.Steps.{cut_before}
@@ -80,17 +80,17 @@ keys_covered P schema names others old new is covers first more es rise hold key
     more (properties_of schema) es key there held (first es rise hold.0 there key) (other_keys others) held
 
 -- ---- names of keys that a map must have
-cut_names : (key : List ℕ) (vs : List Value) (i : ℕ) (x : Value) (text : List ℕ) → i < length vs → x ≡ get_or vs i x → value_view x ≡ text_val text
+cut_names : (key : List ℕ) (vs : List Value) (i : ℕ) (x : Value) (text : List ℕ) → i < length vs → x ≡ get_or vs i x → view x ≡ text_val text
     → has_text key (vals_view (drop i vs)) ≡ (bytes_eq key text || has_text key (vals_view (drop (i + 1) vs)))
 cut_names key vs i x text less is e =
     ap (λ (ws : List Value). has_text key (vals_view ws)) (cut_before vs i x less is) ∙ ap (λ (w : Val). has_text key (val_then w (vals_view (drop (i + 1) vs)))) e
 
-pub name_first : (key : List ℕ) (vs : List Value) (i : ℕ) (x : Value) (text : List ℕ) → i < length vs → x ≡ get_or vs i x → value_view x ≡ text_val text → key ≡ text
+pub name_first : (key : List ℕ) (vs : List Value) (i : ℕ) (x : Value) (text : List ℕ) → i < length vs → x ≡ get_or vs i x → view x ≡ text_val text → key ≡ text
     → has_text key (vals_view (drop i vs)) ≡ true
 name_first key vs i x text less is e same =
     cut_names key vs i x text less is e ∙ or_first (bytes_eq key text) (has_text key (vals_view (drop (i + 1) vs))) ((bytes_eq-Decides key text).1 same)
 
-pub name_later : (key : List ℕ) (vs : List Value) (i : ℕ) (x : Value) (text : List ℕ) → i < length vs → x ≡ get_or vs i x → value_view x ≡ text_val text
+pub name_later : (key : List ℕ) (vs : List Value) (i : ℕ) (x : Value) (text : List ℕ) → i < length vs → x ≡ get_or vs i x → view x ≡ text_val text
     → has_text key (vals_view (drop (i + 1) vs)) ≡ true → has_text key (vals_view (drop i vs)) ≡ true
 name_later key vs i x text less is e h =
     cut_names key vs i x text less is e ∙ or_second (bytes_eq key text) (has_text key (vals_view (drop (i + 1) vs))) h

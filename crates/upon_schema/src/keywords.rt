@@ -1,7 +1,7 @@
 // Which keywords are known, and what those have that have no schema.
 ghost use Rattle.std.specs.Prelude.{◌≡◌, IfOk};
 ghost use Rattle.upon_types.specs.Val.{Val};
-ghost use Rattle.upon_types.specs.View.{view as value_view, vals_view};
+ghost use Rattle.upon_types.specs.View.{view, vals_view};
 ghost use Rattle.upon_shape_spec.specs.Fits.{Fits};
 ghost use Rattle.upon_shape.specs.View.{shape_view};
 ghost use Rattle.upon_schema.specs.Valid.{EnumHolds, required_of};
@@ -64,7 +64,7 @@ pub(crate) fn required_keys<'a>(
     alloc: Global,
     schema: &'a Value,
 ) -> Result<&'a [Value], SchemaFault>
-    ensures { IfOk result (λ names. vals_view names.now ≡ required_of (value_view schema.now)) }
+    ensures { IfOk result (λ names. vals_view names.now ≡ required_of (view schema.now)) }
 {
     match entry(schema, "required") {
         None => Ok(&[]),
@@ -81,7 +81,7 @@ fn are_texts(values: &[Value]) -> bool {
 // The shape of those values of a shape that are among those that the schema lists.
 pub(crate) fn listed(alloc: Global, schema: &Value, shape: Shape) -> Result<Shape, SchemaFault>
     ensures { IfOk result
-        (λ s. (v : Val) → EnumHolds (value_view schema.now) v → Fits (shape_view shape) v → Fits (shape_view s) v) }
+        (λ s. (v : Val) → EnumHolds (view schema.now) v → Fits (shape_view shape) v → Fits (shape_view s) v) }
 {
     let Some(found) = entry(schema, "enum") else {
         return Ok(shape);

@@ -1,7 +1,7 @@
 // The shape of the values that are valid by a schema.
 ghost use Rattle.std.specs.Prelude.{◌≡◌, ℕ, List, true, false, Some, None, IfOk, OnOk};
 ghost use Rattle.upon_types.specs.Val.{Val, Entries, map_val, entry_at};
-ghost use Rattle.upon_types.specs.View.{view as value_view, vals_view};
+ghost use Rattle.upon_types.specs.View.{view, vals_view};
 ghost use Rattle.upon_shape_spec.specs.Fits.{Fits, Held, MapsRise};
 ghost use Rattle.upon_shape_spec.specs.Shape.{plain};
 ghost use Rattle.upon_shape.specs.View.{shape_view, keys_view, plain_view};
@@ -34,7 +34,7 @@ const MAX_SCHEMAS: usize = 65_536;
 /// nothing refers to are not looked at.
 pub fn shape_of_schema(alloc: Global, schema: &Value) -> Result<Shape, SchemaFault>
     ensures { IfOk result
-        (λ s. (v : Val) → MapsRise v → Valid (value_view schema.now) v → Fits (shape_view s) v) }
+        (λ s. (v : Val) → MapsRise v → Valid (view schema.now) v → Fits (shape_view s) v) }
 {
     let open = ["#"];
     let place = Place {
@@ -50,7 +50,7 @@ pub fn shape_of_schema(alloc: Global, schema: &Value) -> Result<Shape, SchemaFau
 // The shape of what is valid by a schema.
 #[cycle(read)]
 fn read(place: &Place<'_>, schema: &Value, left: &mut usize) -> Result<Shape, SchemaFault>
-    ensures { IfOk result (λ s. Covers (shape_view s) (ValidAt place.now (value_view schema.now))) }
+    ensures { IfOk result (λ s. Covers (shape_view s) (ValidAt place.now (view schema.now))) }
 {
     let inner = place.inside(left)?;
     match schema {
@@ -72,7 +72,7 @@ fn referred_shape(
     left: &mut usize,
 ) -> Result<Shape, SchemaFault>
     ensures { IfOk result (λ s. Covers (shape_view s) (λ v. (root : Val) → ReferenceHolds (ValidAt place.now)
-        (value_view place.now.root.now) root (Some (value_view reference.now)) v)) }
+        (view place.now.root.now) root (Some (view reference.now)) v)) }
 {
     let alloc = place.alloc;
     let Value::String(reference) = reference else {
@@ -100,7 +100,7 @@ fn referred_shape(
 // The shape of what is valid by the keywords of a schema.
 #[cycle(read)]
 fn keywords_shape(place: &Place<'_>, schema: &Value, left: &mut usize) -> Result<Shape, SchemaFault>
-    ensures { IfOk result (λ s. Covers (shape_view s) (KeywordsHold (ValidAt place.now) (value_view schema.now))) }
+    ensures { IfOk result (λ s. Covers (shape_view s) (KeywordsHold (ValidAt place.now) (view schema.now))) }
 {
     let alloc = place.alloc;
     check_keywords(alloc, schema)?;
@@ -124,7 +124,7 @@ fn shape_at(
     left: &mut usize,
 ) -> Result<Shape, SchemaFault>
     ensures { IfOk result
-        (λ s. Covers (shape_view s) (ValidAtKey (ValidAt place.now) keyword.now (value_view schema.now))) }
+        (λ s. Covers (shape_view s) (ValidAtKey (ValidAt place.now) keyword.now (view schema.now))) }
 {
     let Some(inner) = entry(schema, keyword) else {
         return Ok(Shape::Any);
@@ -139,7 +139,7 @@ fn shape_at(
 #[cycle(read)]
 fn keys_of(place: &Place<'_>, schema: &Value, left: &mut usize) -> Result<Keys<Shape>, SchemaFault>
     ensures { IfOk result
-        (λ ks. CoversMaps (keys_view ks) (EntriesHold (ValidAt place.now) (value_view schema.now))) }
+        (λ ks. CoversMaps (keys_view ks) (EntriesHold (ValidAt place.now) (view schema.now))) }
 {
     let alloc = place.alloc;
     let required = required_keys(alloc, schema)?;
@@ -161,9 +161,9 @@ fn properties(
     left: &mut usize,
 ) -> Result<Vec<Key<Shape>>, SchemaFault>
     ensures { IfOk result (λ named. (es : Entries) → MapsRise (map_val es)
-        → PropertiesHold (ValidAt place.now) (properties_of (value_view schema.now)) es
+        → PropertiesHold (ValidAt place.now) (properties_of (view schema.now)) es
         → RequiredHold (vals_view required.now) es → (key : List ℕ)
-        → FitsAhead (properties_of (value_view schema.now)) key (entry_at key es) named.items) }
+        → FitsAhead (properties_of (view schema.now)) key (entry_at key es) named.items) }
 {
     let alloc = place.alloc;
     let mut named = Vec::new(alloc);

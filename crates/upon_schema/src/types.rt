@@ -1,6 +1,6 @@
 // The shapes of the types that a schema names.
 ghost use Rattle.std.specs.Prelude.{IfOk, codes};
-ghost use Rattle.upon_types.specs.View.{view as value_view, vals_view};
+ghost use Rattle.upon_types.specs.View.{view, vals_view};
 ghost use Rattle.upon_shape.specs.View.{shape_view};
 ghost use Rattle.upon_schema.specs.Covers.{Covers};
 ghost use Rattle.upon_schema.specs.Valid.{IsOfType, IsOfTypes, TypeHolds};
@@ -13,7 +13,7 @@ use upon_types::value::look::entry;
 
 // The shape of the values of the types that the schema names, or of any value if it names none.
 pub(crate) fn types_shape(alloc: Global, schema: &Value) -> Result<Shape, SchemaFault>
-    ensures { IfOk result (λ s. Covers (shape_view s) (TypeHolds (value_view schema.now))) }
+    ensures { IfOk result (λ s. Covers (shape_view s) (TypeHolds (view schema.now))) }
 {
     let Some(found) = entry(schema, "type") else {
         return Ok(Shape::Any);

@@ -1,7 +1,7 @@
 // The schema of a shape.
 ghost use Rattle.std.specs.Prelude.{◌≡◌, IfOk, OnOk};
 ghost use Rattle.upon_types.specs.Val.{Vals};
-ghost use Rattle.upon_types.specs.View.{view as value_view, vals_view, entries_view};
+ghost use Rattle.upon_types.specs.View.{view, vals_view, entries_view};
 ghost use Rattle.upon_meaning_spec.specs.Entries.{with_entry};
 ghost use Rattle.upon_shape.specs.View.{shape_view, plain_view, keys_view, lists_view, maps_view};
 ghost use Rattle.upon_schema.specs.Written.{is_true_schema, kind_names, name_if, one_or_all, required_in, schema_value, typed, vals_ahead, with_items, with_keys, with_properties, with_required, with_schema};
@@ -15,7 +15,7 @@ use upon_types::value::Value;
 /// there is no memory for the schema.
 #[cycle(write)]
 pub fn schema_of(alloc: Global, shape: &Shape) -> Result<Value, AllocError>
-    ensures { IfOk result (λ v. value_view v ≡ schema_value (shape_view shape.now)) }
+    ensures { IfOk result (λ v. view v ≡ schema_value (shape_view shape.now)) }
 {
     match shape {
         Shape::Any => Ok(Value::Bool(true)),
@@ -131,7 +131,7 @@ fn of_types(
     mut keywords: BTreeMap<String, Value>,
 ) -> Result<Value, AllocError>
     ensures { IfOk result
-        (λ v. value_view v ≡ typed (vals_view names.items) (entries_view keywords.entries)) }
+        (λ v. view v ≡ typed (vals_view names.items) (entries_view keywords.entries)) }
 {
     if names.is_empty() {
         return Ok(Value::Bool(false));
@@ -142,7 +142,7 @@ fn of_types(
 
 // The only value, or the list of all.
 fn one_or_all(values: Vec<Value>) -> Result<Value, AllocError>
-    ensures { IfOk result (λ v. value_view v ≡ one_or_all (vals_view values.items)) }
+    ensures { IfOk result (λ v. view v ≡ one_or_all (vals_view values.items)) }
 {
     if values.len() == 1 {
         return values[0].try_clone();
@@ -158,7 +158,7 @@ fn add_schema(
     keywords: &mut BTreeMap<String, Value>,
 ) -> Result<(), AllocError>
     ensures { OnOk result (entries_view keywords.new.entries
-        ≡ with_schema keyword.now (value_view schema) (entries_view keywords.old.entries)) }
+        ≡ with_schema keyword.now (view schema) (entries_view keywords.old.entries)) }
 {
     if is_true_schema(&schema) {
         return Ok(());
@@ -168,7 +168,7 @@ fn add_schema(
 
 // Whether a schema is true.
 fn is_true_schema(schema: &Value) -> bool
-    ensures { result ≡ is_true_schema (value_view schema.now) }
+    ensures { result ≡ is_true_schema (view schema.now) }
 {
     match schema {
         Value::Bool(truth) => *truth,
@@ -214,7 +214,7 @@ fn put(
     value: Value,
 ) -> Result<(), AllocError>
     ensures { OnOk result (entries_view entries.new.entries
-        ≡ with_entry key.now (value_view value) (entries_view entries.old.entries)) }
+        ≡ with_entry key.now (view value) (entries_view entries.old.entries)) }
 {
     drop(entries.insert(String::from_str(alloc, key)?, value)?);
     Ok(())

@@ -1,6 +1,6 @@
 // Shapes of data.
 ghost use Rattle.std.specs.Prelude.{◌≡◌, map, IfOk};
-ghost use Rattle.upon_types.specs.View.{view as value_view, vals_view, entries_view};
+ghost use Rattle.upon_types.specs.View.{view, vals_view, entries_view};
 ghost use Rattle.upon_shape_spec.specs.Fits.{Fits, MapsRise, AllRise};
 ghost use Rattle.upon_shape_spec.specs.Join.{shape_of, items_shape, keys_shape, samples_shape};
 ghost use Rattle.upon_types.specs.Val.{Val, map_val};
@@ -15,8 +15,8 @@ use upon_types::value::Value;
 impl Shape {
     /// Returns the shape of a value, which the value fits. It fails if there is no memory for the shape.
     pub fn of(alloc: Global, value: &Value) -> Result<Shape, AllocError>
-        ensures shape { IfOk result (λ s. shape_view s ≡ shape_of (value_view value.now)) }
-        ensures fits { IfOk result (λ s. Fits (shape_view s) (value_view value.now)) }
+        ensures shape { IfOk result (λ s. shape_view s ≡ shape_of (view value.now)) }
+        ensures fits { IfOk result (λ s. Fits (shape_view s) (view value.now)) }
     {
         value_shape(alloc, value)
     }
@@ -24,9 +24,9 @@ impl Shape {
     /// Returns the shape of samples, which each sample fits: their shapes joined. It fails if there is no memory for
     /// the shape.
     pub fn of_samples(alloc: Global, samples: &[Value]) -> Result<Shape, AllocError>
-        ensures shape { IfOk result (λ s. shape_view s ≡ samples_shape (map value_view samples.now)) }
+        ensures shape { IfOk result (λ s. shape_view s ≡ samples_shape (map view samples.now)) }
         ensures fits { IfOk result
-            (λ s. (v : Val) → IsAmong v (map value_view samples.now) → Fits (shape_view s) v) }
+            (λ s. (v : Val) → IsAmong v (map view samples.now) → Fits (shape_view s) v) }
     {
         joined_shape(alloc, samples)
     }
@@ -34,8 +34,8 @@ impl Shape {
 
 #[cycle(of)]
 fn value_shape(alloc: Global, value: &Value) -> Result<Shape, AllocError>
-    ensures shape { IfOk result (λ s. shape_view s ≡ shape_of (value_view value.now)) }
-    ensures rises { IfOk result (λ s. MapsRise (value_view value.now)) }
+    ensures shape { IfOk result (λ s. shape_view s ≡ shape_of (view value.now)) }
+    ensures rises { IfOk result (λ s. MapsRise (view value.now)) }
 {
     match value {
         Value::None => Ok(Shape::none()),

@@ -6,9 +6,9 @@ use Rattle.upon_types.specs.Expression.{Expression, base, filtered, Base, var, l
 use Rattle.upon_types.specs.Path.{Ident, path_span}
 use Rattle.upon_types.specs.Val.{Val, none_val, bool_val, int_val, text_val, list_val, map_val, Entries, no_entries, entry_at, rises}
 use Rattle.upon_types.specs.View.{vals_of}
-use Rattle.upon_render.specs.Environment.{Environment}
-use Rattle.upon_render.specs.Finding.{Finding, found, at_fault, Reply, reply, on_found}
-use Rattle.upon_render.specs.Lookup.{lookup}
+use Rattle.upon_lookup.specs.Environment.{Environment}
+use Rattle.upon_lookup.specs.Finding.{Finding, found, at_fault, Reply, reply, on_found}
+use Rattle.upon_lookup.specs.Lookup.{lookup}
 use Rattle.upon_meaning_spec.specs.Engine.{Calls}
 use Rattle.upon_meaning_spec.specs.Entries.{with_entry}
 use Rattle.upon_meaning_spec.specs.Evaluation.{Operand, values_of, answer_value, call_value, with_span, append_operand, as_list, as_map, application, evaluate, evaluate_base, evaluate_bases, evaluate_items, evaluate_arguments}

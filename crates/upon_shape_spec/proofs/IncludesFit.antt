@@ -4,7 +4,7 @@ use Rattle.std.proofs.lemmas.Slice.Eq.{bytes_eq-Decides}
 use Rattle.upon_types.specs.Fault.{Fault}
 use Rattle.upon_types.specs.Path.{Ident}
 use Rattle.upon_types.specs.Val.{Val}
-use Rattle.upon_render.specs.Environment.{Environment, context, root_environment}
+use Rattle.upon_lookup.specs.Environment.{Environment, context, root_environment}
 use Rattle.upon_meaning_spec.specs.Alone.{running, on_template, included, alone_within, fault_of_end}
 use Rattle.upon_meaning_spec.specs.CallFaults.{depth_reached}
 use Rattle.upon_meaning_spec.specs.Engine.{Template, Table, Calls, table_answer, from_table}

@@ -9,12 +9,12 @@ use Rattle.upon_types.specs.Fault.{Fault}
 use Rattle.upon_types.specs.Path.{Access, by_index, by_key, Member, path_span}
 use Rattle.upon_types.specs.Truth.{truth}
 use Rattle.upon_types.specs.Val.{Val, none_val, bool_val, int_val, text_val, list_val, map_val, Entries, entry_at}
-use Rattle.upon_render.specs.Environment.{Bound, plain, key_text, loop_state, Binding, Root, context, value_source, nothing, Environment, first_bound, binding_of}
-use Rattle.upon_render.specs.Finding.{Finding, found, at_fault, reply, on_found}
-use Rattle.upon_render.specs.Lookup.{bound_value, maybe_bound, or_not_in_scope, or_root, lookup}
-use Rattle.upon_render.specs.LookupFaults.{not_in_map}
-use Rattle.upon_render.specs.Source.{Source}
-use Rattle.upon_render.specs.Walk.{found_or_missed, member_by_access, lookup_member, after_member, after_first, walk, as_some}
+use Rattle.upon_lookup.specs.Environment.{Bound, plain, key_text, loop_state, Binding, Root, context, value_source, nothing, Environment, first_bound, binding_of}
+use Rattle.upon_lookup.specs.Finding.{Finding, found, at_fault, reply, on_found}
+use Rattle.upon_lookup.specs.Lookup.{bound_value, maybe_bound, or_not_in_scope, or_root, lookup}
+use Rattle.upon_lookup.specs.LookupFaults.{not_in_map}
+use Rattle.upon_lookup.specs.Source.{Source}
+use Rattle.upon_lookup.specs.Walk.{found_or_missed, member_by_access, lookup_member, after_member, after_first, walk, as_some}
 use Rattle.upon_meaning_spec.specs.Engine.{Calls}
 use Rattle.upon_meaning_spec.specs.Evaluation.{Operand, operand, evaluate, evaluate_base}
 use Rattle.upon_shape_spec.specs.Fits.{Held, Fits, MapFits}

@@ -7,14 +7,14 @@ use Rattle.upon_types.specs.declared.types.ast.path.AccessOp.TheVariants.{Direct
 use Rattle.upon_types.specs.Fault.{Fault}
 use Rattle.upon_types.specs.Path.{Access, by_index, by_key, Member}
 use Rattle.upon_types.specs.Val.{Val, none_val, bool_val, int_val, text_val, list_val, map_val, Vals, no_vals, val_then, Entries, entry_at}
-use Rattle.upon_render.specs.Environment.{Bound, plain, key_text, loop_state, Binding, Root, context, value_source, nothing, Environment, binding_of}
-use Rattle.upon_render.specs.Finding.{Finding, found, at_fault}
-use Rattle.upon_render.specs.Lookup.{state_member, after_state, state_map, is_first, is_last, bound_value, maybe_bound, or_not_in_scope, root_value, or_root, lookup}
-use Rattle.upon_render.specs.LookupFaults.{not_in_map, out_of_bounds}
-use Rattle.upon_render.specs.Source.{Source}
-use Rattle.upon_render.specs.Vals.{val_list}
-use Rattle.upon_render.specs.Walk.{miss, found_or_missed, index_in, key_in, member_by_access, lookup_member, after_first, walk, as_some}
-use Rattle.upon_render.specs.Walk.{after_member as go_after_member}
+use Rattle.upon_lookup.specs.Environment.{Bound, plain, key_text, loop_state, Binding, Root, context, value_source, nothing, Environment, binding_of}
+use Rattle.upon_lookup.specs.Finding.{Finding, found, at_fault}
+use Rattle.upon_lookup.specs.Lookup.{state_member, after_state, state_map, is_first, is_last, bound_value, maybe_bound, or_not_in_scope, root_value, or_root, lookup}
+use Rattle.upon_lookup.specs.LookupFaults.{not_in_map, out_of_bounds}
+use Rattle.upon_lookup.specs.Source.{Source}
+use Rattle.upon_lookup.specs.Vals.{val_list}
+use Rattle.upon_lookup.specs.Walk.{miss, found_or_missed, index_in, key_in, member_by_access, lookup_member, after_first, walk, as_some}
+use Rattle.upon_lookup.specs.Walk.{after_member}
 use Rattle.upon_shape_spec.specs.Fits.{EachValue, Held, Fits, ListFits, MapFits}
 use Rattle.upon_shape_spec.specs.Found.{Finds, FindsShape}
 use Rattle.upon_shape_spec.specs.Join.{shape_of}
@@ -141,7 +141,7 @@ not_missed : (o : Option Shape) (x : Finding Val) → FindsShape o x → FindsSh
 not_missed None x h = tt
 not_missed (Some s) x h = optional_found s x h
 
-on_member : (m : MemberShape) (x : Finding (Option Val)) (go_shape : Shape → Option Shape) (go : Val → Finding Val) → MemberFinds m x → ((s : Shape) (v : Val) → Fits s v → FindsShape (go_shape s) (go v)) → FindsShape (after_member_shape m go_shape) (go_after_member x go)
+on_member : (m : MemberShape) (x : Finding (Option Val)) (go_shape : Shape → Option Shape) (go : Val → Finding Val) → MemberFinds m x → ((s : Shape) (v : Val) → Fits s v → FindsShape (go_shape s) (go v)) → FindsShape (after_member_shape m go_shape) (after_member x go)
 on_member may_fail x go_shape go h k = tt
 on_member (finds s) (found (Some v)) go_shape go h k = k s v h
 on_member (finds s) (found None) go_shape go h k = absurd h
@@ -156,7 +156,7 @@ walk_finds (member ∷ members) s v h = on_member (member_shape member.op member
 
 -- ---- where a path is
 -- in a context, what the walk finds is found
-context_finds : (o : Option Shape) (x : Finding (Option Val)) (go : Val → Finding Val) (at : Span) → FindsShape o (go_after_member x go) → FindsShape o (or_not_in_scope (after_first x go) at)
+context_finds : (o : Option Shape) (x : Finding (Option Val)) (go : Val → Finding Val) (at : Span) → FindsShape o (after_member x go) → FindsShape o (or_not_in_scope (after_first x go) at)
 context_finds None x go at h = tt
 context_finds (Some s) (found (Some v)) go at h = carried s (go v) at h
   where

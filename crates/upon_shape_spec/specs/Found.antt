@@ -1,7 +1,7 @@
 -- Searches that are sure to find something.
 use Rattle.std.specs.Prelude.{Option, Some, None}
 use Rattle.upon_types.specs.Val.{Val}
-use Rattle.upon_render.specs.Finding.{Finding, found, at_fault}
+use Rattle.upon_lookup.specs.Finding.{Finding, found, at_fault}
 use Rattle.upon_meaning_spec.specs.Evaluation.{Operand}
 use Rattle.upon_shape_spec.specs.Fits.{Fits}
 use Rattle.upon_shape_spec.specs.Shape.{Shape}

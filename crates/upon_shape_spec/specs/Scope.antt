@@ -3,8 +3,8 @@ use Rattle.std.specs.Prelude.{ℕ, List, [], ◌∷◌, ◌++◌, Bool, true, fa
 use Rattle.upon_types.specs.declared.types.ast.path.AccessOp.{AccessOp}
 use Rattle.upon_types.specs.declared.types.ast.path.AccessOp.TheVariants.{Direct, Optional}
 use Rattle.upon_types.specs.Path.{Access, by_index, by_key, Member}
-use Rattle.upon_render.specs.Environment.{Bound, plain, key_text, loop_state, Binding, Root, context, value_source, nothing, Environment, first_bound}
-use Rattle.upon_render.specs.Lookup.{state_map}
+use Rattle.upon_lookup.specs.Environment.{Bound, plain, key_text, loop_state, Binding, Root, context, value_source, nothing, Environment, first_bound}
+use Rattle.upon_lookup.specs.Lookup.{state_map}
 use Rattle.upon_shape_spec.specs.Fits.{Fits}
 use Rattle.upon_shape_spec.specs.Join.{shape_of}
 use Rattle.upon_shape_spec.specs.Paths.{walk_shape}

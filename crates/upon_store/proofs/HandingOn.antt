@@ -1,8 +1,8 @@
 -- A store hands on what it holds, and two that hold the same at the paths that are reached answer alike.
 use Rattle.std.proofs.Common.{◌≡◌, ◌∙◌, ℕ, List, Option, Some, None, option_map, refl, ap, sym}
 use Rattle.upon_types.specs.Tree.{Statements}
-use Rattle.upon_render.specs.Finding.{reply}
-use Rattle.upon_render.specs.Source.{says}
+use Rattle.upon_lookup.specs.Finding.{reply}
+use Rattle.upon_lookup.specs.Source.{says}
 use Rattle.upon_meaning_spec.specs.Engine.{Template}
 use Rattle.upon_meaning_spec.specs.Includes.{Reaches}
 use Rattle.upon_meaning_spec.specs.Names.{AgreeOn}

@@ -8,8 +8,8 @@ use Rattle.upon_types.specs.declared.error.Error.{Error}
 use Rattle.upon_types.specs.Tree.{Statements}
 use Rattle.upon_language_spec.specs.Grammar.{HasTree}
 use Rattle.upon_language_spec.specs.Search.{DelimiterText}
-use Rattle.upon_render.specs.Finding.{Reply, reply}
-use Rattle.upon_render.specs.Source.{SourceAnswer, says, refuses}
+use Rattle.upon_lookup.specs.Finding.{Reply, reply}
+use Rattle.upon_lookup.specs.Source.{SourceAnswer, says, refuses}
 use Rattle.upon_meaning_spec.specs.Engine.{Template, Table, Resolver}
 use Rattle.upon_meaning_spec.specs.Includes.{Reaches}
 use Rattle.upon_meaning_spec.specs.Outcome.{Outcome}

@@ -3,8 +3,8 @@ ghost use Rattle.std.specs.Prelude.{◌≡◌, ℕ, List, None, IfOk, OnErr, OnO
 ghost use Rattle.std.specs.Cow.{cow_str_bytes};
 ghost use Rattle.upon_types.specs.View.{view};
 ghost use Rattle.upon_syntax.specs.TagReading.{IsSyntaxError};
-ghost use Rattle.upon_render.specs.Asked.{refuses_all};
-ghost use Rattle.upon_render.specs.Environment.{context};
+ghost use Rattle.upon_lookup.specs.Asked.{refuses_all};
+ghost use Rattle.upon_lookup.specs.Environment.{context};
 ghost use Rattle.upon_meaning_spec.specs.Alone.{alone};
 ghost use Rattle.upon_meaning_spec.specs.Engine.{rendering_by};
 ghost use Rattle.upon_meaning_spec.specs.Outcome.{states};

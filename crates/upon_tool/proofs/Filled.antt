@@ -20,7 +20,7 @@ use Rattle.upon_engine.specs.Changes.{empty_engine, unless_refused, with_callabl
 use Rattle.upon_engine.specs.Faults.{IsSyntaxErrorOf}
 use Rattle.upon_engine.specs.Texts.{Stored, Texts}
 use Rattle.upon_engine.specs.Theorem.{IsTable}
-use Rattle.upon_engine.specs.declared.needs.Needs.{Needs}
+use Rattle.upon_needs.specs.declared.needs.Needs.{Needs}
 use Rattle.upon_tool_io.specs.declared.files.ReadFault.{ReadFault}
 use Rattle.upon_tool_io.specs.declared.arguments.Escape.{Escape}
 use Rattle.upon_tool_messages.specs.Library.{IsOfAdded}

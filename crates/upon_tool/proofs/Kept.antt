@@ -4,8 +4,8 @@ use Rattle.std.specs.List.{filter, list_any}
 use Rattle.std.proofs.lemmas.List.{append-nil}
 use Rattle.std.proofs.lemmas.List.Elements.{filter_more}
 use Rattle.std.proofs.lemmas.Slice.Eq.{bytes_eq-Decides}
-use Rattle.upon_engine.specs.Names.{texts}
-use Rattle.upon_engine.proofs.SetsOfNames.{listed_contains}
+use Rattle.upon_needs.specs.Names.{texts}
+use Rattle.upon_needs.proofs.SetsOfNames.{listed_contains}
 
 -- those of some names that pass
 abbrev pub kept : (List ℕ → Bool) → List (Bor (List ℕ)) → List (Bor (List ℕ))

@@ -11,7 +11,7 @@ use Rattle.upon_meaning_spec.specs.Engine.{Table}
 use Rattle.upon_meaning_spec.specs.Includes.{Includes}
 use Rattle.upon_engine.specs.Changes.{unless_refused, with_text}
 use Rattle.upon_engine.specs.Faults.{IsSyntaxErrorOf}
-use Rattle.upon_engine.specs.Names.{texts}
+use Rattle.upon_needs.specs.Names.{texts}
 use Rattle.upon_engine.specs.Texts.{Texts}
 use Rattle.upon_tool_messages.specs.Library.{IsOfAdded}
 use Rattle.upon_tool_messages.specs.Status.{is_memory_error, says_memory}

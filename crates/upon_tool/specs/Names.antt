@@ -2,8 +2,8 @@
 use Rattle.std.specs.Prelude.{ℕ, List, [], ◌∷◌, ◌++◌, Bool, if◌then◌else◌, codes, ◌==◌}
 use Rattle.std.specs.Str.{byte}
 use Rattle.serde_json.specs.Written.{compact_text}
-use Rattle.upon_engine.specs.EngineNeeds.{needed_names, reached_templates, missing_names, needs_whole}
-use Rattle.upon_engine.specs.declared.needs.Needs.{Needs}
+use Rattle.upon_needs.specs.EngineNeeds.{needed_names, reached_templates, missing_names, needs_whole}
+use Rattle.upon_needs.specs.declared.needs.Needs.{Needs}
 use Rattle.upon_calls.specs.Names.{needs_data}
 
 -- a byte of a name in one line: a line break as `\n`, and a backslash as two

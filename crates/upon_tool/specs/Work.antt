@@ -8,7 +8,7 @@ use Rattle.upon_meaning_spec.specs.Engine.{Table, Template}
 use Rattle.upon_engine.specs.Faults.{IsSyntaxErrorOf}
 use Rattle.upon_engine.specs.Texts.{Texts}
 use Rattle.upon_engine.specs.Theorem.{IsTable}
-use Rattle.upon_engine.specs.declared.needs.Needs.{Needs}
+use Rattle.upon_needs.specs.declared.needs.Needs.{Needs}
 use Rattle.upon_calls.specs.Names.{NeededBy}
 use Rattle.upon_tool_data.specs.Sources.{is_standard}
 use Rattle.upon_tool_messages.specs.declared.failure.Failure.{Failure}

@@ -4,7 +4,7 @@ ghost use Rattle.upon_meaning_spec.specs.Engine.{Template as TemplateMeant};
 ghost use Rattle.upon_meaning_spec.specs.Includes.{Includes};
 ghost use Rattle.std.specs.Cow.{cow_str_bytes};
 ghost use Rattle.upon_engine.specs.Engine.{engine_syntax, engine_templates};
-ghost use Rattle.upon_engine.specs.Names.{texts};
+ghost use Rattle.upon_needs.specs.Names.{texts};
 ghost use Rattle.upon_engine.specs.Template.{template_tree};
 ghost use Rattle.upon_tool_messages.specs.Library.{refused_as};
 ghost use Rattle.upon_tool.specs.Missing.{is_nowhere, IsRightTemplate};
@@ -12,7 +12,7 @@ ghost use Rattle.upon_tool.specs.Missing.{is_nowhere, IsRightTemplate};
 use std::alloc::{AllocError, Global};
 use std::borrow::CowStr;
 use std::io;
-use upon::{Engine, Template};
+use upon::{Engine, Template, includes};
 use upon_tool_messages::call_check::CallCheck;
 use upon_tool_messages::failure::{is_memory, report_fault};
 use upon_tool_messages::includes::show_includes;
@@ -31,7 +31,7 @@ pub fn missing<'t>(
         ↔ (Includes name (template_tree template.now) × (is_nowhere own.now table name ≡ true))) }
 {
     let mut missing = Vec::new(alloc);
-    let names = template.includes()?;
+    let names = includes(template)?;
     for name in names.as_slice() {
         if is_missing(engine, own, name) {
             missing.push(*name)?;

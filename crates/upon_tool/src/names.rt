@@ -3,7 +3,7 @@ ghost use Rattle.std.specs.Prelude.{◌≡◌, ◌≤◌, None, Some, IfErr, IfO
 ghost use Rattle.std.specs.Io.KnownBytes.{Appends};
 ghost use Rattle.upon_meaning_spec.specs.Engine.{Template as TemplateMeant};
 ghost use Rattle.upon_engine.specs.Engine.{engine_templates};
-ghost use Rattle.upon_engine.specs.declared.needs.Needs.{Needs as Listed};
+ghost use Rattle.upon_needs.specs.declared.needs.Needs.{Needs as Listed};
 ghost use Rattle.upon_tool_messages.specs.Status.{tool_status};
 ghost use Rattle.upon_calls.specs.Names.{NeededBy};
 ghost use Rattle.upon_tool.specs.Names.{needs_text};
@@ -11,7 +11,7 @@ ghost use Rattle.upon_tool.specs.Names.{needs_text};
 use crate::names_text::needs_text;
 use std::alloc::Global;
 use std::io;
-use upon::{Engine, Needs};
+use upon::{Engine, Needs, needs_of};
 use upon_tool_messages::failure::{Failure, report};
 use upon_tool_messages::library::{Library, report_refusal};
 
@@ -26,7 +26,7 @@ pub fn needed<'n, 'a>(engine: &'n Engine<'_>, name: &'a str) -> Result<Needs<'n>
     ensures absent { let table = engine_templates engine.now in
         table name.entry.now ≡ None → IsErrAnd result (λ f. tool_status f ≡ 2) }
 {
-    match engine.needs(name) {
+    match needs_of(engine, name) {
         Some(needs) => Ok(needs?),
         None => Err(Failure::Unreadable(name, io::ErrorKind::NotFound.into())),
     }

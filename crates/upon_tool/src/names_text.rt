@@ -1,6 +1,6 @@
 // The texts in which it is shown what a template needs: lines, or JSON.
 ghost use Rattle.std.specs.Prelude.{◌≡◌, ◌++◌, IfOk, OnOk};
-ghost use Rattle.upon_engine.specs.Names.{texts};
+ghost use Rattle.upon_needs.specs.Names.{texts};
 ghost use Rattle.upon_tool.specs.Names.{in_line, lines_of, needs_lines, needs_text, one_line};
 
 use std::alloc::{AllocError, Global};

@@ -12,7 +12,7 @@ use std::io;
 use upon::error::ErrorKind;
 use upon::types::Span;
 use upon::types::token::Token;
-use upon::{Engine, Error, Result, Template};
+use upon::{Engine, Error, Result, Template, includes};
 use upon_delimiters::search::Searcher;
 use upon_lexer::compile::lex::Lexer;
 
@@ -144,7 +144,7 @@ fn show_count<E: io::Write>(name: &str, count: usize, err: &mut E) {
 /// Returns the name that a quoted string denotes.
 pub(crate) fn included(alloc: Global, quoted: &str) -> Result<String> {
     let template = including(alloc, quoted)?;
-    let names = template.includes()?;
+    let names = includes(&template)?;
     let name = names.first().copied().unwrap_or_default();
     Ok(String::from_str(alloc, name)?)
 }

@@ -9,7 +9,7 @@ use crate::includes::including;
 use std::alloc::{AllocError, Global};
 use std::collections::BTreeMap;
 use std::io;
-use upon::{Engine, Error};
+use upon::{Engine, Error, includes};
 use upon_tool_calls::judge::Declared;
 use upon_tool_io::files::ReadFault;
 
@@ -155,7 +155,7 @@ impl Library {
         let Ok(template) = including(self.alloc, quoted) else {
             return Err(AllocError);
         };
-        let names = template.includes()?;
+        let names = includes(&template)?;
         match names.first() {
             Some(name) => Ok(self.refused_on_way(name)),
             None => Ok(None),

@@ -10,7 +10,7 @@ use crate::known::Known;
 use crate::library::Library;
 use std::alloc::{AllocError, Global};
 use std::io::Write;
-use upon::{Engine, Error, Value};
+use upon::{Engine, Error, Value, needs_of};
 use upon_near::said::{names_text, near_text};
 use upon_tool_calls::judge::Declared;
 use upon_types::value::look::entry;
@@ -162,7 +162,7 @@ fn is_of_context(
     let Some(page) = known.page else {
         return Ok(false);
     };
-    match engine.needs(page) {
+    match needs_of(engine, page) {
         Some(needs) => Ok(needs?.names().contains(&name)),
         None => Ok(false),
     }

@@ -3,7 +3,7 @@ use Rattle.std.proofs.Common.{arith, ◌≡◌, ◌∙◌, ◌∷◌, ◌++◌, 
 use Rattle.std.specs.List.{All}
 use Rattle.std.proofs.lemmas.List.{map-append}
 use Rattle.upon_shape_spec.specs.Shape.{Shape}
-use Rattle.upon_engine.specs.Names.{texts}
+use Rattle.upon_needs.specs.Names.{texts}
 use Rattle.upon_calls.specs.Asked.{Asked}
 use Rattle.upon_calls.specs.Contexts.{EndsOnEach}
 use Rattle.upon_calls.specs.Filled.{filled}

@@ -2,7 +2,7 @@
 ghost use Rattle.std.specs.Prelude.{◌≡◌, ◌++◌, [], ◌∷◌, IfOk, OnOk, string_bytes};
 ghost use Rattle.std.specs.Str.{byte};
 ghost use Rattle.std.specs.Io.KnownBytes.{Appends};
-ghost use Rattle.upon_types.specs.View.{view as value_view};
+ghost use Rattle.upon_types.specs.View.{view};
 ghost use Rattle.upon_shape.specs.View.{shape_view};
 ghost use Rattle.upon_std_writing.specs.JsonText.{json_text};
 ghost use Rattle.upon_tool_shapes.specs.Written.{schema_line};
@@ -46,7 +46,7 @@ fn schema_text(alloc: Global, shape: &Shape) -> Result<String, AllocError>
 
 // The text of JSON that a value is.
 fn json_of(alloc: Global, value: Value) -> Result<String, AllocError>
-    ensures { IfOk result (λ text. string_bytes text ≡ json_text (value_view value)) }
+    ensures { IfOk result (λ text. string_bytes text ≡ json_text (view value)) }
 {
     let arguments = [ValueCow::Owned(value)];
     match Writing::Json.call(alloc, arguments.as_slice()) {

@@ -9,7 +9,7 @@ use Rattle.upon_types.specs.Val.{Val}
 use Rattle.upon_types.specs.declared.error.Error.{Error}
 use Rattle.upon_language_spec.specs.DefaultDelimiters.{default_delimiters}
 use Rattle.upon_language_spec.specs.Grammar.{HasTree}
-use Rattle.upon_render.specs.Environment.{context}
+use Rattle.upon_lookup.specs.Environment.{context}
 use Rattle.upon_meaning_spec.specs.DefaultFormat.{formatter_or_default}
 use Rattle.upon_meaning_spec.specs.Engine.{Table}
 use Rattle.upon_meaning_spec.specs.Outcome.{states}

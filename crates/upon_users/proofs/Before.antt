@@ -11,8 +11,8 @@ use Rattle.upon_types.specs.Tree.{Statements}
 use Rattle.upon_types.specs.declared.error.Error.{Error}
 use Rattle.upon_language_spec.specs.Search.{DelimiterText}
 use Rattle.upon_syntax.specs.TagReading.{IsSyntaxError}
-use Rattle.upon_render.specs.Asked.{refuses_all}
-use Rattle.upon_render.specs.Environment.{Root}
+use Rattle.upon_lookup.specs.Asked.{refuses_all}
+use Rattle.upon_lookup.specs.Environment.{Root}
 use Rattle.upon_meaning_spec.specs.Alone.{alone}
 use Rattle.upon_meaning_spec.specs.Engine.{Engine, Template, calls_of, rendering_of}
 use Rattle.upon_meaning_spec.specs.Outcome.{states}

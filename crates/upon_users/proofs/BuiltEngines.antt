@@ -15,7 +15,7 @@ use Rattle.upon_meaning_spec.specs.Engine.{Table, Template}
 use Rattle.upon_meaning_spec.specs.Outcome.{good, Outcome}
 use Rattle.upon_engine.specs.Answers.{AnswersText}
 use Rattle.upon_engine.specs.Faults.{IsSyntaxErrorOf}
-use Rattle.upon_engine.specs.RenderingLaws.{IsTextOrMemory}
+use Rattle.upon.specs.RenderingLaws.{IsTextOrMemory}
 use Rattle.upon_engine.specs.Texts.{Stored, Texts}
 use Rattle.upon_engine.specs.Theorem.{AnswersTree, IsTemplateOf, IsTable}
 

@@ -17,7 +17,7 @@ use Rattle.upon_language_spec.proofs.Examples.ShortTrees.{lex, three, shows}
 use Rattle.upon_meaning_spec.specs.Engine.{Table}
 use Rattle.upon_meaning_spec.specs.Outcome.{good}
 use Rattle.upon_engine.specs.Changes.{empty_engine, with_text}
-use Rattle.upon_engine.specs.RenderingLaws.{IsTextOrMemory}
+use Rattle.upon.specs.RenderingLaws.{IsTextOrMemory}
 use Rattle.upon_engine.specs.Texts.{Texts}
 use Rattle.upon_engine.specs.Theorem.{IsTable, meaning, AnswersTree, Sends}
 use Rattle.upon_users.specs.Greeting.{names}

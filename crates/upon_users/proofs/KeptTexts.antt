@@ -3,7 +3,7 @@ use Rattle.std.proofs.Common.{◌≡◌, ℕ, List, Result, Ok, Err, String, IfO
 use Rattle.std.specs.declared.alloc.Global.{Global}
 use Rattle.upon_types.specs.Val.{Val, Entries, entry_at, map_val}
 use Rattle.upon_types.specs.declared.error.Error.{Error}
-use Rattle.upon_render.specs.Environment.{context}
+use Rattle.upon_lookup.specs.Environment.{context}
 use Rattle.upon_meaning_spec.specs.Engine.{Table, from_table}
 use Rattle.upon_meaning_spec.specs.GreaterDepth.{GoesOn}
 use Rattle.upon_meaning_spec.specs.Names.{AgreeOn, Reads}

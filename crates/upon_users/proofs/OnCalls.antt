@@ -4,8 +4,8 @@ use Rattle.std.specs.declared.alloc.Global.{Global}
 use Rattle.std.specs.declared.dyn_box.DynBox.{DynBox}
 use Rattle.upon_types.specs.Answers.{Formatter, Function}
 use Rattle.upon_types.specs.Val.{Val}
-use Rattle.upon_render.specs.Asked.{refuses_all}
-use Rattle.upon_render.specs.Environment.{context}
+use Rattle.upon_lookup.specs.Asked.{refuses_all}
+use Rattle.upon_lookup.specs.Environment.{context}
 use Rattle.upon_meaning_spec.specs.Engine.{Template, calls_of, from_table}
 use Rattle.upon_meaning_spec.specs.Outcome.{states}
 use Rattle.upon_engine.specs.Base.{on_root}

@@ -14,7 +14,7 @@ use Rattle.upon_language_spec.proofs.Computation.HasTreeTests.{has_tree_tested}
 use Rattle.upon_language_spec.proofs.Examples.ShortTrees.{lex}
 use Rattle.upon_meaning_spec.specs.Engine.{Table}
 use Rattle.upon_meaning_spec.specs.Outcome.{good}
-use Rattle.upon_engine.specs.RenderingLaws.{IsTextOrMemory}
+use Rattle.upon.specs.RenderingLaws.{IsTextOrMemory}
 use Rattle.upon_engine.specs.Theorem.{IsTable, meaning, AnswersTree}
 use Rattle.upon_users.specs.Greeting.{names}
 use Rattle.upon_users.specs.Page.{angles, name_text, page_text, name_tree, page_tree, name_engine, page_engine}

@@ -11,8 +11,8 @@ use Rattle.upon_language_spec.proofs.Computation.Computing.{computing}
 use Rattle.upon_language_spec.proofs.Computation.HasTreeTests.{has_tree_tested}
 use Rattle.upon_language_spec.specs.ShortTrees.{at, name}
 use Rattle.upon_language_spec.proofs.Examples.ShortTrees.{lex, three, shows}
-use Rattle.upon_render.specs.Asked.{refuses_all}
-use Rattle.upon_render.specs.Environment.{context}
+use Rattle.upon_lookup.specs.Asked.{refuses_all}
+use Rattle.upon_lookup.specs.Environment.{context}
 use Rattle.upon_meaning_spec.specs.Alone.{alone}
 use Rattle.upon_meaning_spec.specs.Engine.{Resolver, Table, Template, rendering_by}
 use Rattle.upon_meaning_spec.specs.Outcome.{Outcome, States, states}

@@ -1,8 +1,8 @@
 -- What a call denotes that renders a template on a value.
 use Rattle.std.specs.Prelude.{None}
 use Rattle.upon_types.specs.Val.{Val}
-use Rattle.upon_render.specs.Asked.{refuses_all}
-use Rattle.upon_render.specs.Environment.{context}
+use Rattle.upon_lookup.specs.Asked.{refuses_all}
+use Rattle.upon_lookup.specs.Environment.{context}
 use Rattle.upon_meaning_spec.specs.Engine.{Engine, Template, rendering_of}
 use Rattle.upon_meaning_spec.specs.Outcome.{states}
 use Rattle.upon_engine.specs.Base.{on_root}

@@ -3,7 +3,7 @@ ghost use Rattle.std.specs.Prelude.{◌≡◌, ◌++◌, Some, IfOk, OnOk, codes
 ghost use Rattle.std.specs.Io.KnownBytes.{Appends};
 ghost use Rattle.upon_types.specs.View.{view};
 ghost use Rattle.upon_delimiters.specs.Syntax.{syntax_delimiters};
-ghost use Rattle.upon_engine.specs.RenderingLaws.{IsTextOrMemory};
+ghost use Rattle.upon.specs.RenderingLaws.{IsTextOrMemory};
 ghost use Rattle.upon_engine.specs.Theorem.{AnswersTree};
 ghost use Rattle.upon_users.specs.Greeting.{names};
 ghost use Rattle.upon_users.specs.Page.{angles, page_engine, page_text, page_tree};

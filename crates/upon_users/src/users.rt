@@ -3,8 +3,8 @@ ghost use Rattle.std.specs.Prelude.{◌≡◌, ℕ, List, Contains, Some, None, 
 ghost use Rattle.std.specs.Cow.{cow_str_bytes};
 ghost use Rattle.upon_types.specs.Val.{Entries, entry_at, map_val};
 ghost use Rattle.upon_types.specs.View.{view};
-ghost use Rattle.upon_render.specs.Asked.{refuses_all};
-ghost use Rattle.upon_render.specs.Environment.{context, value_source};
+ghost use Rattle.upon_lookup.specs.Asked.{refuses_all};
+ghost use Rattle.upon_lookup.specs.Environment.{context, value_source};
 ghost use Rattle.upon_meaning_spec.specs.Alone.{alone};
 ghost use Rattle.upon_meaning_spec.specs.Engine.{Template as TemplateMeant, rendering_of};
 ghost use Rattle.upon_meaning_spec.specs.Names.{AgreeOn};
@@ -18,23 +18,23 @@ ghost use Rattle.upon_vm.specs.Reports.{IsTakenError, WriteMarks, WritesAndLeave
 ghost use Rattle.upon_engine.specs.Answers.{AnswersText};
 ghost use Rattle.upon_engine.specs.Base.{ContextBase, IsContextOf, outcome_over};
 ghost use Rattle.upon_engine.specs.Engine.{engine_depth, engine_syntax, engine_templates};
-ghost use Rattle.upon_engine.specs.EngineNeeds.{needed_names};
-ghost use Rattle.upon_engine.specs.RenderingLaws.{IsPlainText, IsTextOrMemory};
+ghost use Rattle.upon_needs.specs.EngineNeeds.{needed_names};
+ghost use Rattle.upon.specs.RenderingLaws.{IsPlainText, IsTextOrMemory};
 ghost use Rattle.upon_engine.specs.Template.{template_of};
 ghost use Rattle.upon_engine.specs.Theorem.{engine_meant, rendering};
 
 use serde::Serialize;
 use std::alloc::AllocError;
 use std::borrow::CowStr;
+use upon::laws_of_rendering::plain_text;
 use upon_engine::engine::Engine;
-use upon_engine::laws_of_rendering::plain_text;
-use upon_engine::needs::Needs;
 use upon_engine::template::Template;
 use upon_engine::texts::{AnyEngine, EngineTexts};
 use upon_engine::theorem::one_table;
 use upon_fmt::output::Output;
+use upon_lookup::source::ValueSource;
 use upon_meaning_spec::laws::needs::names_needed;
-use upon_render::source::ValueSource;
+use upon_needs::needs::{self, Needs};
 use upon_types::error::Result;
 use upon_types::value::Value;
 
@@ -156,5 +156,5 @@ pub fn needs_of<'n>(
         ≡ alone (rendering_of e refuses_all None) t None (context (map_val those)) (states (tt {0}) (tt {0})))) }
 {
     names_needed::<(), ()>();
-    engine.needs(name)
+    needs::needs_of(engine, name)
 }

@@ -2,7 +2,7 @@
 use Rattle.std.proofs.Common.{◌≡◌, ◌⊎◌, ℕ, List, [], ◌++◌, Option, Some, Result, Ok, Err, String, string_bytes, sym, ap, ◌∙◌, subst, inl, inr, append-nil}
 use Rattle.std.specs.Io.KnownBytes.{Appends}
 use Rattle.std.specs.declared.alloc.Global.{Global}
-use Rattle.upon_types.specs.Error.{fault_of as error_of}
+use Rattle.upon_types.specs.Error.{fault_of}
 use Rattle.upon_types.specs.Fault.{out_of_memory}
 use Rattle.upon_types.specs.declared.error.Error.{Error}
 use Rattle.upon_meaning_spec.specs.Alone.{fault_of_end}
@@ -26,7 +26,7 @@ module _ {Q : Type 0} (depth : ℕ) (mid mark : Mark) (old new : Option (List �
   all_of_it : {text : List ℕ} → Appends old new text → ReceivesPart old new text
   all_of_it {text} given = (text, [], sym (append-nil text), given)
 
-  own_or_limit : (e : Error) → (error_of e ≡ out_of_memory) ⊎ IsTakenError mark e → (error_of e ≡ out_of_memory) ⊎ (IsTakenError mark e ⊎ NamesLimit limits runs o (error_of e))
+  own_or_limit : (e : Error) → (fault_of e ≡ out_of_memory) ⊎ IsTakenError mark e → (fault_of e ≡ out_of_memory) ⊎ (IsTakenError mark e ⊎ NamesLimit limits runs o (fault_of e))
   own_or_limit e (inl out) = inl out
   own_or_limit e (inr own) = inr (inl own)
 
@@ -38,9 +38,9 @@ module _ {Q : Type 0} (depth : ℕ) (mid mark : Mark) (old new : Option (List �
   of_ended (Ok TooDeep) (Err e) h (inl is) marks = inl (ap (fault_of_end depth) h.0.0 ∙ ap Some (sym is), h.0.1, h.1)
   of_ended (Ok TooDeep) (Err e) h (inr is) marks = inr (inl is, all_of_it {text = o.text} h.0.1)
   of_ended (Err failure) (Ok u) h is marks = absurd is
-  of_ended (Err (ErrorFailure e)) (Err e') (inl h, fits) is marks = inr (inl (ap error_of is ∙ h.0), h.1)
-  of_ended (Err (ErrorFailure e)) (Err e') (inr h, inl out) is marks = inr (inl (ap error_of is ∙ out), all_of_it {text = o.text} h.1)
-  of_ended (Err (ErrorFailure e)) (Err e') (inr h, inr fits) is marks = inl (ap (fault_of_end depth) h.0 ∙ ap Some (sym (ap error_of is)), h.1, fits)
+  of_ended (Err (ErrorFailure e)) (Err e') (inl h, fits) is marks = inr (inl (ap fault_of is ∙ h.0), h.1)
+  of_ended (Err (ErrorFailure e)) (Err e') (inr h, inl out) is marks = inr (inl (ap fault_of is ∙ out), all_of_it {text = o.text} h.1)
+  of_ended (Err (ErrorFailure e)) (Err e') (inr h, inr fits) is marks = inl (ap (fault_of_end depth) h.0 ∙ ap Some (sym (ap fault_of is)), h.1, fits)
   of_ended (Err OutputFailure) (Err e') h is marks = inr (own_or_limit e' (taken mid mark e' marks is), h.0)
 
   pub writes_within : (ended : Within) (r : Result (Unit {0}) Error) → RanWithin limits runs ended old new o next → IsReportWithin depth ended mid r → ReportMarksWithin ended mid mark
@@ -48,12 +48,12 @@ module _ {Q : Type 0} (depth : ℕ) (mid mark : Mark) (old new : Option (List �
   writes_within (Ended ended) r h is marks = of_ended ended r h is marks
   writes_within (Reached limit e) r h is marks = subst (λ r. WritesWithin depth (IsTakenError mark) limits runs r old new o) (sym is) (inr (at_limit h.2, h.3))
     where
-      at_limit : IsOfLimit limit h.0 (error_of e) ⊎ (error_of e ≡ out_of_memory) → (error_of e ≡ out_of_memory) ⊎ (IsTakenError mark e ⊎ NamesLimit limits runs o (error_of e))
+      at_limit : IsOfLimit limit h.0 (fault_of e) ⊎ (fault_of e ≡ out_of_memory) → (fault_of e ≡ out_of_memory) ⊎ (IsTakenError mark e ⊎ NamesLimit limits runs o (fault_of e))
       at_limit (inl names) = inr (inr (limit, h.0, h.1, names))
       at_limit (inr out) = inl out
 
 module _ {Q : Type 0} (depth : ℕ) (mark : Mark) (old new : Option (List ℕ)) (limits : Limits) (runs : ℕ → Option (Outcome Q)) (o : Outcome Q) where
-  any_or_limit : (e : Error) → (error_of e ≡ out_of_memory) ⊎ (IsTakenError mark e ⊎ NamesLimit limits runs o (error_of e)) → (error_of e ≡ out_of_memory) ⊎ (IsAnyIo e ⊎ NamesLimit limits runs o (error_of e))
+  any_or_limit : (e : Error) → (fault_of e ≡ out_of_memory) ⊎ (IsTakenError mark e ⊎ NamesLimit limits runs o (fault_of e)) → (fault_of e ≡ out_of_memory) ⊎ (IsAnyIo e ⊎ NamesLimit limits runs o (fault_of e))
   any_or_limit e (inl out) = inl out
   any_or_limit e (inr (inl own)) = inr (inl (taken_any mark e own))
   any_or_limit e (inr (inr names)) = inr (inr names)

@@ -1,11 +1,3 @@
-pub mod Program
-pub mod Frames
-pub mod Machine
-pub mod Steps
-pub mod Effects
-pub mod Acts
-pub mod Ready
-pub mod Keeps
 pub mod Failures
 pub mod Runs
 pub mod Reports

@@ -1,19 +1,19 @@
 -- What a rendering of one template is on, and how it leaves the stack and the source of templates.
 use Rattle.std.specs.Prelude.{◌≡◌, ℕ, List, Option, option_map}
-use Rattle.upon_render.specs.Environment.{Root as PureRoot}
+use Rattle.upon_lookup.specs.Environment.{Root as PureRoot}
 use Rattle.upon_render.specs.Roots.{pure_root}
-use Rattle.upon_render.specs.Source.{Source as Asking}
+use Rattle.upon_lookup.specs.Source.{Source as Asking}
 use Rattle.upon_render.specs.declared.stack.Root.{Root}
 use Rattle.upon_meaning_spec.specs.Alone.{alone_within}
 use Rattle.upon_meaning_spec.specs.Engine.{Calls, Resolver, Template}
 use Rattle.upon_meaning_spec.specs.Outcome.{Outcome, States, states}
 use Rattle.upon_machine_spec.specs.Run.{run}
 use Rattle.upon_machine_spec.specs.State.{State, at_start}
-use Rattle.upon_vm.specs.Keeps.{SourceHas}
-use Rattle.upon_vm.specs.Machine.{source_state}
+use Rattle.upon_vm_steps.specs.Keeps.{SourceHas}
+use Rattle.upon_vm_steps.specs.Machine.{source_state}
 use Rattle.upon_vm.specs.Within.{RanWithin}
 use Rattle.upon_vm.specs.declared.limits.Limits.{Limits}
-use Rattle.upon_vm.specs.declared.machine.Running.{Running}
+use Rattle.upon_vm_steps.specs.declared.machine.Running.{Running}
 use Rattle.upon_vm.specs.declared.within.Within.{Within}
 
 -- the states of both sources: of the values, if there is a source to ask, and of the templates

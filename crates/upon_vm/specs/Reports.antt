@@ -2,7 +2,7 @@
 use Rattle.std.specs.Prelude.{◌≡◌, ◌⊎◌, ℕ, List, Option, Some, Result, Ok, Err}
 use Rattle.std.specs.Io.KnownBytes.{Appends}
 use Rattle.std.specs.declared.io.Error.{Error as IoError}
-use Rattle.upon_types.specs.Error.{error_kind, fault_of as error_of}
+use Rattle.upon_types.specs.Error.{error_kind, fault_of}
 use Rattle.upon_types.specs.Fault.{Kind, io, memory, fault_of_kind, out_of_memory, OrMemory}
 use Rattle.upon_types.specs.declared.error.Error.{Error}
 use Rattle.upon_types.specs.declared.error.ErrorKind.TheVariants.{Io}
@@ -23,17 +23,17 @@ abbrev pub EndReport : ℕ → Ending → Result (Unit {0}) Error → Type 0
 EndReport limit Good (Ok u) = Unit {0}
 EndReport limit Good (Err e) = ⊥
 EndReport limit TooDeep (Ok u) = ⊥
-EndReport limit TooDeep (Err e) = OrMemory (depth_reached limit) (error_of e)
+EndReport limit TooDeep (Err e) = OrMemory (depth_reached limit) (fault_of e)
 
 -- the error is this one, of a write
 abbrev pub IsIo : IoError → Error → Type 0
-IsIo error e = (error_of e ≡ fault_of_kind io) × (error_kind e ≡ Io error)
+IsIo error e = (fault_of e ≡ fault_of_kind io) × (error_kind e ≡ Io error)
 
 -- if the output left something out: its error if one waits, or else that memory is out
 abbrev pub OutputReport : Mark → Error → Type 0
-OutputReport Clear e = error_of e ≡ out_of_memory
+OutputReport Clear e = fault_of e ≡ out_of_memory
 OutputReport (Waits error) e = IsIo error e
-OutputReport (Taken error) e = error_of e ≡ out_of_memory
+OutputReport (Taken error) e = fault_of e ≡ out_of_memory
 
 -- of a failure
 abbrev pub FailureReport : Failure → Mark → Error → Type 0
@@ -64,7 +64,7 @@ IsTakenError (Taken error) e = IsIo error e
 
 -- the error is one of a write
 abbrev pub IsAnyIo : Error → Type 0
-IsAnyIo e = error_of e ≡ fault_of_kind io
+IsAnyIo e = fault_of e ≡ fault_of_kind io
 
 -- The output received the whole text, and the fault of the outcome's end is reported if it has one. Or it received a
 -- beginning of the text, and memory is out, or its own error is reported, of which this holds.
@@ -72,16 +72,16 @@ abbrev pub WritesReported : {Q : Type 0} → ℕ → (Error → Type 0) → Resu
     → Option (List ℕ) → Outcome Q → Type 0
 WritesReported limit IsOwn (Ok u) old new o = (o.end ≡ good) × Appends old new o.text
 WritesReported limit IsOwn (Err e) old new o =
-    ((fault_of_end limit o.end ≡ Some (error_of e)) × Appends old new o.text)
-    ⊎ (((error_of e ≡ out_of_memory) ⊎ IsOwn e) × ReceivesPart old new o.text)
+    ((fault_of_end limit o.end ≡ Some (fault_of e)) × Appends old new o.text)
+    ⊎ (((fault_of e ≡ out_of_memory) ⊎ IsOwn e) × ReceivesPart old new o.text)
 
 -- the same, and if the whole text was received, the sources are in the outcome's next states
 abbrev pub WritesAndLeaves : {Q : Type 0} → ℕ → (Error → Type 0) → Result (Unit {0}) Error → Option (List ℕ)
     → Option (List ℕ) → Outcome Q → Q → Type 0
 WritesAndLeaves limit IsOwn (Ok u) old new o next = (o.end ≡ good) × Appends old new o.text × (o.next ≡ next)
 WritesAndLeaves limit IsOwn (Err e) old new o next =
-    ((fault_of_end limit o.end ≡ Some (error_of e)) × Appends old new o.text × (o.next ≡ next))
-    ⊎ (((error_of e ≡ out_of_memory) ⊎ IsOwn e) × ReceivesPart old new o.text)
+    ((fault_of_end limit o.end ≡ Some (fault_of e)) × Appends old new o.text × (o.next ≡ next))
+    ⊎ (((fault_of e ≡ out_of_memory) ⊎ IsOwn e) × ReceivesPart old new o.text)
 
 -- by the kind of the fault: if memory is out, an error of before may be put aside; and but for a fault of a write, the
 -- mark stays
@@ -93,4 +93,4 @@ FaultMarks kind old new = new ≡ old
 -- an output's mark over a rendering: no write failed but where the fault is one of a write
 abbrev pub WriteMarks : Result (Unit {0}) Error → Mark → Mark → Type 0
 WriteMarks (Ok u) old new = new ≡ old
-WriteMarks (Err e) old new = FaultMarks (error_of e).kind old new
+WriteMarks (Err e) old new = FaultMarks (fault_of e).kind old new

@@ -1,19 +1,19 @@
 // Why a run fails, with the template that ran.
 ghost use Rattle.std.specs.Prelude.{◌≡◌, option_map};
-ghost use Rattle.upon_types.specs.Error.{fault_of as error_of, kind_of as error_kind_of};
+ghost use Rattle.upon_types.specs.Error.{fault_of, kind_of};
 ghost use Rattle.upon_types.specs.Fault.{fault_with_picture, OrMemory};
 ghost use Rattle.upon_types.specs.Span.{LiesIn};
 ghost use Rattle.upon_meaning_spec.specs.Meaning.{fault_in};
 ghost use Rattle.upon_vm_calls.specs.Halt.{halt_fault, halt_kind};
-ghost use Rattle.upon_vm.specs.Acts.{stop_or_memory};
+ghost use Rattle.upon_vm_steps.specs.Acts.{stop_or_memory};
 ghost use Rattle.upon_vm.specs.Failures.{FailsBy, FailsSo, HaltLies, Names, StopLies, is_memory};
-ghost use Rattle.upon_vm.specs.Machine.{active_of};
+ghost use Rattle.upon_vm_steps.specs.Machine.{active_of};
 
-use crate::act::Stop;
-use crate::machine::Running;
 use std::alloc::{AllocError, Global};
 use upon_types::error::{Error, ErrorKind};
 use upon_vm_calls::fault::{Fault, FaultKind, Halt};
+use upon_vm_steps::act::Stop;
+use upon_vm_steps::machine::Running;
 
 /// Why a run ends before its program does.
 #[derive(Drop)]
@@ -52,7 +52,7 @@ fn halted(alloc: Global, running: Running, halt: Halt) -> Failure
 /// Returns the error of a fault in a template that runs, with its name and the picture of its text.
 pub(crate) fn in_template(alloc: Global, running: Running, fault: Fault) -> Error
     requires { LiesIn running.program.source.now fault.span }
-    ensures { OrMemory (fault_in (active_of running.entry).running (halt_fault fault)) (error_of result) }
+    ensures { OrMemory (fault_in (active_of running.entry).running (halt_fault fault)) (fault_of result) }
 {
     let error = with_picture(alloc, running.program.source, fault);
     with_name(alloc, running.name, error)
@@ -61,7 +61,7 @@ pub(crate) fn in_template(alloc: Global, running: Running, fault: Fault) -> Erro
 // A fault with the picture of its span.
 fn with_picture(alloc: Global, source: &str, fault: Fault) -> Error
     requires { LiesIn source.now fault.span }
-    ensures { OrMemory (fault_with_picture source.now (halt_fault fault)) (error_of result) }
+    ensures { OrMemory (fault_with_picture source.now (halt_fault fault)) (fault_of result) }
 {
     let kind = error_kind(fault.kind);
     Error::from_owned_parts(alloc, kind, fault.reason, Some((source, fault.span)))
@@ -69,7 +69,7 @@ fn with_picture(alloc: Global, source: &str, fault: Fault) -> Error
 
 // The kind of its error.
 fn error_kind(kind: FaultKind) -> ErrorKind
-    ensures { error_kind_of result ≡ halt_kind kind }
+    ensures { kind_of result ≡ halt_kind kind }
 {
     match kind {
         FaultKind::Render => ErrorKind::Render,
@@ -93,7 +93,7 @@ fn with_name(alloc: Global, name: Option<&str>, error: Error) -> Error
 
 // Whether the error says that memory is out.
 fn reports_memory(error: &Error) -> bool
-    ensures { result ≡ is_memory (error_of error.now).kind }
+    ensures { result ≡ is_memory (fault_of error.now).kind }
 {
     match error.kind() {
         ErrorKind::OutOfMemory => true,

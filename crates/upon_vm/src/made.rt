@@ -1,14 +1,14 @@
 // What a step makes, in bytes of values: each value is counted once, when it is made. Nothing is weighed if no limit of
 // values is set.
 
-use crate::machine::Machine;
-use crate::source::{Program, ProgramSource};
-use crate::step::fetch;
 use crate::weight::{PLACE, weight};
 use upon_instructions::types::program::Instr;
-use upon_render::source::ValueSource;
+use upon_lookup::source::ValueSource;
 use upon_types::value::ValueCow;
 use upon_vm_calls::operands::Operands;
+use upon_vm_steps::machine::Machine;
+use upon_vm_steps::source::{Program, ProgramSource};
+use upon_vm_steps::step::fetch;
 
 /// Returns how many bytes the step to come puts into a list or a map: the place of the item or the entry, with its key,
 /// and a copy of the operand on top if that is lent. It is 0 if no limit is set.

@@ -2,26 +2,26 @@
 ghost use Rattle.std.specs.Prelude.{◌≡◌, []};
 ghost use Rattle.upon_types.specs.TreeSpans.{TreeLiesIn};
 ghost use Rattle.upon_render.specs.Roots.{pure_root};
-ghost use Rattle.upon_render.specs.Source.{Source};
+ghost use Rattle.upon_lookup.specs.Source.{Source};
 ghost use Rattle.upon_render.specs.Stack.{frames_of, root_of};
 ghost use Rattle.upon_meaning_spec.specs.Engine.{Template};
-ghost use Rattle.upon_vm.specs.Acts.{calls_on};
-ghost use Rattle.upon_vm.specs.Keeps.{HasState, SourceHas};
-ghost use Rattle.upon_vm.specs.Program.{IsProgramOf};
+ghost use Rattle.upon_vm_steps.specs.Acts.{calls_on};
+ghost use Rattle.upon_vm_steps.specs.Keeps.{HasState, SourceHas};
+ghost use Rattle.upon_vm_steps.specs.Program.{IsProgramOf};
 ghost use Rattle.upon_vm.specs.Renderings.{SourcesKept, rendered_alone, sources_state};
 ghost use Rattle.upon_vm.specs.Runs.{Ran, RunMarks};
 
 use crate::failure::Failure;
-use crate::machine::{Machine, Running};
 use crate::run::{Ending, run};
-use crate::source::ProgramSource;
 use std::alloc::Global;
 use upon_fmt::fmt::Formatter;
 use upon_fmt::output::Output;
-use upon_render::source::ValueSource;
+use upon_lookup::source::ValueSource;
 use upon_render::stack::Stack;
 use upon_vm_calls::callables::Callables;
 use upon_vm_calls::operands::Operands;
+use upon_vm_steps::machine::{Machine, Running};
+use upon_vm_steps::source::ProgramSource;
 
 /// Renders a program over a stack without frames: what its template means by itself.
 ///

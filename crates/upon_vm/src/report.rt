@@ -1,6 +1,6 @@
 // What is reported of a rendering.
 ghost use Rattle.std.specs.Prelude.{◌≡◌};
-ghost use Rattle.upon_types.specs.Error.{fault_of as error_of};
+ghost use Rattle.upon_types.specs.Error.{fault_of};
 ghost use Rattle.upon_types.specs.Fault.{OrMemory};
 ghost use Rattle.upon_meaning_spec.specs.CallFaults.{depth_reached};
 ghost use Rattle.upon_fmt.specs.Mark.{set_aside};
@@ -45,7 +45,7 @@ fn end_reported(alloc: Global, end: Ending, limit: usize) -> error::Result<()>
 
 // The fault of includes that are too deep.
 fn depth_reached(alloc: Global, limit: usize) -> Error
-    ensures { OrMemory (depth_reached limit) (error_of result) }
+    ensures { OrMemory (depth_reached limit) (fault_of result) }
 {
     match format!(in alloc; "reached maximum include depth ({limit})") {
         Ok(reason) => Error::from_owned_parts(alloc, ErrorKind::Render, Some(reason), None),

@@ -1,19 +1,19 @@
 // A run: step after step, up to the program's end.
 ghost use Rattle.std.specs.Prelude.{◌≡◌};
-ghost use Rattle.upon_vm.specs.Keeps.{Kept};
-ghost use Rattle.upon_vm.specs.Machine.{state_of};
+ghost use Rattle.upon_vm_steps.specs.Keeps.{Kept};
+ghost use Rattle.upon_vm_steps.specs.Machine.{state_of};
 ghost use Rattle.upon_vm.specs.Runs.{KnownRun, Ran, RunMarks, Starts, ending_of};
 
 use crate::failure::{Failure, stopped};
-use crate::machine::{Flow, Machine};
-use crate::source::ProgramSource;
-use crate::step::step;
 use crate::steps::Steps;
 use std::alloc::Global;
 use std::marker::Brand;
 use upon_fmt::output::Output;
-use upon_render::source::ValueSource;
+use upon_lookup::source::ValueSource;
 use upon_vm_calls::callables::Callables;
+use upon_vm_steps::machine::{Flow, Machine};
+use upon_vm_steps::source::ProgramSource;
+use upon_vm_steps::step::step;
 
 /// How a run ends by itself.
 #[derive(Clone, Copy, Debug, PartialEq, Eq)]

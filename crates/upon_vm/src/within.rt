@@ -1,47 +1,47 @@
 // Runs and renderings within limits: one step of the machine a turn, up to the program's end or to a limit.
 ghost use Rattle.std.specs.Prelude.{◌≡◌, [], unwrap_or};
-ghost use Rattle.upon_types.specs.Error.{fault_of as error_of};
+ghost use Rattle.upon_types.specs.Error.{fault_of};
 ghost use Rattle.upon_types.specs.Fault.{OrMemory};
 ghost use Rattle.upon_types.specs.Span.{LiesIn};
 ghost use Rattle.upon_types.specs.TreeSpans.{TreeLiesIn};
 ghost use Rattle.upon_render.specs.Roots.{pure_root};
-ghost use Rattle.upon_render.specs.Source.{Source};
+ghost use Rattle.upon_lookup.specs.Source.{Source};
 ghost use Rattle.upon_render.specs.Stack.{frames_of, root_of};
 ghost use Rattle.upon_meaning_spec.specs.Engine.{Template};
 ghost use Rattle.upon_meaning_spec.specs.Meaning.{fault_in};
 ghost use Rattle.upon_machine_spec.specs.Run.{run};
 ghost use Rattle.upon_machine_spec.specs.Spans.{CodeSpans};
 ghost use Rattle.upon_instructions.specs.Program.{program_view};
-ghost use Rattle.upon_vm.specs.Acts.{calls_on};
-ghost use Rattle.upon_vm.specs.Keeps.{HasState, Kept, SourceHas};
+ghost use Rattle.upon_vm_steps.specs.Acts.{calls_on};
+ghost use Rattle.upon_vm_steps.specs.Keeps.{HasState, Kept, SourceHas};
 ghost use Rattle.upon_vm.specs.Limits.{GrowsWithin};
-ghost use Rattle.upon_vm.specs.Machine.{active_of, state_of};
-ghost use Rattle.upon_vm.specs.Program.{IsProgramOf};
+ghost use Rattle.upon_vm_steps.specs.Machine.{active_of, state_of};
+ghost use Rattle.upon_vm_steps.specs.Program.{IsProgramOf};
 ghost use Rattle.upon_vm.specs.Renderings.{RendersWithin, SourcesKept, sources_state};
 ghost use Rattle.upon_vm.specs.Runs.{KnownRun, Starts};
 ghost use Rattle.upon_vm.specs.Within.{IsAtLimit, IsReportWithin, MarksWithin, RanWithin, ReportMarksWithin, limit_reached};
 
 use crate::failure::{Failure, in_template, stopped};
 use crate::limits::{Limit, Limits, spend};
-use crate::machine::{Machine, Running};
 use crate::made::{bytes_put_in, bytes_started};
 use crate::place::place;
 use crate::report::reported;
 use crate::run::{Ending, end_of};
-use crate::source::ProgramSource;
 use crate::steps::Steps;
 use crate::turn::{Turn, take_turn};
 use std::alloc::{AllocError, Global};
 use std::marker::Brand;
 use upon_fmt::fmt::Formatter;
 use upon_fmt::output::Output;
-use upon_render::source::ValueSource;
+use upon_lookup::source::ValueSource;
 use upon_render::stack::Stack;
 use upon_types::error::{self, Error};
 use upon_types::types::Span;
 use upon_vm_calls::callables::Callables;
 use upon_vm_calls::fault::{Fault, FaultKind};
 use upon_vm_calls::operands::Operands;
+use upon_vm_steps::machine::{Machine, Running};
+use upon_vm_steps::source::ProgramSource;
 
 /// How a run within limits ends.
 #[derive(Drop)]
@@ -55,7 +55,7 @@ pub enum Within {
 // The error of a limit of so many, in a template that runs, at a span.
 fn limit_error(alloc: Global, running: Running, limit: Limit, count: usize, span: Span) -> Error
     requires { LiesIn running.program.source.now span }
-    ensures { OrMemory (fault_in (active_of running.entry).running (limit_reached limit count span)) (error_of result) }
+    ensures { OrMemory (fault_in (active_of running.entry).running (limit_reached limit count span)) (fault_of result) }
 {
     let reason = match limit {
         Limit::Steps => format!(in alloc; "reached the limit of {count} steps"),

@@ -1,6 +1,6 @@
 // Why an instruction is not carried out.
 ghost use Rattle.std.specs.Prelude.{◌≡◌, string_bytes};
-ghost use Rattle.upon_render.specs.LookupFaults.{wrong};
+ghost use Rattle.upon_lookup.specs.LookupFaults.{wrong};
 ghost use Rattle.upon_meaning_spec.specs.CallFaults.{formatter_expects, function_declined, function_expects};
 ghost use Rattle.upon_vm_calls.specs.Halt.{IsHalt, IsWrongHalt};
 

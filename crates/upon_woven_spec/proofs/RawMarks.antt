@@ -1,7 +1,7 @@
 -- What no formatter writes is in raw parts alone.
 use Rattle.std.proofs.Common.{◌≡◌, ℕ, List, [], ◌∷◌, ◌++◌, Option, Bool, true, false, if◌then◌else◌, ◌||◌, refl, sym, ap, ◌∙◌}
 use Rattle.upon_types.specs.Span.{slice}
-use Rattle.upon_render.specs.Environment.{Root}
+use Rattle.upon_lookup.specs.Environment.{Root}
 use Rattle.upon_meaning_spec.specs.Alone.{alone}
 use Rattle.upon_meaning_spec.specs.Engine.{Template, Rendering}
 use Rattle.upon_meaning_spec.specs.Outcome.{States}

@@ -6,7 +6,7 @@ use Rattle.upon_types.specs.Answers.{Formatter, formatter}
 use Rattle.upon_types.specs.Expression.{Expression, base, filtered, Base, var, literal, list, mapping, paren, call}
 use Rattle.upon_types.specs.Tree.{Statement, raw, inline_expr, include, if_else, for_loop, with, Statements, no_statements, statement_then, Else, no_else, otherwise}
 use Rattle.upon_types.specs.Val.{Val}
-use Rattle.upon_render.specs.Source.{says}
+use Rattle.upon_lookup.specs.Source.{says}
 use Rattle.upon_meaning_spec.specs.Engine.{Template, Calls, Resolver}
 use Rattle.upon_meaning_spec.specs.Includes.{Includes}
 use Rattle.upon_meaning_spec.specs.Meaning.{RunningTemplate}

@@ -7,10 +7,10 @@ use Rattle.upon_types.specs.Path.{Ident}
 use Rattle.upon_types.specs.Span.{slice}
 use Rattle.upon_types.specs.Tree.{Statement, raw, inline_expr, include, if_else, for_loop, with, Statements, no_statements, statement_then, Else, no_else, otherwise}
 use Rattle.upon_types.specs.Val.{Val}
-use Rattle.upon_render.specs.Environment.{Binding, Environment, Root, root_environment, alone_over, with_name, iteration}
-use Rattle.upon_render.specs.Finding.{Finding, found, at_fault, Reply}
+use Rattle.upon_lookup.specs.Environment.{Binding, Environment, Root, root_environment, alone_over, with_name, iteration}
+use Rattle.upon_lookup.specs.Finding.{Finding, found, at_fault, Reply}
 use Rattle.upon_render.specs.Items.{items_of}
-use Rattle.upon_render.specs.Source.{SourceAnswer, says, refuses}
+use Rattle.upon_lookup.specs.Source.{SourceAnswer, says, refuses}
 use Rattle.upon_meaning_spec.specs.Alone.{running, included, includes_left}
 use Rattle.upon_meaning_spec.specs.Engine.{Template, Calls, Resolver, Rendering}
 use Rattle.upon_meaning_spec.specs.Evaluation.{Operand, values_of, answer_value, append_operand, evaluate, evaluate_base, evaluate_arguments}

@@ -1,6 +1,6 @@
 // Of what the text of a rendering is made, in order: raw parts of templates, and what formatters wrote for values.
 ghost use Rattle.std.specs.Prelude.{◌≡◌, ℕ, List, Option, Bool, false, IsTrue};
-ghost use Rattle.upon_render.specs.Environment.{Root};
+ghost use Rattle.upon_lookup.specs.Environment.{Root};
 ghost use Rattle.upon_meaning_spec.specs.Alone.{alone_within, alone};
 ghost use Rattle.upon_meaning_spec.specs.Engine.{Template, Calls, Resolver, Rendering};
 ghost use Rattle.upon_meaning_spec.specs.Outcome.{States};

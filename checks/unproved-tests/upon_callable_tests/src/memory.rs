@@ -9,7 +9,7 @@ use std::test::Fail;
 use upon::error::ErrorKind;
 use upon::functions::Fn1;
 use upon::types::Span;
-use upon::{Engine, Error, Result, Syntax, value};
+use upon::{Engine, Error, Result, Syntax, needs_of, value};
 use upon_examples::callables::{Double, Half};
 
 fn is_out(error: &Error) -> bool {
@@ -319,7 +319,7 @@ fn needs(rt: HostRuntime) {
     let Ok(engine) = ring(rt.alloc()) else {
         return;
     };
-    let Some(needs) = engine.needs("page") else {
+    let Some(needs) = needs_of(&engine, "page") else {
         panic!(&rt; "there is such a template");
     };
     if let Ok(needs) = needs {

@@ -3,7 +3,7 @@ use crate::wanted::{integers, is_value, one, text, with};
 use std::alloc::{AllocError, Global};
 use std::test::Fail;
 use upon_examples::contexts::{Placeholder, john, john_by_hand, john_of_a_program};
-use upon_render::source::{ValueAccess, ValueAccessOp, ValueMember, ValueSource};
+use upon_lookup::source::{ValueAccess, ValueAccessOp, ValueMember, ValueSource};
 use upon_serde::{Result, Value};
 
 // The same value, put together by the tests' own helpers.

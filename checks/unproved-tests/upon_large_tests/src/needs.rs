@@ -3,7 +3,7 @@ use std::alloc::Global;
 use std::borrow::CowStr;
 use std::process::Abort;
 use std::test::Fail;
-use upon::Engine;
+use upon::{Engine, needs_of};
 
 // An engine with so many templates: each shows one of ten names and includes the next, and the last the first.
 fn ring(alloc: Global, many: usize) -> Result<Engine<'static>, Fail> {
@@ -24,7 +24,7 @@ const RING: usize = 1_000; // ./test: 100
 fn a_ring(rt: HostRuntime) -> Result<(), Fail> {
     let alloc = rt.alloc();
     let engine = ring(alloc, RING)?;
-    let Some(needs) = engine.needs("t7") else {
+    let Some(needs) = needs_of(&engine, "t7") else {
         return Err(Fail::new(format_args!("there is such a template")));
     };
     let needs = needs?;
@@ -51,7 +51,7 @@ fn many_names(rt: HostRuntime) -> Result<(), Fail> {
     engine.add_template(CowStr::Borrowed("plain"), CowStr::Owned(source))?;
     engine.add_template(CowStr::Borrowed("looped"), CowStr::Owned(looped))?;
     for (name, many) in [("plain", NAMES), ("looped", NAMES + 1)] {
-        let Some(needs) = engine.needs(name) else {
+        let Some(needs) = needs_of(&engine, name) else {
             return Err(Fail::new("there is such a template"));
         };
         assert_eq!(&rt; needs?.names().len(), many);
@@ -70,7 +70,7 @@ fn long_names(rt: HostRuntime) -> Result<(), Fail> {
         let mut engine = Engine::new(alloc);
         let source = format!(in alloc; "{{{{ {name} }}}}{{% include \"{name}\" %}}")?;
         engine.add_template(CowStr::Owned(name.clone()?), CowStr::Owned(source))?;
-        let Some(needs) = engine.needs(name.as_str()) else {
+        let Some(needs) = needs_of(&engine, name.as_str()) else {
             return Err(Fail::new("there is such a template"));
         };
         let needs = needs?;

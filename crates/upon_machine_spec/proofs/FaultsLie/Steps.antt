@@ -8,11 +8,11 @@ use Rattle.upon_types.specs.TreeSpans.{TreeLiesIn}
 use Rattle.upon_types.specs.Val.{Val, none_val, bool_val, int_val, text_val, list_val, map_val}
 use Rattle.upon_types.proofs.CombinedSpans.{combined_lies_in}
 use Rattle.upon_types.proofs.ExpressionSpans.{path_place}
-use Rattle.upon_render.specs.Environment.{Binding, Root}
-use Rattle.upon_render.specs.Finding.{Finding, found, at_fault}
+use Rattle.upon_lookup.specs.Environment.{Binding, Root}
+use Rattle.upon_lookup.specs.Finding.{Finding, found, at_fault}
 use Rattle.upon_render.specs.Items.{items_of}
-use Rattle.upon_render.specs.Lookup.{lookup}
-use Rattle.upon_render.specs.Source.{SourceAnswer, says, refuses}
+use Rattle.upon_lookup.specs.Lookup.{lookup}
+use Rattle.upon_lookup.specs.Source.{SourceAnswer, says, refuses}
 use Rattle.upon_meaning_spec.specs.Emission.{format_outcome, callable_outcome}
 use Rattle.upon_meaning_spec.specs.Engine.{Template, Calls, Resolver}
 use Rattle.upon_meaning_spec.specs.Evaluation.{Operand, operand, call_value}

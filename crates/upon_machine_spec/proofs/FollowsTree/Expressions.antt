@@ -6,9 +6,9 @@ use Rattle.upon_types.specs.Expression.{Expression, base, filtered, Base, var, l
 use Rattle.upon_types.specs.Path.{Ident, path_span}
 use Rattle.upon_types.specs.Val.{Val, list_val, map_val, Entries, no_entries}
 use Rattle.upon_types.specs.View.{vals_of}
-use Rattle.upon_render.specs.Environment.{Root}
-use Rattle.upon_render.specs.Finding.{Finding, found, at_fault, Reply, reply, with_found}
-use Rattle.upon_render.specs.Lookup.{lookup}
+use Rattle.upon_lookup.specs.Environment.{Root}
+use Rattle.upon_lookup.specs.Finding.{Finding, found, at_fault, Reply, reply, with_found}
+use Rattle.upon_lookup.specs.Lookup.{lookup}
 use Rattle.upon_meaning_spec.specs.Emission.{Emission, with_state, format_outcome, emit_found, callable_outcome, emit_call, emit_value, emit, emit_base}
 use Rattle.upon_meaning_spec.specs.Engine.{Calls, Resolver}
 use Rattle.upon_meaning_spec.specs.Entries.{with_entry}

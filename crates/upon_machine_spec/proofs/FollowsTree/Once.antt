@@ -1,6 +1,6 @@
 -- A run gives one outcome, however many steps it is given.
 use Rattle.std.proofs.Common.{◌≡◌, ℕ, zero, suc, Option, Some, None, option_map, refl, ap, subst}
-use Rattle.upon_render.specs.Environment.{Root}
+use Rattle.upon_lookup.specs.Environment.{Root}
 use Rattle.upon_meaning_spec.specs.Engine.{Calls, Resolver}
 use Rattle.upon_meaning_spec.specs.Outcome.{Outcome, States, with_text_before}
 use Rattle.upon_machine_spec.specs.Run.{on_next, run}

@@ -7,10 +7,10 @@ use Rattle.upon_types.specs.Expression.{Expression, expression_span}
 use Rattle.upon_types.specs.Path.{Ident, LoopVars}
 use Rattle.upon_types.specs.Tree.{Statement, raw, inline_expr, include, if_else, for_loop, with, Statements, no_statements, statement_then, Else, no_else, otherwise}
 use Rattle.upon_types.specs.Val.{Val}
-use Rattle.upon_render.specs.Environment.{Binding, Root, with_name, alone_over, iteration}
-use Rattle.upon_render.specs.Finding.{Finding, found, at_fault}
+use Rattle.upon_lookup.specs.Environment.{Binding, Root, with_name, alone_over, iteration}
+use Rattle.upon_lookup.specs.Finding.{Finding, found, at_fault}
 use Rattle.upon_render.specs.Items.{items_of}
-use Rattle.upon_render.specs.Source.{SourceAnswer, says, refuses}
+use Rattle.upon_lookup.specs.Source.{SourceAnswer, says, refuses}
 use Rattle.upon_types.specs.Truth.{truth}
 use Rattle.upon_meaning_spec.specs.Alone.{running, on_template, included}
 use Rattle.upon_meaning_spec.specs.Engine.{Template, Calls, Resolver}

@@ -2,7 +2,7 @@
 use Rattle.std.proofs.Common.{◌≡◌, ℕ, ◌+◌, List, [], length, Option, Some, None, option_map, ap, ◌∙◌, arith, append-nil}
 use Rattle.std.specs.Prelude.{slice_get}
 use Rattle.std.proofs.lemmas.Option.{slice_get_past}
-use Rattle.upon_render.specs.Environment.{Root}
+use Rattle.upon_lookup.specs.Environment.{Root}
 use Rattle.upon_meaning_spec.specs.Alone.{running, alone_within}
 use Rattle.upon_meaning_spec.specs.Engine.{Template, Calls, Resolver}
 use Rattle.upon_meaning_spec.specs.Outcome.{End, good, fails, too_deep, States, with_text_before}

@@ -5,8 +5,8 @@ use Rattle.upon_types.specs.Answers.{FormatEnd, well, refused, Formatter, Callab
 use Rattle.upon_types.specs.Expression.{Expression, base, filtered, Base, var, literal, list, mapping, paren, call}
 use Rattle.upon_types.specs.Path.{Ident}
 use Rattle.upon_types.specs.Val.{Val}
-use Rattle.upon_render.specs.Environment.{Environment}
-use Rattle.upon_render.specs.Finding.{Finding, found, at_fault, Reply}
+use Rattle.upon_lookup.specs.Environment.{Environment}
+use Rattle.upon_lookup.specs.Finding.{Finding, found, at_fault, Reply}
 use Rattle.upon_meaning_spec.specs.Alike.{WordsAlike, ExpressionsAlike, BaseAlike, without_span, EndsAlike, OutcomesAlike}
 use Rattle.upon_meaning_spec.specs.CallFaults.{formatter_expects}
 use Rattle.upon_meaning_spec.specs.Emission.{Emission, end_of, format_outcome, or_fault, formatter_outcome, callable_outcome, emit_found, emit_call, emit_value, emit, emit_base}

@@ -7,9 +7,9 @@ use Rattle.upon_types.specs.Expression.{Expression, base, filtered, Base, var, l
 use Rattle.upon_types.specs.Path.{Ident, path_span}
 use Rattle.upon_types.specs.Val.{Val, list_val, map_val, Entries, no_entries}
 use Rattle.upon_types.specs.View.{vals_of}
-use Rattle.upon_render.specs.Environment.{Environment}
-use Rattle.upon_render.specs.Finding.{Finding, found, at_fault, Reply, reply, on_found, with_found}
-use Rattle.upon_render.specs.Lookup.{lookup}
+use Rattle.upon_lookup.specs.Environment.{Environment}
+use Rattle.upon_lookup.specs.Finding.{Finding, found, at_fault, Reply, reply, on_found, with_found}
+use Rattle.upon_lookup.specs.Lookup.{lookup}
 use Rattle.upon_meaning_spec.specs.Alike.{WordsAlike, ExpressionsAlike, BaseAlike, BasesAlike, ItemsAlike, ArgumentsAlike, without_span}
 use Rattle.upon_meaning_spec.specs.CallFaults.{function_expects, argument_misfits}
 use Rattle.upon_meaning_spec.specs.Engine.{Calls}

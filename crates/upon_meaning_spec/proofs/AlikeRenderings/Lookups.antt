@@ -7,13 +7,13 @@ use Rattle.upon_types.specs.declared.types.ast.path.AccessOp.TheVariants.{Direct
 use Rattle.upon_types.specs.Fault.{Fault}
 use Rattle.upon_types.specs.Path.{Access, by_index, by_key, Member, path_span}
 use Rattle.upon_types.specs.Val.{Val, none_val, bool_val, int_val, text_val, list_val, map_val, entry_at}
-use Rattle.upon_render.specs.Environment.{Bound, Binding, plain, key_text, loop_state, Root, context, value_source, nothing, Environment, first_bound, binding_of}
-use Rattle.upon_render.specs.Finding.{Finding, found, at_fault, Reply}
-use Rattle.upon_render.specs.Lookup.{key_walk, state_member, state_end, after_state, state_walk, bound_value, maybe_bound, bindings_walk, or_not_in_scope, source_value, reply_value, root_value, or_root, lookup}
-use Rattle.upon_render.specs.LookupFaults.{not_in_map, out_of_bounds}
-use Rattle.upon_render.specs.Source.{SourceAnswer, says, refuses, Source, ValueMember, index as of_index, key as of_key, is_optional_op, value_access_of, value_members_of}
-use Rattle.upon_render.specs.Vals.{val_list}
-use Rattle.upon_render.specs.Walk.{miss, found_or_missed, index_in, key_in, member_by_access, lookup_member, after_member, walk, as_some, after_first, context_walk}
+use Rattle.upon_lookup.specs.Environment.{Bound, Binding, plain, key_text, loop_state, Root, context, value_source, nothing, Environment, first_bound, binding_of}
+use Rattle.upon_lookup.specs.Finding.{Finding, found, at_fault, Reply}
+use Rattle.upon_lookup.specs.Lookup.{key_walk, state_member, state_end, after_state, state_walk, bound_value, maybe_bound, bindings_walk, or_not_in_scope, source_value, reply_value, root_value, or_root, lookup}
+use Rattle.upon_lookup.specs.LookupFaults.{not_in_map, out_of_bounds}
+use Rattle.upon_lookup.specs.Source.{SourceAnswer, says, refuses, Source, ValueMember, index as of_index, key as of_key, is_optional_op, value_access_of, value_members_of}
+use Rattle.upon_lookup.specs.Vals.{val_list}
+use Rattle.upon_lookup.specs.Walk.{miss, found_or_missed, index_in, key_in, member_by_access, lookup_member, after_member, walk, as_some, after_first, context_walk}
 use Rattle.upon_meaning_spec.specs.Alike.{SelectorsAlike, StepsAlike, without_span}
 
 -- the same was found, or the faults are the same but for spans

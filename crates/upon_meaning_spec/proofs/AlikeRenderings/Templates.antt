@@ -7,12 +7,12 @@ use Rattle.upon_types.specs.Path.{Ident, LoopVars, item, key_value}
 use Rattle.upon_types.specs.Tree.{Statement, raw, inline_expr, include, if_else, for_loop, with, Statements, no_statements, statement_then, Else, no_else, otherwise}
 use Rattle.upon_types.specs.Truth.{truth}
 use Rattle.upon_types.specs.Val.{Val, none_val, bool_val, int_val, text_val, list_val, map_val, entry_list}
-use Rattle.upon_render.specs.Environment.{Binding, binding, plain, key_text, Environment, Root, root_environment, alone_over, with_name, iteration}
-use Rattle.upon_render.specs.Finding.{Finding, found, at_fault}
+use Rattle.upon_lookup.specs.Environment.{Binding, binding, plain, key_text, Environment, Root, root_environment, alone_over, with_name, iteration}
+use Rattle.upon_lookup.specs.Finding.{Finding, found, at_fault}
 use Rattle.upon_render.specs.Items.{items_of}
-use Rattle.upon_render.specs.LookupFaults.{wrong}
-use Rattle.upon_render.specs.Source.{SourceAnswer, says, refuses}
-use Rattle.upon_render.specs.Vals.{val_list}
+use Rattle.upon_lookup.specs.LookupFaults.{wrong}
+use Rattle.upon_lookup.specs.Source.{SourceAnswer, says, refuses}
+use Rattle.upon_lookup.specs.Vals.{val_list}
 use Rattle.upon_meaning_spec.specs.Alike.{WordsAlike, NamesAlike, ExpressionsAlike, IsEmpty, StatementAlike, OthersAlike, StatementsAlike, without_span, EndsAlike, OutcomesAlike}
 use Rattle.upon_meaning_spec.specs.Alone.{running, on_template, with_template, included, alone_within}
 use Rattle.upon_meaning_spec.specs.Emission.{emit}

@@ -5,7 +5,7 @@ use Rattle.upon_types.specs.Pretty.{pretty}
 use Rattle.upon_types.specs.Tree.{include}
 use Rattle.upon_types.specs.Val.{Val}
 use Rattle.upon_types.proofs.Computing.{computing as columns}
-use Rattle.upon_render.specs.Environment.{context}
+use Rattle.upon_lookup.specs.Environment.{context}
 use Rattle.upon_meaning_spec.specs.Alone.{alone, fault_of_end}
 use Rattle.upon_meaning_spec.specs.Engine.{Template, Engine, rendering_of}
 use Rattle.upon_meaning_spec.proofs.Computing.{computing}

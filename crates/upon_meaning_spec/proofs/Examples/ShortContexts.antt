@@ -8,9 +8,9 @@ use Rattle.upon_types.specs.Path.{Ident, by_index, by_key, Member}
 use Rattle.upon_types.specs.Tree.{Statement, raw, inline_expr, Statements, no_statements, statement_then}
 use Rattle.upon_types.specs.Val.{Val, int_val, text_val, list_val, map_val, Entries, no_entries}
 use Rattle.upon_types.specs.View.{vals_of}
-use Rattle.upon_render.specs.Environment.{context}
-use Rattle.upon_render.specs.Finding.{reply}
-use Rattle.upon_render.specs.Source.{refuses, Source}
+use Rattle.upon_lookup.specs.Environment.{context}
+use Rattle.upon_lookup.specs.Finding.{reply}
+use Rattle.upon_lookup.specs.Source.{refuses, Source}
 use Rattle.upon_meaning_spec.specs.Alone.{alone, fault_of_end}
 use Rattle.upon_types.specs.Answers.{Callable}
 use Rattle.upon_meaning_spec.specs.Engine.{Template, Engine, rendering_of}

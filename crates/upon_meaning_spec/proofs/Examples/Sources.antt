@@ -5,9 +5,9 @@ use Rattle.upon_types.specs.Fault.{render, fault_with_name, fault_with_picture}
 use Rattle.upon_types.specs.Path.{item}
 use Rattle.upon_types.specs.Tree.{include, for_loop, no_else}
 use Rattle.upon_types.specs.Val.{Val, none_val, int_val, text_val}
-use Rattle.upon_render.specs.Environment.{context, value_source}
-use Rattle.upon_render.specs.Finding.{Reply, reply}
-use Rattle.upon_render.specs.Source.{SourceAnswer, says, refuses, ValueMember, key}
+use Rattle.upon_lookup.specs.Environment.{context, value_source}
+use Rattle.upon_lookup.specs.Finding.{Reply, reply}
+use Rattle.upon_lookup.specs.Source.{SourceAnswer, says, refuses, ValueMember, key}
 use Rattle.upon_meaning_spec.specs.Alone.{alone}
 use Rattle.upon_meaning_spec.specs.Engine.{Template, rendering_of, rendering_by}
 use Rattle.upon_meaning_spec.specs.Outcome.{good, fails, states}

@@ -8,8 +8,8 @@ use Rattle.upon_types.specs.Path.{Ident}
 use Rattle.upon_types.specs.TreeSpans.{ExpressionSpans, BaseSpans}
 use Rattle.upon_types.specs.Val.{Val}
 use Rattle.upon_types.proofs.ExpressionSpans.{Covers}
-use Rattle.upon_render.specs.Environment.{Environment}
-use Rattle.upon_render.specs.Finding.{Finding, found, at_fault, Reply}
+use Rattle.upon_lookup.specs.Environment.{Environment}
+use Rattle.upon_lookup.specs.Finding.{Finding, found, at_fault, Reply}
 use Rattle.upon_meaning_spec.specs.Emission.{Emission, end_of, format_outcome, or_fault, formatter_outcome, callable_outcome, emit_call, emit_value, emit, emit_base}
 use Rattle.upon_meaning_spec.specs.Engine.{Calls, Resolver}
 use Rattle.upon_meaning_spec.specs.Evaluation.{Operand, values_of, answer_value, append_operand, evaluate, evaluate_base, evaluate_arguments}

@@ -7,9 +7,9 @@ use Rattle.upon_types.specs.Span.{LiesIn}
 use Rattle.upon_types.specs.TreeSpans.{TreeLiesIn}
 use Rattle.upon_types.specs.Val.{Val, none_val, bool_val, int_val, text_val, list_val, map_val, kind_word}
 use Rattle.upon_types.proofs.CombinedSpans.{combined_lies_in}
-use Rattle.upon_render.specs.Environment.{Root}
-use Rattle.upon_render.specs.Finding.{reply}
-use Rattle.upon_render.specs.Source.{says, refuses}
+use Rattle.upon_lookup.specs.Environment.{Root}
+use Rattle.upon_lookup.specs.Finding.{reply}
+use Rattle.upon_lookup.specs.Source.{says, refuses}
 use Rattle.upon_meaning_spec.specs.Alone.{alone_within, fault_of_end}
 use Rattle.upon_meaning_spec.specs.CallFaults.{depth_reached}
 use Rattle.upon_meaning_spec.specs.DefaultFormat.{default_format}

@@ -9,9 +9,9 @@ use Rattle.upon_types.specs.Path.{Ident, path_span}
 use Rattle.upon_types.specs.TreeSpans.{ExpressionSpans, BaseSpans, BasesSpans, ItemsSpans, ArgumentsSpans}
 use Rattle.upon_types.specs.Val.{Val, Entries, no_entries}
 use Rattle.upon_types.proofs.ExpressionSpans.{Covers, path_place}
-use Rattle.upon_render.specs.Environment.{Environment}
-use Rattle.upon_render.specs.Finding.{Finding, found, at_fault, Reply, reply, on_found}
-use Rattle.upon_render.specs.Lookup.{lookup}
+use Rattle.upon_lookup.specs.Environment.{Environment}
+use Rattle.upon_lookup.specs.Finding.{Finding, found, at_fault, Reply, reply, on_found}
+use Rattle.upon_lookup.specs.Lookup.{lookup}
 use Rattle.upon_meaning_spec.specs.Engine.{Calls, Resolver}
 use Rattle.upon_meaning_spec.specs.Entries.{with_entry}
 use Rattle.upon_meaning_spec.specs.Evaluation.{Operand, values_of, misfit_at, answer_value, call_value, with_span, prepend, append_operand, as_list, as_map, application, evaluate, evaluate_base, evaluate_bases, evaluate_items, evaluate_arguments}

@@ -9,13 +9,13 @@ use Rattle.upon_types.specs.Path.{Access, by_index, by_key, Member, path_span}
 use Rattle.upon_types.specs.TreeSpans.{StepSpans, StepsSpans}
 use Rattle.upon_types.specs.Val.{Val, none_val, bool_val, int_val, text_val, list_val, map_val, entry_at}
 use Rattle.upon_types.proofs.ExpressionSpans.{Covers, path_place}
-use Rattle.upon_render.specs.Environment.{Bound, plain, key_text, loop_state, Root, context, value_source, nothing, Environment, binding_of}
-use Rattle.upon_render.specs.Finding.{Finding, found, at_fault}
-use Rattle.upon_render.specs.Lookup.{key_walk, state_member, state_end, after_state, state_walk, bound_value, maybe_bound, bindings_walk, or_not_in_scope, source_value, root_value, or_root, lookup}
-use Rattle.upon_render.specs.LookupFaults.{wrong, not_in_map, out_of_bounds}
-use Rattle.upon_render.specs.Source.{SourceAnswer, says, refuses, value_members_of}
-use Rattle.upon_render.specs.Vals.{val_list}
-use Rattle.upon_render.specs.Walk.{miss, found_or_missed, index_in, key_in, member_by_access, lookup_member, after_member, walk, as_some, after_first, context_walk}
+use Rattle.upon_lookup.specs.Environment.{Bound, plain, key_text, loop_state, Root, context, value_source, nothing, Environment, binding_of}
+use Rattle.upon_lookup.specs.Finding.{Finding, found, at_fault}
+use Rattle.upon_lookup.specs.Lookup.{key_walk, state_member, state_end, after_state, state_walk, bound_value, maybe_bound, bindings_walk, or_not_in_scope, source_value, root_value, or_root, lookup}
+use Rattle.upon_lookup.specs.LookupFaults.{wrong, not_in_map, out_of_bounds}
+use Rattle.upon_lookup.specs.Source.{SourceAnswer, says, refuses, value_members_of}
+use Rattle.upon_lookup.specs.Vals.{val_list}
+use Rattle.upon_lookup.specs.Walk.{miss, found_or_missed, index_in, key_in, member_by_access, lookup_member, after_member, walk, as_some, after_first, context_walk}
 use Rattle.upon_meaning_spec.specs.Engine.{Calls, Resolver}
 use Rattle.upon_meaning_spec.specs.RenderFaults.{IsStated, not_in_scope, no_index_access, no_key_access, index_into_string, integer_index, index_into, value_refused}
 use Rattle.upon_meaning_spec.specs.RenderFaults.{not_in_map as no_such_key, out_of_bounds as no_such_index}

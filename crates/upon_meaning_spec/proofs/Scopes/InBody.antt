@@ -4,8 +4,8 @@ use Rattle.upon_types.specs.declared.types.Span.{Span}
 use Rattle.upon_types.specs.Expression.{Expression, base, var}
 use Rattle.upon_types.specs.Path.{Ident, Member, path_span}
 use Rattle.upon_types.specs.Tree.{Statement, Statements, inline_expr, include, statement_then, with}
-use Rattle.upon_render.specs.Environment.{Bound, Binding, binding, plain, Environment, bind, bind_all, with_name, alone_over}
-use Rattle.upon_render.specs.Lookup.{bound_value}
+use Rattle.upon_lookup.specs.Environment.{Bound, Binding, binding, plain, Environment, bind, bind_all, with_name, alone_over}
+use Rattle.upon_lookup.specs.Lookup.{bound_value}
 use Rattle.upon_meaning_spec.specs.Emission.{emit_value}
 use Rattle.upon_meaning_spec.specs.Engine.{Calls}
 use Rattle.upon_meaning_spec.specs.Evaluation.{with_span, evaluate}

@@ -5,11 +5,11 @@ use Rattle.upon_types.specs.declared.types.Span.{Span}
 use Rattle.upon_types.specs.declared.types.ast.path.AccessOp.{AccessOp}
 use Rattle.upon_types.specs.Path.{Ident, Access, by_index, by_key, Member}
 use Rattle.upon_types.specs.Val.{Val}
-use Rattle.upon_render.specs.Environment.{alone_over, Binding, Root, Environment, bind, bind_all, first_bound}
-use Rattle.upon_render.specs.Finding.{Finding, found, at_fault}
-use Rattle.upon_render.specs.Lookup.{maybe_bound, bound_value, or_root, lookup}
-use Rattle.upon_render.specs.Walk.{as_some}
-use Rattle.upon_render.specs.Source.{Source}
+use Rattle.upon_lookup.specs.Environment.{alone_over, Binding, Root, Environment, bind, bind_all, first_bound}
+use Rattle.upon_lookup.specs.Finding.{Finding, found, at_fault}
+use Rattle.upon_lookup.specs.Lookup.{maybe_bound, bound_value, or_root, lookup}
+use Rattle.upon_lookup.specs.Walk.{as_some}
+use Rattle.upon_lookup.specs.Source.{Source}
 use Rattle.upon_meaning_spec.specs.Needs.{Start, a_name, an_index, IsStart, Hides}
 
 -- how a path begins

@@ -2,9 +2,9 @@
 use Rattle.std.proofs.Common.{◌≡◌, ℕ, List, Option, Some, None, ap, sym, subst, ◌∙◌, refl, codes, Bool, true, false, bytes_eq}
 use Rattle.upon_types.specs.Fault.{Kind, render}
 use Rattle.upon_types.specs.Val.{Val, none_val, bool_val, int_val, text_val, list_val, map_val}
-use Rattle.upon_render.specs.Environment.{context}
-use Rattle.upon_render.specs.Finding.{reply}
-use Rattle.upon_render.specs.Source.{Source, says, refuses}
+use Rattle.upon_lookup.specs.Environment.{context}
+use Rattle.upon_lookup.specs.Finding.{reply}
+use Rattle.upon_lookup.specs.Source.{Source, says, refuses}
 use Rattle.upon_meaning_spec.specs.Alone.{includes_left, alone, alone_within}
 use Rattle.upon_meaning_spec.specs.Engine.{Template, Table, Calls, Resolver, from_table}
 use Rattle.upon_meaning_spec.specs.Missing.{NothingMissing, AnswersTable, EndsUnknown}

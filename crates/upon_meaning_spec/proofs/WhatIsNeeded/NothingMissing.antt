@@ -1,7 +1,7 @@
 -- Where no include is missing, what answers other names makes no difference.
 use Rattle.std.proofs.Common.{◌≡◌, ℕ, List, [], Option, refl, ap, sym, ◌∙◌}
-use Rattle.upon_render.specs.Environment.{Root, root_environment}
-use Rattle.upon_render.specs.Finding.{reply}
+use Rattle.upon_lookup.specs.Environment.{Root, root_environment}
+use Rattle.upon_lookup.specs.Finding.{reply}
 use Rattle.upon_meaning_spec.specs.Alone.{running, included, includes_left, alone}
 use Rattle.upon_meaning_spec.specs.Engine.{Template, Table, Calls, Resolver, from_table, table_answer}
 use Rattle.upon_meaning_spec.specs.Includes.{Reaches}

@@ -3,10 +3,10 @@ use Rattle.std.proofs.Common.{◌≡◌, inl, inr, refl}
 use Rattle.upon_types.specs.Expression.{Expression, base, filtered, Base, var, literal, list, mapping, paren, call, Bases, no_bases, base_then, Items, no_items, item_then, Arguments, no_arguments, arguments}
 use Rattle.upon_types.specs.Path.{path_span}
 use Rattle.upon_types.specs.Val.{Entries, no_entries}
-use Rattle.upon_render.specs.Environment.{Environment}
-use Rattle.upon_render.specs.Finding.{with_found}
+use Rattle.upon_lookup.specs.Environment.{Environment}
+use Rattle.upon_lookup.specs.Finding.{with_found}
 use Rattle.upon_meaning_spec.specs.Emission.{emit, emit_base, emit_call, emit_value}
-use Rattle.upon_render.specs.Source.{Source}
+use Rattle.upon_lookup.specs.Source.{Source}
 use Rattle.upon_meaning_spec.specs.ValueSource.{with_source}
 use Rattle.upon_meaning_spec.specs.Engine.{Calls}
 use Rattle.upon_meaning_spec.specs.Entries.{with_entry}

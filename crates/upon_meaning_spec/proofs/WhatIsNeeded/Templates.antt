@@ -5,13 +5,13 @@ use Rattle.upon_types.specs.declared.types.ast.path.AccessOp.{AccessOp}
 use Rattle.upon_types.specs.Path.{Ident, Access, by_index, by_key, Member, path_span}
 use Rattle.upon_types.specs.Tree.{Statements}
 use Rattle.upon_types.specs.Val.{Val, none_val, bool_val, int_val, text_val, list_val, map_val, Entries, entry_at}
-use Rattle.upon_render.specs.Environment.{context, Root, value_source, Environment, root_environment}
-use Rattle.upon_render.specs.Finding.{Finding, found, reply}
-use Rattle.upon_render.specs.Lookup.{lookup, or_not_in_scope, reply_value}
-use Rattle.upon_render.specs.LookupFaults.{not_in_map}
+use Rattle.upon_lookup.specs.Environment.{context, Root, value_source, Environment, root_environment}
+use Rattle.upon_lookup.specs.Finding.{Finding, found, reply}
+use Rattle.upon_lookup.specs.Lookup.{lookup, or_not_in_scope, reply_value}
+use Rattle.upon_lookup.specs.LookupFaults.{not_in_map}
 use Rattle.upon_meaning_spec.specs.ValueSource.{with_source}
-use Rattle.upon_render.specs.Source.{ValueMember, value_member_of, value_members_of, Source, SourceAnswer, says, refuses}
-use Rattle.upon_render.specs.Walk.{after_first, found_or_missed, walk, context_walk}
+use Rattle.upon_lookup.specs.Source.{ValueMember, value_member_of, value_members_of, Source, SourceAnswer, says, refuses}
+use Rattle.upon_lookup.specs.Walk.{after_first, found_or_missed, walk, context_walk}
 use Rattle.upon_meaning_spec.specs.Alone.{running, on_template, included, alone_within, includes_left, alone}
 use Rattle.upon_meaning_spec.specs.Engine.{Template, Table, Calls, from_table, table_answer}
 use Rattle.upon_meaning_spec.specs.Meaning.{RunningTemplate, statements_mean}

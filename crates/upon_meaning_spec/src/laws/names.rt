@@ -1,7 +1,7 @@
 // What a template depends on: the names that it reads, and the templates that it reaches.
 ghost use Rattle.std.specs.Prelude.{◌≡◌, ℕ, List, Option};
 ghost use Rattle.upon_types.specs.Val.{Entries, map_val, entry_at};
-ghost use Rattle.upon_render.specs.Environment.{Root, context};
+ghost use Rattle.upon_lookup.specs.Environment.{Root, context};
 ghost use Rattle.upon_meaning_spec.specs.Alone.{alone};
 ghost use Rattle.upon_meaning_spec.specs.Engine.{Template, Table, Calls, Rendering, from_table};
 ghost use Rattle.upon_meaning_spec.specs.Includes.{Reaches};

@@ -2,8 +2,8 @@
 ghost use Rattle.std.specs.Prelude.{◌≡◌, ℕ, List, Option};
 ghost use Rattle.upon_types.specs.Tree.{Statements};
 ghost use Rattle.upon_types.specs.Val.{Val, Entries, map_val, entry_at};
-ghost use Rattle.upon_render.specs.Environment.{Root, context, value_source};
-ghost use Rattle.upon_render.specs.Source.{Source};
+ghost use Rattle.upon_lookup.specs.Environment.{Root, context, value_source};
+ghost use Rattle.upon_lookup.specs.Source.{Source};
 ghost use Rattle.upon_meaning_spec.specs.Alone.{alone};
 ghost use Rattle.upon_meaning_spec.specs.Engine.{Engine, Template, Table, Calls, Resolver, from_table, rendering_of};
 ghost use Rattle.upon_meaning_spec.specs.Missing.{NothingMissing, AnswersTable, EndsUnknown};

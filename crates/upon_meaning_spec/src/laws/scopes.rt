@@ -4,11 +4,11 @@ ghost use Rattle.std.specs.Prelude.{◌≡◌, ℕ, ◌∷◌, ◌++◌, List, c
 ghost use Rattle.upon_types.specs.Path.{Ident, Member};
 ghost use Rattle.upon_types.specs.Tree.{Statement, Statements, statement_then};
 ghost use Rattle.upon_types.specs.Val.{Val};
-ghost use Rattle.upon_render.specs.Environment.{Bound, Binding, Environment, binding, bind, bind_all, with_name, iteration, alone_over};
-ghost use Rattle.upon_render.specs.Finding.{reply};
-ghost use Rattle.upon_render.specs.Lookup.{lookup, bound_value, state_walk, or_not_in_scope};
-ghost use Rattle.upon_render.specs.Source.{Source};
-ghost use Rattle.upon_render.specs.Walk.{walk, context_walk};
+ghost use Rattle.upon_lookup.specs.Environment.{Bound, Binding, Environment, binding, bind, bind_all, with_name, iteration, alone_over};
+ghost use Rattle.upon_lookup.specs.Finding.{reply};
+ghost use Rattle.upon_lookup.specs.Lookup.{lookup, bound_value, state_walk, or_not_in_scope};
+ghost use Rattle.upon_lookup.specs.Source.{Source};
+ghost use Rattle.upon_lookup.specs.Walk.{walk, context_walk};
 ghost use Rattle.upon_meaning_spec.specs.Alone.{included};
 ghost use Rattle.upon_meaning_spec.specs.Engine.{Calls, Resolver};
 ghost use Rattle.upon_meaning_spec.specs.Meaning.{RunningTemplate, Inclusion, statement_means, statements_mean};

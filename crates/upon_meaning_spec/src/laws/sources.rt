@@ -2,7 +2,7 @@
 // others.
 ghost use Rattle.std.specs.Prelude.{◌≡◌, ◌≢◌, ◌<◌, ℕ, List, Option};
 ghost use Rattle.upon_types.specs.Val.{Entries, map_val, entry_at};
-ghost use Rattle.upon_render.specs.Environment.{Root, context};
+ghost use Rattle.upon_lookup.specs.Environment.{Root, context};
 ghost use Rattle.upon_meaning_spec.specs.Alone.{alone};
 ghost use Rattle.upon_meaning_spec.specs.Engine.{Template, Table, Calls, Resolver};
 ghost use Rattle.upon_meaning_spec.specs.Includes.{IsNumbered, Reaches};

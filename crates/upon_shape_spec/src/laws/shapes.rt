@@ -3,7 +3,7 @@ ghost use Rattle.std.specs.Prelude.{◌≡◌, List, IsTrue};
 ghost use Rattle.upon_types.specs.Path.{Member};
 ghost use Rattle.upon_types.specs.Truth.{truth};
 ghost use Rattle.upon_types.specs.Val.{Val};
-ghost use Rattle.upon_render.specs.Walk.{walk};
+ghost use Rattle.upon_lookup.specs.Walk.{walk};
 ghost use Rattle.upon_meaning_spec.specs.MapOrder.{IsAmong};
 ghost use Rattle.upon_shape_spec.specs.Fits.{Fits, MapsRise};
 ghost use Rattle.upon_shape_spec.specs.Found.{Finds, FindsShape};

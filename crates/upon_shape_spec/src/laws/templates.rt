@@ -3,8 +3,8 @@ ghost use Rattle.std.specs.Prelude.{◌≡◌, ◌↔◌, ℕ, ◌<◌, ◌≤�
 ghost use Rattle.upon_types.specs.Fault.{Fault};
 ghost use Rattle.upon_types.specs.Tree.{Statements};
 ghost use Rattle.upon_types.specs.Val.{Val};
-ghost use Rattle.upon_render.specs.Environment.{context};
-ghost use Rattle.upon_render.specs.Source.{Source};
+ghost use Rattle.upon_lookup.specs.Environment.{context};
+ghost use Rattle.upon_lookup.specs.Source.{Source};
 ghost use Rattle.upon_meaning_spec.specs.Alone.{alone_within, includes_left, alone, fault_of_end};
 ghost use Rattle.upon_meaning_spec.specs.CallFaults.{depth_reached};
 ghost use Rattle.upon_meaning_spec.specs.DefaultFormat.{formatter_or_default};

@@ -1,7 +1,7 @@
 // What a store's renderings depend on: the names that are read, and the templates at the paths that are reached.
 ghost use Rattle.std.specs.Prelude.{◌≡◌, ◌≢◌, ◌<◌, ℕ, List, Option};
 ghost use Rattle.upon_types.specs.Val.{Entries, map_val, entry_at};
-ghost use Rattle.upon_render.specs.Environment.{Root, context};
+ghost use Rattle.upon_lookup.specs.Environment.{Root, context};
 ghost use Rattle.upon_meaning_spec.specs.Alone.{alone};
 ghost use Rattle.upon_meaning_spec.specs.Engine.{Template, Calls};
 ghost use Rattle.upon_meaning_spec.specs.Includes.{IsNumbered};

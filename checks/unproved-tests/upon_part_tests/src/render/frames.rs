@@ -5,8 +5,8 @@ use crate::render::stack::{
 use std::alloc::Global;
 use std::process::Abort;
 use std::test::Fail;
+use upon_lookup::source::NoSource;
 use upon_render::iter::LoopState;
-use upon_render::source::NoSource;
 use upon_render::stack::{Stack, State};
 use upon_types::value::{Value, ValueCow};
 

@@ -2,9 +2,9 @@
 use crate::render::stack::{DOT, MAYBE, Part, Row, all_found};
 use std::alloc::{AllocError, Global};
 use std::test::Fail;
-use upon_render::source::{SourceError, ValueAccess, ValueAccessOp, ValueMember, ValueSource};
+use upon_lookup::source::{SourceError, ValueAccess, ValueAccessOp, ValueMember, ValueSource};
+use upon_lookup::value_fn::{CallPath, ValueFn};
 use upon_render::stack::{Stack, State};
-use upon_render::value_fn::{CallPath, ValueFn};
 use upon_types::types::ast::{Ident, Name};
 use upon_types::value::{Value, ValueCow};
 

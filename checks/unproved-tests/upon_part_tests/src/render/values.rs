@@ -3,7 +3,7 @@ use crate::render::stack::{DOT, MAYBE, Part, path};
 use std::alloc::{AllocError, Global};
 use std::collections::BTreeMap;
 use std::test::Fail;
-use upon_render::value::{lookup_path, lookup_path_maybe};
+use upon_lookup::value::{lookup_path, lookup_path_maybe};
 use upon_types::value::same::{is_same, is_same_map};
 use upon_types::value::{Value, ValueCow};
 

@@ -2,7 +2,7 @@
 use std::alloc::{AllocError, Global};
 use std::borrow::CowStr;
 use std::test::Fail;
-use upon::Engine;
+use upon::{Engine, includes, names_needed, needs_of};
 
 // The names in a row, with blanks between.
 fn joined(alloc: Global, names: &[&str]) -> Result<String, AllocError> {
@@ -35,12 +35,12 @@ fn says(
 ) -> Result<(), Fail> {
     let template = engine.compile(CowStr::Borrowed(source))?;
     are(
-        joined(alloc, template.names_needed()?.as_slice())?.as_str(),
+        joined(alloc, names_needed(&template)?.as_slice())?.as_str(),
         needed,
         source,
     )?;
     are(
-        joined(alloc, template.includes()?.as_slice())?.as_str(),
+        joined(alloc, includes(&template)?.as_slice())?.as_str(),
         included,
         source,
     )
@@ -96,7 +96,7 @@ fn names(rt: HostRuntime) -> Result<(), Fail> {
 // What a template of an engine needs, in a line: names, templates, names that no template has, and whether an index
 // begins a path.
 fn engine_says(alloc: Global, engine: &Engine<'_>, name: &str, wanted: &str) -> Result<(), Fail> {
-    let Some(needs) = engine.needs(name) else {
+    let Some(needs) = needs_of(engine, name) else {
         return are("none", wanted, name);
     };
     let needs = needs?;

@@ -1,7 +1,7 @@
 use Rattle.std.proofs.Common.{◌≡◌, ◌∙◌, Some, option_map, ap, subst}
 use Rattle.upon_types.specs.View.{view}
 use Rattle.upon_shape.specs.View.{shape_view}
-use Rattle.upon_engine.specs.Names.{texts}
+use Rattle.upon_needs.specs.Names.{texts}
 use Rattle.upon_calls.specs.Asked.{asked_by}
 use Rattle.upon_calls.specs.Check.{AreRight}
 use Rattle.upon_calls.specs.Contexts.{contexts_by}

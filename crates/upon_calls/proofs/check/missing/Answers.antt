@@ -2,7 +2,7 @@ use Rattle.std.proofs.Common.{rules, ◌≡◌, ◌↔◌, ◌<◌, ◌∙◌, �
 use Rattle.std.proofs.lemmas.List.{take_all}
 use Rattle.upon_types.specs.View.{view}
 use Rattle.upon_meaning_spec.specs.Includes.{Includes}
-use Rattle.upon_engine.specs.Names.{texts}
+use Rattle.upon_needs.specs.Names.{texts}
 use Rattle.upon_engine.specs.Template.{template_tree}
 use Rattle.upon_calls.specs.Check.{is_missing}
 use Rattle.upon_calls.proofs.Kept.{kept, kept_one, kept_past, kept_contains}

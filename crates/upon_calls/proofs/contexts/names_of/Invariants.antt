@@ -1,6 +1,6 @@
 use Rattle.std.proofs.Common.{◌≡◌, drop}
 use Rattle.upon_types.specs.View.{vals_view}
-use Rattle.upon_engine.specs.Names.{texts}
+use Rattle.upon_needs.specs.Names.{texts}
 use Rattle.upon_calls.specs.Arguments.{its_text}
 use Rattle.upon_calls.specs.Contexts.{read_each}
 use Rattle.upon_calls.proofs.Each.{read_before}

@@ -3,8 +3,8 @@ use Rattle.std.proofs.lemmas.Result.{IfOk-weaker}
 use Rattle.serde_json.specs.Data.{string}
 use Rattle.serde_json.specs.View.{items_of}
 use Rattle.serde_json.specs.Written.{compact_text, has_float, items_have_float}
-use Rattle.upon_engine.specs.EngineNeeds.{needed_names, reached_templates, missing_names}
-use Rattle.upon_engine.specs.declared.needs.Needs.{Needs}
+use Rattle.upon_needs.specs.EngineNeeds.{needed_names, reached_templates, missing_names}
+use Rattle.upon_needs.specs.declared.needs.Needs.{Needs}
 use Rattle.upon_calls.specs.Names.{needs_data}
 use Rattle.upon_calls.proofs.names.object_text.Goals as goal
 

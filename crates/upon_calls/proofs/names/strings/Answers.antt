@@ -3,7 +3,7 @@ use Rattle.std.proofs.lemmas.List.{drop_all, drop_more, map-append}
 use Rattle.serde_json.specs.Data.{Data, string}
 use Rattle.serde_json.specs.View.{view, items_of, items_view}
 use Rattle.serde_json.specs.declared.value.Value.{Value}
-use Rattle.upon_engine.specs.Names.{texts}
+use Rattle.upon_needs.specs.Names.{texts}
 use Rattle.upon_calls.proofs.names.strings.Goals as goal
 
 -- one value more

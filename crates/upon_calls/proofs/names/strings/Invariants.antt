@@ -1,7 +1,7 @@
 use Rattle.std.proofs.Common.{◌≡◌, ◌++◌, map, drop}
 use Rattle.serde_json.specs.Data.{string}
 use Rattle.serde_json.specs.View.{view}
-use Rattle.upon_engine.specs.Names.{texts}
+use Rattle.upon_needs.specs.Names.{texts}
 use Rattle.upon_calls.proofs.names.strings.Given as goal
 
 -- the values so far, with those of the names that are left, are all

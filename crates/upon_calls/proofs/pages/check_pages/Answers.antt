@@ -3,7 +3,7 @@ use Rattle.std.proofs.lemmas.Bool.{eqb-true}
 use Rattle.std.proofs.lemmas.List.{nil_from_length}
 use Rattle.upon_shape.specs.View.{shape_view}
 use Rattle.upon_checked.specs.Callables.{declared_view}
-use Rattle.upon_engine.specs.Names.{texts}
+use Rattle.upon_needs.specs.Names.{texts}
 use Rattle.upon_calls.specs.Asked.{asked_by}
 use Rattle.upon_calls.specs.Filled.{filled}
 use Rattle.upon_calls.specs.Templates.{lent_pairs}

@@ -1,7 +1,7 @@
 use Rattle.std.proofs.Common.{◌≡◌, false, take}
 use Rattle.std.specs.Prelude.{All}
 use Rattle.upon_types.specs.View.{view}
-use Rattle.upon_engine.specs.Names.{texts}
+use Rattle.upon_needs.specs.Names.{texts}
 use Rattle.upon_calls.specs.Check.{is_missing}
 use Rattle.upon_calls.proofs.pages.first_missing.Given as goal
 

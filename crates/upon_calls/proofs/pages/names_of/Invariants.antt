@@ -1,5 +1,5 @@
 use Rattle.std.proofs.Common.{◌≡◌, take}
-use Rattle.upon_engine.specs.Names.{texts}
+use Rattle.upon_needs.specs.Names.{texts}
 use Rattle.upon_calls.proofs.CheckedPages.{names_in}
 use Rattle.upon_calls.proofs.pages.names_of.Given as goal
 

@@ -1,4 +1,4 @@
-use Rattle.upon_render.specs.Answer.{is_borrowed_value}
+use Rattle.upon_lookup.specs.Answer.{is_borrowed_value}
 use Rattle.upon_render.specs.Frames.{frame_bindings}
 use Rattle.upon_render.specs.Loop.{is_lent_loop}
 use Rattle.upon_render.specs.declared.stack.State.TheVariants.{Var, Loop}

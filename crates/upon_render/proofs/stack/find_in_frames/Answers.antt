@@ -1,9 +1,9 @@
 use Rattle.std.proofs.Common.{◌≡◌, ◌+◌, ◌-◌, take, arith, ap, sym, ◌∙◌, subst}
 use Rattle.upon_types.specs.AstPath.{first_member, rest_members}
 use Rattle.upon_render.specs.Frames.{frames_over, frames_lend}
-use Rattle.upon_render.specs.Seen.{FindsSeen}
-use Rattle.upon_render.specs.Settled.{SettledPath, known_path}
-use Rattle.upon_render.specs.declared.value.Found.TheVariants.{Lent, Held}
+use Rattle.upon_lookup.specs.Seen.{FindsSeen}
+use Rattle.upon_lookup.specs.Settled.{SettledPath, known_path}
+use Rattle.upon_lookup.specs.declared.value.Found.TheVariants.{Lent, Held}
 use Rattle.upon_render.proofs.Searches.{known-step, known-passed, known_by_frames}
 use Rattle.upon_render.proofs.stack.find_in_frames.Goals as goal
 

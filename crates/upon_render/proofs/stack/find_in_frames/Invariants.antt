@@ -1,8 +1,8 @@
 use Rattle.std.proofs.Common.{◌≡◌, ◌≤◌, Bool, take, length}
 use Rattle.upon_types.specs.AstPath.{first_member, rest_members}
-use Rattle.upon_render.specs.Environment.{Environment}
+use Rattle.upon_lookup.specs.Environment.{Environment}
 use Rattle.upon_render.specs.Frames.{frames_over, frames_lend}
-use Rattle.upon_render.specs.Settled.{known_path}
+use Rattle.upon_lookup.specs.Settled.{known_path}
 use Rattle.upon_render.proofs.stack.find_in_frames.Given as goal
 
 abbrev pub invariant-loop-left : goal.invariant-loop-left

@@ -3,10 +3,10 @@ use Rattle.upon_types.specs.Error.{fault_of}
 use Rattle.upon_types.specs.Fault.{fault_with_picture, OrMemory}
 use Rattle.upon_types.specs.Path.{Member}
 use Rattle.upon_types.specs.declared.types.Span.{Span}
-use Rattle.upon_render.specs.Finding.{at_fault}
-use Rattle.upon_render.specs.LookupFaults.{not_in_scope}
+use Rattle.upon_lookup.specs.Finding.{at_fault}
+use Rattle.upon_lookup.specs.LookupFaults.{not_in_scope}
 use Rattle.upon_types.specs.AstPath.{first_member}
-use Rattle.upon_render.specs.Answer.{is_borrowed_value}
+use Rattle.upon_lookup.specs.Answer.{is_borrowed_value}
 use Rattle.upon_render.specs.Frames.{frame_bindings}
 use Rattle.upon_render.specs.Loop.{is_lent_loop}
 use Rattle.upon_render.specs.declared.stack.State.TheVariants.{Var, Loop}

@@ -2,8 +2,8 @@ use Rattle.std.proofs.Common.{◌≡◌, ◌+◌, ◌-◌, take, arith, sym, sub
 use Rattle.upon_types.specs.AstPath.{first_member, rest_members}
 use Rattle.upon_render.specs.Frames.{frame_bindings, frames_over, frames_lend}
 use Rattle.upon_render.specs.Loop.{is_lent_loop}
-use Rattle.upon_render.specs.Seen.{FindsMade}
-use Rattle.upon_render.specs.Settled.{SettledPath}
+use Rattle.upon_lookup.specs.Seen.{FindsMade}
+use Rattle.upon_lookup.specs.Settled.{SettledPath}
 use Rattle.upon_render.specs.declared.stack.State.TheVariants.{Loop}
 use Rattle.upon_render.proofs.Known.{frame_makes}
 use Rattle.upon_render.proofs.Searches.{known-step, known-passed, known_by_frame}

@@ -1,7 +1,7 @@
 use Rattle.std.proofs.Common.{◌≡◌, ◌+◌, ◌-◌, take, arith, ap, sym, ◌∙◌, subst, Ok, Err, Some}
 use Rattle.upon_types.specs.AstPath.{first_member, rest_members}
 use Rattle.upon_render.specs.Frames.{frames_over, frames_lend}
-use Rattle.upon_render.specs.Settled.{SettledPath, known_path, FindsSettled}
+use Rattle.upon_lookup.specs.Settled.{SettledPath, known_path, FindsSettled}
 use Rattle.upon_render.proofs.Searches.{known-step, known-passed, known_by_frames}
 use Rattle.upon_render.proofs.stack.search.Goals as goal
 

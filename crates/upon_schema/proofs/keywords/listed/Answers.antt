@@ -1,6 +1,6 @@
 use Rattle.std.proofs.Common.{◌≡◌, List, Some, codes, map, sym, ap, subst, ◌∙◌}
 use Rattle.upon_types.specs.Val.{Val, list_val, key_of}
-use Rattle.upon_types.specs.View.{view as value_view, vals_view}
+use Rattle.upon_types.specs.View.{view, vals_view}
 use Rattle.upon_types.specs.declared.value.Value.{Value}
 use Rattle.upon_types.proofs.Views.{view-List}
 use Rattle.upon_meaning_spec.specs.MapOrder.{IsAmong}
@@ -10,9 +10,9 @@ use Rattle.upon_schema.proofs.keywords.listed.Goals as goal
 
 pub returns : goal.returns
 returns c =
-    let schema = value_view c.args.schema.now in
+    let schema = view c.args.schema.now in
     let values = c.in-List.values.items in
-    let is : value_view c.in-Some.found.now ≡ list_val (vals_view values) = ap value_view c.in-List.is ∙ view-List c.in-List.values in
+    let is : view c.in-Some.found.now ≡ list_val (vals_view values) = ap view c.in-List.is ∙ view-List c.in-List.values in
     let at : Some (list_val (vals_view values)) ≡ key_of (codes "enum") schema = ap (λ (v : Val). Some v) (sym is) ∙ c.in-Some.ensures in
-    listed_fits schema (map value_view values) (shape_view c.args.shape) (shape_view c.in_ok-of_samples.field-0) (shape_view c.kept.result) at c.kept.ensures
-    (λ v among. c.in_ok-of_samples.ensures.fits v (subst (λ (vs : List Value). IsAmong v (map value_view vs)) (sym c.deref.ensures.value) among))
+    listed_fits schema (map view values) (shape_view c.args.shape) (shape_view c.in_ok-of_samples.field-0) (shape_view c.kept.result) at c.kept.ensures
+    (λ v among. c.in_ok-of_samples.ensures.fits v (subst (λ (vs : List Value). IsAmong v (map view vs)) (sym c.deref.ensures.value) among))

@@ -1,6 +1,6 @@
 use Rattle.std.proofs.Common.{◌≡◌, List, true, string_bytes, refl, sym, ap, subst, ◌∙◌}
 use Rattle.upon_types.specs.Val.{text_val, entry_at}
-use Rattle.upon_types.specs.View.{view as value_view, vals_view}
+use Rattle.upon_types.specs.View.{view, vals_view}
 use Rattle.upon_types.proofs.Views.{view-String}
 use Rattle.upon_shape.specs.View.{shape_view}
 use Rattle.upon_shape.specs.declared.shape.Key.{Key}
@@ -14,7 +14,7 @@ loop-value-preserved c =
     let vs = c.args.required.now in
     let i = c.loop-value.value-index in
     let text = string_bytes c.in-String.name in
-    let is : value_view c.value-item.result ≡ text_val text = ap value_view c.in-String.is ∙ view-String c.in-String.name in
+    let is : view c.value-item.result ≡ text_val text = ap view c.in-String.is ∙ view-String c.in-String.name in
     let k : Key Shape = record { name = c.in_ok-clone.field-0; required = true; shape = c.in_ok-try_clone.field-0 } in
     let among = c.loop-value.invariant.names (string_bytes k.name) (name_first (string_bytes k.name) vs i c.value-item.result text c.loop-value-test.true c.value-item.is is c.in_ok-clone.ensures.cases) in
     record {

@@ -1,5 +1,5 @@
 use Rattle.std.proofs.Common.{◌≡◌, ℕ, List, drop, sym, ap, subst, ◌∙◌, arith}
-use Rattle.upon_types.specs.View.{view as value_view, vals_view, entries_view}
+use Rattle.upon_types.specs.View.{view, vals_view, entries_view}
 use Rattle.upon_types.specs.declared.value.Value.{Value}
 use Rattle.upon_types.proofs.Views.{Entry}
 use Rattle.upon_shape_spec.specs.Shape.{other_keys}
@@ -24,10 +24,10 @@ add_keys-returns t c =
     let zero : c.loop-index.index ≡ 0 = omega (arith, c.loop-index-test.false) in
     let all : ps ≡ properties_value ks =
     subst (λ (i : ℕ). ps ≡ properties_value (ahead (drop i keys.named.items) (other_keys (shape_view keys.others.value)))) zero c.loop-index.invariant in
-    let others : value_view c.in_ok-others.others ≡ others_value ks =
+    let others : view c.in_ok-others.others ≡ others_value ks =
     c.in_ok-others.ensures ∙ ap (λ (s : Shape). schema_value (shape_view s)) c.deref-2.ensures ∙ sym (others_value-ahead keys.named.items (shape_view keys.others.value)) in
     on_ok_more c.add_required.result (third ≡ with_required names second) (third ≡ with_keys (maps_view c.args.maps.now) old)
-    (λ e. keys_written ks names ps (value_view c.in_ok-others.others) old first second third c.in_ok-add_schema.ensures c.in_ok-add_properties.ensures e c.in_ok-required.ensures all others
+    (λ e. keys_written ks names ps (view c.in_ok-others.others) old first second third c.in_ok-add_schema.ensures c.in_ok-add_properties.ensures e c.in_ok-required.ensures all others
     ∙ ap (λ m. with_keys (maps_view m) old) (sym c.in-Some.is)) c.add_required.ensures
 
 pub schema_of-returns-in_ok-names-in-OneOf : goal.schema_of-returns-in_ok-names-in-OneOf
@@ -35,7 +35,7 @@ schema_of-returns-in_ok-names-in-OneOf t c =
     let o = c.in-OneOf in
     let names = vals_view c.in_ok-names-in-OneOf.names.items in
     let es = entries_view c.add_keys.new.keywords.entries in
-    ok_more c.of_types.result (λ (v : Value). value_view v ≡ typed names es) (λ (v : Value). value_view v ≡ schema_value (shape_view c.args.shape.now))
+    ok_more c.of_types.result (λ (v : Value). view v ≡ typed names es) (λ (v : Value). view v ≡ schema_value (shape_view c.args.shape.now))
     (λ v e. e
     ∙ (λ i. typed (c.in_ok-names-in-OneOf.ensures i) ((c.in_ok-add_keys-in-OneOf.ensures ∙ ap (with_keys (maps_view o.keys)) (c.in_ok-add_items-in-OneOf.ensures ∙ ap (λ (xs : List Entry). with_items (lists_view o.items) (entries_view xs)) c.new-keywords.ensures.empty)) i))
     ∙ ap schema_value (sym (view-OneOf o.plain o.items o.keys)) ∙ ap (λ (s : Shape). schema_value (shape_view s)) (sym o.is)) c.of_types.ensures

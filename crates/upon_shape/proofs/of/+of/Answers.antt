@@ -1,6 +1,6 @@
 use Rattle.std.proofs.Common.{◌≡◌, List, true, string_bytes, String, Global, refl, sym, ap, subst, ◌∙◌, ◌++◌, ◌∷◌, []}
 use Rattle.upon_types.specs.Val.{entry_then}
-use Rattle.upon_types.specs.View.{view as value_view, entries_view}
+use Rattle.upon_types.specs.View.{view, entries_view}
 use Rattle.upon_types.specs.declared.value.Value.{Value}
 use Rattle.upon_types.proofs.Bindings.{rises-entries}
 use Rattle.upon_shape_spec.specs.Fits.{EntriesRise}
@@ -17,7 +17,7 @@ entries_shape-loop-key-preserved t c =
     let left = c.next.new.self in
     let k : Key Shape = record { name = c.in_ok-clone.field-0; required = true; shape = c.in_ok-value_shape.field-0 } in
     let push : c.push.new.self.items ≡ named ++ k ∷ [] = c.in_ok-push.ensures.items in
-    let value = value_view c.in-Some.value.now in
+    let value = view c.in-Some.value.now in
     record {
       shape = ap (λ (ks : List (Key Shape)). ahead ks (keys_shape (entries_view left))) push
           ∙ pushed named k (string_bytes c.in-Some.key.now) true (shape_of value) (keys_shape (entries_view left)) (keys_shape (entry_then (string_bytes c.in-Some.key.now) value (entries_view left)))

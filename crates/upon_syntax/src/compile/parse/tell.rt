@@ -4,7 +4,7 @@ ghost use Rattle.upon_compiler.specs.After.{after_event};
 ghost use Rattle.upon_compiler.specs.Compiler.{compiler_state};
 ghost use Rattle.upon_instructions.specs.Program.{program_view};
 ghost use Rattle.upon_tag_parser.specs.BlockTags.{BlockTag, Keeps, tag_code};
-ghost use Rattle.upon_syntax.specs.Pieces.{TemplatePiece as ToldPiece, KeepsPiece, piece_code};
+ghost use Rattle.upon_syntax.specs.Pieces.{TemplatePiece, KeepsPiece, piece_code};
 ghost use Rattle.upon_syntax.specs.Told.{event_of, tag_event};
 
 use crate::compile::parse::piece::Piece;
@@ -20,9 +20,9 @@ pub(crate) fn tell(
     piece: Piece,
     code: &mut Vec<Instr>,
 ) -> Result<(), AllocError>
-    ensures state { (told : ToldPiece) → KeepsPiece piece told → program_view code.old.items ≡ piece_code told
+    ensures state { (told : TemplatePiece) → KeepsPiece piece told → program_view code.old.items ≡ piece_code told
         → OnOk result (compiler_state compiler.new ≡ after_event (event_of told) (compiler_state compiler.old)) }
-    ensures moved { (told : ToldPiece) → KeepsPiece piece told → program_view code.old.items ≡ piece_code told
+    ensures moved { (told : TemplatePiece) → KeepsPiece piece told → program_view code.old.items ≡ piece_code told
         → OnOk result (code.new.items ≡ []) }
 {
     match piece {

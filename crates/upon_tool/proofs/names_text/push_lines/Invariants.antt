@@ -1,5 +1,5 @@
 use Rattle.std.proofs.Common.{◌≡◌, ◌++◌, drop}
-use Rattle.upon_engine.specs.Names.{texts}
+use Rattle.upon_needs.specs.Names.{texts}
 use Rattle.upon_tool.specs.Names.{lines_of}
 use Rattle.upon_tool.proofs.names_text.push_lines.Given as goal
 

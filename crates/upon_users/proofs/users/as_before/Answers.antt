@@ -1,5 +1,5 @@
 use Rattle.upon_types.specs.View.{view}
-use Rattle.upon_render.specs.Environment.{context}
+use Rattle.upon_lookup.specs.Environment.{context}
 use Rattle.upon_users.proofs.Before.{answers_before}
 use Rattle.upon_users.proofs.users.as_before.Goals as goal
 

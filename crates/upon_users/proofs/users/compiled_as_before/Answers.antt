@@ -1,7 +1,7 @@
 use Rattle.std.proofs.Common.{refl}
 use Rattle.std.specs.Cow.{cow_str_bytes}
 use Rattle.upon_types.specs.View.{view}
-use Rattle.upon_render.specs.Environment.{context}
+use Rattle.upon_lookup.specs.Environment.{context}
 use Rattle.upon_users.proofs.Before.{same_template, memory_alone, memory_answered}
 use Rattle.upon_users.proofs.users.compiled_as_before.Goals as goal
 

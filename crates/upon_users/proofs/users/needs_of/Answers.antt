@@ -1,8 +1,8 @@
 use Rattle.std.proofs.Common.{◌≡◌, ℕ, List, Option, Some, None, IsSomeAnd}
 use Rattle.std.proofs.lemmas.Result.{IfOk-weaker}
 use Rattle.upon_types.specs.Val.{Entries, entry_at, map_val}
-use Rattle.upon_render.specs.Asked.{refuses_all}
-use Rattle.upon_render.specs.Environment.{context}
+use Rattle.upon_lookup.specs.Asked.{refuses_all}
+use Rattle.upon_lookup.specs.Environment.{context}
 use Rattle.upon_meaning_spec.specs.Alone.{alone}
 use Rattle.upon_meaning_spec.specs.Engine.{Engine, Template, Table, Calls, from_table, calls_of, limit_of, rendering_of}
 use Rattle.upon_meaning_spec.specs.Names.{AgreeOn}
@@ -29,4 +29,4 @@ alike : Law → (e : Engine) (t : Template) (these those : Entries) → AgreeOn 
 alike law e t these those agree = law (calls_of e refuses_all) e.templates (limit_of None e) t None these those (states (tt {0}) (tt {0})) agree
 
 pub returns : goal.returns
-returns g c = let e = engine_meant ((ghosts g.dyn-1 g.dyn-2).texts c.args.engine.now) (engine_templates c.args.engine.now) in λ t is. weaker_some c.needs.result _ _ (λ r h. IfOk-weaker r _ _ (λ needs exact these those agree. alike c.names_needed.ensures e t these those (λ n needed. agree n ((exact n).1 needed))) h) (c.needs.ensures.names t is)
+returns g c = let e = engine_meant ((ghosts g.dyn-1 g.dyn-2).texts c.args.engine.now) (engine_templates c.args.engine.now) in λ t is. weaker_some c.needs_of.result _ _ (λ r h. IfOk-weaker r _ _ (λ needs exact these those agree. alike c.names_needed.ensures e t these those (λ n needed. agree n ((exact n).1 needed))) h) (c.needs_of.ensures.names t is)

@@ -1,6 +1,6 @@
 use Rattle.std.proofs.Common.{sym, subst}
 use Rattle.upon_vm.specs.Failures.{FailsSo}
-use Rattle.upon_vm.specs.Machine.{active_of}
+use Rattle.upon_vm_steps.specs.Machine.{active_of}
 use Rattle.upon_vm.specs.declared.failure.Failure.TheVariants.{Error}
 use Rattle.upon_vm.proofs.failure.halted.Goals as goal
 

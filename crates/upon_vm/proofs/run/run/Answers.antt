@@ -2,11 +2,11 @@ use Rattle.std.proofs.Common.{◌<◌, ◌∙◌, refl, sym, subst, arith}
 use Rattle.upon_render.specs.Roots.{pure_root}
 use Rattle.upon_render.specs.Stack.{root_of}
 use Rattle.upon_machine_spec.specs.Run.{steps}
-use Rattle.upon_vm.specs.Acts.{calls_on, stop_or_memory}
+use Rattle.upon_vm_steps.specs.Acts.{calls_on, stop_or_memory}
 use Rattle.upon_vm.specs.Failures.{FailsBy, StopLies}
-use Rattle.upon_vm.specs.Machine.{active_of, state_of}
-use Rattle.upon_vm.specs.declared.machine.Running.{Running}
-use Rattle.upon_vm.proofs.Keeps.{kept_on}
+use Rattle.upon_vm_steps.specs.Machine.{active_of, state_of}
+use Rattle.upon_vm_steps.specs.declared.machine.Running.{Running}
+use Rattle.upon_vm_steps.proofs.Keeps.{kept_on}
 use Rattle.upon_vm.proofs.OnTheWay.{way_asks, way_ended, way_failed, way_first, way_frames, way_nearer, way_not_stuck, way_on, way_stop}
 use Rattle.upon_vm.proofs.Fewer.{fewer}
 use Rattle.upon_vm.proofs.run.run.Goals as goal

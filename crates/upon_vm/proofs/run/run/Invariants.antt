@@ -2,9 +2,9 @@ use Rattle.std.proofs.Common.{◌≡◌, ◌<◌}
 use Rattle.upon_render.specs.Roots.{pure_root}
 use Rattle.upon_render.specs.Stack.{root_of}
 use Rattle.upon_machine_spec.specs.Run.{steps}
-use Rattle.upon_vm.specs.Acts.{calls_on}
-use Rattle.upon_vm.specs.Keeps.{Kept}
-use Rattle.upon_vm.specs.Machine.{state_of}
+use Rattle.upon_vm_steps.specs.Acts.{calls_on}
+use Rattle.upon_vm_steps.specs.Keeps.{Kept}
+use Rattle.upon_vm_steps.specs.Machine.{state_of}
 use Rattle.upon_vm.specs.Runs.{KnownRun, Starts}
 use Rattle.upon_vm.proofs.OnTheWay.{OnTheWay}
 use Rattle.upon_vm.proofs.run.run.Given as goal

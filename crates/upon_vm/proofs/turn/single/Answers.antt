@@ -2,9 +2,9 @@ use Rattle.std.proofs.Common.{refl, subst, sym}
 use Rattle.upon_types.specs.Span.{LiesIn}
 use Rattle.upon_render.specs.Stack.{frames_of}
 use Rattle.upon_instructions.specs.Program.{instr_of, program_view}
-use Rattle.upon_vm.specs.Acts.{NeedsFrames}
-use Rattle.upon_vm.specs.Machine.{callers_view}
-use Rattle.upon_vm.proofs.SpansLie.{code_spans_at}
+use Rattle.upon_vm_steps.specs.Acts.{NeedsFrames}
+use Rattle.upon_vm_steps.specs.Machine.{callers_view}
+use Rattle.upon_vm_steps.proofs.SpansLie.{code_spans_at}
 use Rattle.upon_vm.proofs.turn.single.Goals as goal
 
 pub act-requires : goal.act-requires

@@ -4,9 +4,9 @@ use Rattle.upon_render.specs.Roots.{pure_root}
 use Rattle.upon_render.specs.Stack.{root_of}
 use Rattle.upon_machine_spec.specs.Step.{step}
 use Rattle.upon_fmt.specs.Given.{Short}
-use Rattle.upon_vm.specs.Acts.{DidAll, calls_on, ended, stop_or_memory}
+use Rattle.upon_vm_steps.specs.Acts.{DidAll, calls_on, ended, stop_or_memory}
 use Rattle.upon_vm.specs.Limits.{Leaves}
-use Rattle.upon_vm.specs.Machine.{state_of}
+use Rattle.upon_vm_steps.specs.Machine.{state_of}
 use Rattle.upon_vm.proofs.Turns.{short_within, turn_cut, turn_stopped}
 use Rattle.upon_vm.proofs.turn.take_turn.Goals as goal
 

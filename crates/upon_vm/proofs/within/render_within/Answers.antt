@@ -3,8 +3,8 @@ use Rattle.upon_render.specs.Roots.{pure_root}
 use Rattle.upon_render.specs.Stack.{root_of}
 use Rattle.upon_meaning_spec.specs.Outcome.{states}
 use Rattle.upon_machine_spec.specs.Run.{run}
-use Rattle.upon_vm.specs.Acts.{calls_on}
-use Rattle.upon_vm.specs.Machine.{source_state}
+use Rattle.upon_vm_steps.specs.Acts.{calls_on}
+use Rattle.upon_vm_steps.specs.Machine.{source_state}
 use Rattle.upon_vm.specs.Within.{RanWithin}
 use Rattle.upon_vm.proofs.AtStart.{asks_some, is_at_start, machine_of, known_of, some_asking, some_state, starts}
 use Rattle.upon_vm.proofs.within.render_within.Goals as goal

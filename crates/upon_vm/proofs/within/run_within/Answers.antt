@@ -3,10 +3,10 @@ use Rattle.std.proofs.KnownBytes.{Appends-nil}
 use Rattle.upon_render.specs.Roots.{pure_root}
 use Rattle.upon_render.specs.Stack.{root_of}
 use Rattle.upon_machine_spec.specs.Run.{steps}
-use Rattle.upon_vm.specs.Acts.{calls_on, stop_or_memory}
-use Rattle.upon_vm.specs.Machine.{state_of}
+use Rattle.upon_vm_steps.specs.Acts.{calls_on, stop_or_memory}
+use Rattle.upon_vm_steps.specs.Machine.{state_of}
 use Rattle.upon_vm.proofs.Fewer.{fewer}
-use Rattle.upon_vm.proofs.Keeps.{kept_on}
+use Rattle.upon_vm_steps.proofs.Keeps.{kept_on}
 use Rattle.upon_vm.proofs.WithinWay.{leaves_all}
 use Rattle.upon_vm.proofs.WithinTurns.{grown_on, grown_so, grown_within, within_asks, within_ended, within_failed, within_first, within_frames, within_nearer, within_not_stuck, within_on, within_room, within_steps, within_stop, within_values}
 use Rattle.upon_vm.proofs.within.run_within.Goals as goal

@@ -3,10 +3,10 @@ use Rattle.std.specs.Io.KnownBytes.{Appends}
 use Rattle.upon_render.specs.Roots.{pure_root}
 use Rattle.upon_render.specs.Stack.{root_of}
 use Rattle.upon_machine_spec.specs.Run.{steps}
-use Rattle.upon_vm.specs.Acts.{calls_on}
-use Rattle.upon_vm.specs.Keeps.{Kept}
+use Rattle.upon_vm_steps.specs.Acts.{calls_on}
+use Rattle.upon_vm_steps.specs.Keeps.{Kept}
 use Rattle.upon_vm.specs.Limits.{Leaves}
-use Rattle.upon_vm.specs.Machine.{state_of}
+use Rattle.upon_vm_steps.specs.Machine.{state_of}
 use Rattle.upon_vm.specs.Runs.{KnownRun, Starts}
 use Rattle.upon_vm.proofs.WithinTurns.{WayWithin}
 use Rattle.upon_vm.proofs.within.run_within.Given as goal

@@ -2,7 +2,7 @@ use Rattle.std.proofs.Common.{◌≡◌, Err, subst, sym, ap}
 use Rattle.upon_functions.specs.Says.{Says}
 use Rattle.upon_types.specs.Answers.{wrong_number}
 use Rattle.upon_types.specs.AstPath.{ident_of}
-use Rattle.upon_render.specs.Finding.{at_fault}
+use Rattle.upon_lookup.specs.Finding.{at_fault}
 use Rattle.upon_meaning_spec.specs.CallFaults.{function_expects}
 use Rattle.upon_meaning_spec.specs.Evaluation.{answer_value}
 use Rattle.upon_vm_calls.specs.Halt.{GivesFinding}

@@ -1,5 +1,5 @@
 use Rattle.std.proofs.Common.{refl, sym, ap, ◌∙◌}
-use Rattle.upon_render.specs.Source.{says}
+use Rattle.upon_lookup.specs.Source.{says}
 use Rattle.upon_meaning_spec.specs.Engine.{table_answer}
 use Rattle.upon_engine.specs.Template.{template_of}
 use Rattle.upon.proofs.sources.TemplateMapTemplateSource.template.Goals as goal

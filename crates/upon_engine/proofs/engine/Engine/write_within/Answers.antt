@@ -1,10 +1,10 @@
 use Rattle.std.proofs.Common.{rules, option_map}
 use Rattle.upon_types.specs.TreeSpans.{TreeLiesIn}
-use Rattle.upon_render.specs.Asked.{refuses_all}
+use Rattle.upon_lookup.specs.Asked.{refuses_all}
 use Rattle.upon_render.specs.Stack.{root_of}
 use Rattle.upon_meaning_spec.specs.Engine.{Template}
 use Rattle.upon_meaning_spec.specs.Outcome.{states}
-use Rattle.upon_vm.specs.Program.{IsProgramOf}
+use Rattle.upon_vm_steps.specs.Program.{IsProgramOf}
 use Rattle.upon_engine.specs.Template.{template_of}
 use Rattle.upon_engine.proofs.TemplateSpans.{template_lies}
 use Rattle.upon_engine.proofs.InLimits.{never_asks, write_said}

@@ -2,7 +2,7 @@ use Rattle.std.proofs.Common.{rules, ℕ, ◌-◌, ap, subst}
 use Rattle.upon_types.specs.TreeSpans.{TreeLiesIn}
 use Rattle.upon_meaning_spec.specs.Engine.{Template}
 use Rattle.upon_meaning_spec.specs.Outcome.{states}
-use Rattle.upon_vm.specs.Program.{IsProgramOf}
+use Rattle.upon_vm_steps.specs.Program.{IsProgramOf}
 use Rattle.upon_vm.specs.Runs.{Ran}
 use Rattle.upon_engine.specs.Base.{outcome_within}
 use Rattle.upon_engine.specs.Calls.{call_of}

@@ -1,5 +1,5 @@
 use Rattle.std.proofs.Common.{sym, ap, ◌∙◌}
-use Rattle.upon_render.specs.Source.{says}
+use Rattle.upon_lookup.specs.Source.{says}
 use Rattle.upon_engine.specs.Template.{template_of}
 use Rattle.upon_engine.proofs.sources.ShorterLoansTemplateSource.template.Goals as goal
 

@@ -1,7 +1,7 @@
 use Rattle.std.proofs.Common.{refl}
-use Rattle.upon_render.specs.Asked.{refuses_all}
+use Rattle.upon_lookup.specs.Asked.{refuses_all}
 use Rattle.upon_render.specs.Stack.{root_of}
-use Rattle.upon_vm.specs.Acts.{calls_on}
+use Rattle.upon_vm_steps.specs.Acts.{calls_on}
 use Rattle.upon_engine.proofs.Roots.{at_value}
 use Rattle.upon_engine.proofs.values.ContextValues.render.Goals as goal
 

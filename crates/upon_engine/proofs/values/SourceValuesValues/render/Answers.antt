@@ -1,4 +1,4 @@
-use Rattle.upon_vm.specs.Acts.{calls_on}
+use Rattle.upon_vm_steps.specs.Acts.{calls_on}
 use Rattle.upon_engine.proofs.Roots.{as_before, at_source}
 use Rattle.upon_engine.proofs.values.SourceValuesValues.render.Goals as goal
 

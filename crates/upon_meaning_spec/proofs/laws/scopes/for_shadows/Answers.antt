@@ -1,5 +1,5 @@
 use Rattle.std.proofs.Common.{◌≡◌, ◌∷◌, ◌++◌, inr, sym, ap, ◌∙◌, append_assoc, codes}
-use Rattle.upon_render.specs.Environment.{Environment, binding, loop_state, bind, bind_all, iteration}
+use Rattle.upon_lookup.specs.Environment.{Environment, binding, loop_state, bind, bind_all, iteration}
 use Rattle.upon_meaning_spec.specs.Alone.{included}
 use Rattle.upon_meaning_spec.specs.Meaning.{statements_mean}
 use Rattle.upon_meaning_spec.proofs.SameLookups.{hides, binds_more}

@@ -1,5 +1,5 @@
 use Rattle.std.proofs.Common.{refl, codes}
-use Rattle.upon_render.specs.Environment.{binding, loop_state, bind_all}
+use Rattle.upon_lookup.specs.Environment.{binding, loop_state, bind_all}
 use Rattle.upon_meaning_spec.proofs.LoopNames.{innermost_answers}
 use Rattle.upon_meaning_spec.proofs.laws.scopes.loop_is_innermost.Goals as goal
 

@@ -1,5 +1,5 @@
 use Rattle.std.proofs.Common.{refl}
-use Rattle.upon_render.specs.Environment.{binding}
+use Rattle.upon_lookup.specs.Environment.{binding}
 use Rattle.upon_meaning_spec.proofs.LoopNames.{innermost_answers}
 use Rattle.upon_meaning_spec.proofs.laws.scopes.variable_answers.Goals as goal
 

@@ -1,5 +1,5 @@
 use Rattle.std.proofs.Common.{codes}
-use Rattle.upon_render.specs.Environment.{binding, plain}
+use Rattle.upon_lookup.specs.Environment.{binding, plain}
 use Rattle.upon_meaning_spec.proofs.LoopNames.{innermost_answers}
 use Rattle.upon_meaning_spec.proofs.laws.scopes.with_outranks_loop.Goals as goal
 

@@ -1,5 +1,5 @@
 use Rattle.std.proofs.Common.{◌∷◌, inl, refl}
-use Rattle.upon_render.specs.Environment.{binding, plain, bind, bind_all, with_name}
+use Rattle.upon_lookup.specs.Environment.{binding, plain, bind, bind_all, with_name}
 use Rattle.upon_meaning_spec.proofs.SameLookups.{hides}
 use Rattle.upon_meaning_spec.proofs.SameIncludes.{alike_body}
 use Rattle.upon_meaning_spec.proofs.laws.scopes.with_shadows.Goals as goal

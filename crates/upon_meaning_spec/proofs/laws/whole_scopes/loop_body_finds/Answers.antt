@@ -1,5 +1,5 @@
 use Rattle.std.proofs.Common.{codes}
-use Rattle.upon_render.specs.Environment.{loop_state, bind_all}
+use Rattle.upon_lookup.specs.Environment.{loop_state, bind_all}
 use Rattle.upon_meaning_spec.proofs.Scopes.InBody.{in_body}
 use Rattle.upon_meaning_spec.proofs.laws.whole_scopes.loop_body_finds.Goals as goal
 

@@ -1,9 +1,9 @@
 use Rattle.std.proofs.Common.{◌≡◌, List, subst}
 use Rattle.upon_types.specs.AstPath.{first_member, rest_members}
 use Rattle.upon_types.specs.View.{view}
-use Rattle.upon_render.specs.Environment.{root_environment}
+use Rattle.upon_lookup.specs.Environment.{root_environment}
 use Rattle.upon_render.specs.Roots.{pure_root, root_lends}
-use Rattle.upon_render.specs.Settled.{known_path}
+use Rattle.upon_lookup.specs.Settled.{known_path}
 use Rattle.upon_render.specs.Stack.{stack_environment, root_of, frames_of, stack_lends}
 use Rattle.upon_render.specs.declared.stack.State.{State}
 use Rattle.upon_render.proofs.Searches.{known_by_frames, looks_up_here, looks_up_root}

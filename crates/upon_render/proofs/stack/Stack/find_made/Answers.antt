@@ -1,5 +1,5 @@
 use Rattle.upon_types.specs.AstPath.{first_member, rest_members}
-use Rattle.upon_render.specs.Environment.{root_environment}
+use Rattle.upon_lookup.specs.Environment.{root_environment}
 use Rattle.upon_render.specs.Roots.{pure_root, root_lends}
 use Rattle.upon_render.specs.Stack.{root_of, frames_of}
 use Rattle.upon_render.proofs.Searches.{looks_up_made}

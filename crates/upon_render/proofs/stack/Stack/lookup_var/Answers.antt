@@ -2,11 +2,11 @@ use Rattle.std.proofs.Common.{◌≡◌, inl, subst, sym, ap, ◌∙◌, Ok, Err
 use Rattle.upon_types.specs.AstPath.{first_member, rest_members}
 use Rattle.upon_types.specs.Cow.{cow_view}
 use Rattle.upon_types.specs.Val.{Val}
-use Rattle.upon_render.specs.Answer.{Answers, IsLent, Lends}
-use Rattle.upon_render.specs.Environment.{root_environment}
-use Rattle.upon_render.specs.Finding.{Finding, Reply}
+use Rattle.upon_lookup.specs.Answer.{Answers, IsLent, Lends}
+use Rattle.upon_lookup.specs.Environment.{root_environment}
+use Rattle.upon_lookup.specs.Finding.{Finding, Reply}
 use Rattle.upon_render.specs.Roots.{pure_root, root_lends, HasSource, OrOutOfMemory}
-use Rattle.upon_render.specs.Settled.{SettledPath}
+use Rattle.upon_lookup.specs.Settled.{SettledPath}
 use Rattle.upon_render.specs.Stack.{stack_environment, root_of, frames_of, stack_lends}
 use Rattle.upon_render.proofs.Searches.{some_known, none_known, error_known, lookup_answer, lookup_next, lookup_lends, lookup_in_root}
 use Rattle.upon_render.proofs.stack.Stack.lookup_var.Goals as goal

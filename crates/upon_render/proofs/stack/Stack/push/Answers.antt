@@ -1,5 +1,5 @@
 use Rattle.std.proofs.Common.{List, [], ◌∷◌, ◌++◌, ap, ◌∙◌}
-use Rattle.upon_render.specs.Environment.{root_environment}
+use Rattle.upon_lookup.specs.Environment.{root_environment}
 use Rattle.upon_render.specs.Frames.{frames_over}
 use Rattle.upon_render.specs.Roots.{pure_root}
 use Rattle.upon_render.specs.declared.stack.State.{State}

@@ -1,5 +1,5 @@
 use Rattle.std.proofs.Common.{◌≡◌}
-use Rattle.upon_types.specs.View.{view as value_view}
+use Rattle.upon_types.specs.View.{view}
 use Rattle.upon_shape_spec.specs.Fits.{Fits, MapsRise}
 use Rattle.upon_shape_spec.specs.Join.{shape_of}
 use Rattle.upon_shape.specs.View.{shape_view}
@@ -9,5 +9,5 @@ use Rattle.upon_shape.proofs.shape.Shape.of.Goals as goal
 
 pub returns-clause-fits : goal.returns-clause-fits
 returns-clause-fits c =
-    let v = value_view c.args.value.now in
+    let v = view c.args.value.now in
     from_both c.value_shape.result (λ (s : Shape). shape_view s ≡ shape_of v) (λ (s : Shape). MapsRise v) (λ (s : Shape). Fits (shape_view s) v) (λ s. own (shape_view s) v) c.value_shape.ensures.shape c.value_shape.ensures.rises

@@ -1,6 +1,6 @@
 use Rattle.std.proofs.Common.{◌≡◌, map, ◌∙◌}
 use Rattle.upon_types.specs.Val.{Val}
-use Rattle.upon_types.specs.View.{view as value_view, vals_view}
+use Rattle.upon_types.specs.View.{view, vals_view}
 use Rattle.upon_meaning_spec.specs.MapOrder.{IsAmong}
 use Rattle.upon_shape_spec.specs.Fits.{Fits, AllRise}
 use Rattle.upon_shape_spec.specs.Join.{items_shape, samples_shape}
@@ -11,11 +11,11 @@ use Rattle.upon_shape.proofs.shape.Shape.of_samples.Goals as goal
 
 pub returns-clause-shape : goal.returns-clause-shape
 returns-clause-shape c =
-    let vs = map value_view c.args.samples.now in
+    let vs = map view c.args.samples.now in
     from_one c.joined_shape.result (λ (s : Shape). shape_view s ≡ items_shape (vals_view c.args.samples.now)) (λ (s : Shape). shape_view s ≡ samples_shape vs) (λ s e. e ∙ items_shape-samples vs) c.joined_shape.ensures.shape
 
 pub returns-clause-fits : goal.returns-clause-fits
 returns-clause-fits c =
-    let vs = map value_view c.args.samples.now in
+    let vs = map view c.args.samples.now in
     from_both c.joined_shape.result (λ (s : Shape). shape_view s ≡ items_shape (vals_view c.args.samples.now)) (λ (s : Shape). AllRise (vals_view c.args.samples.now)) (λ (s : Shape). (v : Val) → IsAmong v vs → Fits (shape_view s) v)
     (λ s. of_samples_fit vs (shape_view s)) c.joined_shape.ensures.shape c.joined_shape.ensures.rises

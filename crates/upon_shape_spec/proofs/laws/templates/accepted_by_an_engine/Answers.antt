@@ -1,4 +1,4 @@
-use Rattle.upon_render.specs.Environment.{context}
+use Rattle.upon_lookup.specs.Environment.{context}
 use Rattle.upon_meaning_spec.specs.Alone.{includes_left, alone}
 use Rattle.upon_meaning_spec.specs.Engine.{calls_of, limit_of, rendering_of}
 use Rattle.upon_meaning_spec.proofs.NumberedDepth.{numbered_depth}

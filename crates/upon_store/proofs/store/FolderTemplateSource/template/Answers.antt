@@ -1,5 +1,5 @@
 use Rattle.std.proofs.Common.{refl, sym, ap, ◌∙◌, string_bytes}
-use Rattle.upon_render.specs.Source.{says}
+use Rattle.upon_lookup.specs.Source.{says}
 use Rattle.upon_engine.specs.HandsOn.{shown_answer}
 use Rattle.upon_engine.specs.Template.{template_of}
 use Rattle.upon_store.specs.Stored.{held, stored, path_answer, store_answer}

@@ -1,5 +1,0 @@
-use Rattle.upon_engine.proofs.RenderingLaws.{agree_of}
-use Rattle.upon_engine.proofs.laws_of_rendering.text_is_sent.Goals as goal
-
-pub returns : goal.returns
-returns g c = agree_of _ _ c.args.engine.now

@@ -1,7 +1,0 @@
-use Rattle.std.proofs.Common.{◌≡◌, ◌++◌}
-use Rattle.upon_engine.specs.EngineNeeds.{table_in, start_of}
-use Rattle.upon_engine.proofs.Begun.{NoneBegins}
-use Rattle.upon_engine.proofs.needs.one_begins.Given as goal
-
-abbrev pub invariant-loop-name : goal.invariant-loop-name
-invariant-loop-name l = (l.yielded ++ l.name-iterator ≡ l.initial.name-iterator) × NoneBegins (table_in l.templates) l.yielded (start_of l.start)

@@ -1,7 +1,0 @@
-use Rattle.std.proofs.Common.{◌≡◌, take, is_some}
-use Rattle.upon_engine.specs.EngineNeeds.{table_in}
-use Rattle.upon_engine.proofs.NeededNames.{Chosen}
-use Rattle.upon_engine.proofs.needs.with_template.Given as goal
-
-abbrev pub invariant-loop-name : goal.invariant-loop-name
-invariant-loop-name l = Chosen (λ name. is_some (table_in l.templates name) ≡ l.have) l.chosen (take l.name-index l.names)

@@ -1,8 +1,0 @@
-use Rattle.std.proofs.Common.{◌≡◌, drop}
-use Rattle.std.specs.List.{list_any}
-use Rattle.upon_instructions.specs.Program.{program_view}
-use Rattle.upon_engine.specs.IndexStarts.{has_index, begins_by_index}
-use Rattle.upon_engine.proofs.template.Template.begins_by_index.Given as goal
-
-abbrev pub invariant-loop-instr : goal.invariant-loop-instr
-invariant-loop-instr l = list_any has_index (program_view (drop l.instr-index l.instrs)) ≡ begins_by_index (program_view l.instrs)

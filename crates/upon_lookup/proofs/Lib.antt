@@ -1,0 +1,2 @@
+pub mod ValueItems
+pub mod Tells

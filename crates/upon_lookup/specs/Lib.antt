@@ -1,0 +1,12 @@
+pub mod Finding
+pub mod Vals
+pub mod LookupFaults
+pub mod Walk
+pub mod Environment
+pub mod Source
+pub mod Lookup
+pub mod Answer
+pub mod PathSpans
+pub mod Asked
+pub mod Settled
+pub mod Seen

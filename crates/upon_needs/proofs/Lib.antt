@@ -1,0 +1,7 @@
+pub mod SetsOfNames
+pub mod NeededNames
+pub mod IndexStarts
+pub mod OpenBlocks
+pub mod Links
+pub mod SearchSteps
+pub mod Begun

@@ -1,0 +1,5 @@
+pub mod Names
+pub mod IndexStarts
+pub mod OpenBlocks
+pub mod Unseen
+pub mod EngineNeeds

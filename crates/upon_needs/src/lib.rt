@@ -1,0 +1,6 @@
+// What a template needs of its context, and which templates it includes.
+#![tactic(auto)]
+
+pub mod needs;
+mod starts;
+pub mod template_names;

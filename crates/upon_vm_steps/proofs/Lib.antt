@@ -1,0 +1,13 @@
+pub mod FrameRows
+pub mod DroppedFrames
+pub mod Emissions
+pub mod Pairs
+pub mod Reported
+pub mod Asked
+pub mod Entered
+pub mod EntryPairs
+pub mod TurnPairs
+pub mod Acts
+pub mod SpansLie
+pub mod Keeps
+pub mod Unnamed
