@@ -2,6 +2,7 @@
 ghost use Rattle.std.specs.Prelude.{◌≡◌, ◌++◌, ◌∷◌, [], ℕ, List, map, None, Some, IfOk, OnErr, OnOk, option_map, bytes_eq, string_bytes};
 ghost use Rattle.std.specs.Map.{update};
 ghost use Rattle.upon_types.specs.Conversions.{or_else};
+ghost use Rattle.upon_tool_messages.specs.Gone.{IsOfGone};
 ghost use Rattle.upon_tool_messages.specs.Library.{library_callables, library_names, refused_as, read_refusal, IsOfAdded};
 
 use crate::failure::{is_memory, report_fault};
@@ -55,8 +56,10 @@ impl Refusal {
     }
 }
 
-/// Says why a file is no template.
-pub fn report_refusal<E: io::Write>(alloc: Global, name: &str, refusal: &Refusal, err: &mut E) {
+/// Says why a file is no template; nothing, if that is an error of which nothing is said, as [`report_fault`] has it.
+pub fn report_refusal<E: io::Write>(alloc: Global, name: &str, refusal: &Refusal, err: &mut E)
+    ensures { IsOfGone refusal.now → err.new ≡ err.old }
+{
     match refusal {
         Refusal::Fault(error) => report_fault(alloc, error, err),
         Refusal::Unreadable(error) => {
