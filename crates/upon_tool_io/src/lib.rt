@@ -2,6 +2,7 @@
 #![tactic(auto)]
 
 pub mod arguments;
+mod command_line;
 pub mod files;
 pub mod folder;
 pub mod output;
