@@ -3,11 +3,13 @@
 A file has a line `refused: GOAL`, then a line `file: PATH`, and pairs of lines `old: TEXT` and `new: TEXT`. Each old text is in
 that file once, at the time when its pair is applied, and each text is a line or a part of one. `GOAL` is what the edit leaves
 open: a clause by its name, the name of a goal, or `ensures`, `requires` or `invariant` if the goal has no clause's name.
+An edit of a line outside of functions may have a line `function: NAME` too: the one that it makes wrong, by the name that a check's
+lines give it, below the crate.
 """
 import os
 import re
 
-PART = re.compile(r"(file|old|new|refused):(?: (.*))?\Z")
+PART = re.compile(r"(file|old|new|refused|function):(?: (.*))?\Z")
 
 
 class BadEdit(Exception):
@@ -19,7 +21,7 @@ class Edit:
 
     def __init__(self, path, crate, functions):
         self.name = os.path.basename(path).removesuffix(".edit")
-        self.refused, self.texts, self.bad = "", {}, None
+        self.refused, self.of, self.texts, self.bad = "", "", {}, None
         try:
             with open(path, encoding="utf-8") as file:
                 self.apply(file.read().split("\n"), crate)
@@ -41,6 +43,8 @@ class Edit:
             word, text = part[1], part[2] or ""
             if word == "refused":
                 self.refused = text.strip()
+            elif word == "function":
+                self.of = text.strip()
             elif word == "file":
                 path = text.strip()
                 self.texts.setdefault(path, text_of(crate, path))

@@ -8,12 +8,13 @@ CLAUSES = ("requires", "ensures", "ghost", "where")
 
 @dataclasses.dataclass(frozen=True)
 class Function:
-    """A function: the lines (from 0) of its head, of its body and of its end, the head of its impl, and its cycle of calls."""
+    """A function: the lines (from 0) of its head, of its body and of its end, whether it has one, the head of its impl, and its cycle of calls."""
 
     file: str
     first: int
     body: int
     last: int
+    has_body: bool
     name: str
     owner: str
     cycle: str
@@ -32,7 +33,7 @@ def functions_of(file, text):
         head = HEAD.match(line)
         if head:
             body, last = body_of(lines, at, head[1])
-            found.append(Function(file, at, body, last, head[2], owner if at <= owner_ends else "", cycle_of(lines, at)))
+            found.append(Function(file, at, body, last, not lines[last].endswith(";"), head[2], owner if at <= owner_ends else "", cycle_of(lines, at)))
     return found
 
 
@@ -66,6 +67,16 @@ def cycle_of(lines, at):
     above = "\n".join(lines[max(0, at - 6) : at]).rpartition("}")[2]
     found = re.search(r"cycle\((\w+)\)", above)
     return found[1] if found else ""
+
+
+def without_bodies(text, functions):
+    """Returns a file's text in which these functions have a body that never ends, in as many lines."""
+    lines = text.split("\n")
+    for it in functions:
+        inside = range(it.body + 1, it.last)
+        for line in inside:
+            lines[line] = "loop {}" if line == inside[0] else ""
+    return "\n".join(lines)
 
 
 def names_of_impl(head):

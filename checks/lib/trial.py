@@ -29,36 +29,59 @@ class Trial:
         self.edits = [edits_module.Edit(path, crate.folder, self.functions) for path in paths]
         self.results = {it.name: Result(False, f"BAD EDIT: {it.bad}") for it in self.edits if it.bad}
         self.known, self.seconds, self.batches, self.astray = set(known), 0.0, 0, []
-        self.alone = [it for it in self.edits if not it.bad and not it.is_of_functions()]
+        self.alone = [it for it in self.edits if not it.bad and not it.is_of_functions() and not it.of]
 
     def run(self):
         """Tries each edit."""
         take_kept(self.crate, self.kept)
-        narrow = [it for it in self.edits if not it.bad and it.is_of_functions()]
+        sound = [it for it in self.edits if not it.bad]
         again = []
-        for batch in edits_module.batches_of(narrow):
+        for batch in edits_module.batches_of([it for it in sound if it.is_of_functions()]):
             again += self.try_batch(batch, is_last=False)
         for batch in edits_module.batches_of(again, with_cycles=True):
             self.alone += self.try_batch(batch, is_last=True)
+        for edit in (it for it in sound if it.of and not it.is_of_functions()):
+            edit.functions |= self.named(edit.of)
+            self.alone += self.try_batch([edit], is_last=True) if edit.functions else [edit]
         for edit in self.alone:
             self.try_alone(edit)
 
-    def check(self, batch, only=()):
+    def named(self, name):
+        """Returns the functions of a name, as a check's lines give it below the crate."""
+        return {it for found in self.functions.values() for it in found if self.name_of(it) == f"{self.crate.name}::{name}"}
+
+    def name_of(self, function):
+        """Returns the name under which a check's lines tell of the function, or None if that is not sure."""
+        return functions_module.name_of(function, self.crate.name, self.known)
+
+    def check(self, batch, only=(), assumed=()):
         """Checks a copy with these edits, once more if the check was killed, most likely for memory."""
+        texts = edits_module.texts_with(batch, self.crate.folder)
+        if assumed:
+            texts = self.without_bodies(texts, set(assumed))
         for _ in range(2):
-            said, seconds = prover.check(self.module, self.crate, edits_module.texts_with(batch, self.crate.folder), self.kept, only)
+            said, seconds = prover.check(self.module, self.crate, texts, self.kept, only, assumed)
             self.seconds += seconds
             if said.status != -signal.SIGKILL:
                 break
         return said
+
+    def checked(self, batch):
+        """Checks a copy with these edits, in which the contracts of the other functions are taken as they are; if such a copy can't be read, one in
+        which they are proved. Returns what was said, and the places that can't be read."""
+        for others in (self.others(batch), ()):
+            said = self.check(batch, self.scope(batch), others)
+            places = said.unread({path for edit in batch for path in edit.texts})
+            if not others or not places or any(self.is_at(edit, *place[:2]) for edit in batch for place in places):
+                break
+        return said, places
 
     def try_batch(self, batch, is_last):
         """Tries edits in one copy, and returns those of which that tells nothing and which are to be tried with fewer, or alone."""
         said, unread = None, []
         while batch:
             self.batches += 1
-            said = self.check(batch, self.scope(batch))
-            places = said.unread({path for edit in batch for path in edit.texts})
+            said, places = self.checked(batch)
             unread = [edit for edit in batch if any(self.is_at(edit, *place[:2]) for place in places)]
             if not places:
                 break
@@ -76,11 +99,22 @@ class Trial:
     def scope(self, batch):
         """Returns what a check of these edits has to read: functions, or whole modules where their names are not known yet."""
         functions = {it for edit in batch for it in edit.functions}
-        names = [functions_module.name_of(it, self.crate.name, self.known) for it in functions]
+        names = [self.name_of(it) for it in functions]
         if all(names):
             return sorted(set(names))
         modules = {"::".join(functions_module.module_of(self.crate.name, it.file)[1:]) for it in functions}
         return [] if "" in modules else sorted(modules)
+
+    def others(self, batch):
+        """Returns the names of the functions that no edit of the batch changes, if these are sure. One in a cycle of calls is not among them."""
+        edited = {it for edit in batch for it in edit.functions}
+        every = {it for found in self.functions.values() for it in found if it.has_body and not it.cycle}
+        return sorted({self.name_of(it) for it in every - edited} - {self.name_of(it) for it in edited} - {None})
+
+    def without_bodies(self, texts, assumed):
+        """Returns the texts of all files, in which the functions that are assumed to be proved have a body of nothing."""
+        found = {path: texts.get(path) or edits_module.text_of(self.crate.folder, path) for path in self.functions}
+        return {path: functions_module.without_bodies(text, [it for it in self.functions[path] if self.name_of(it) in assumed]) for path, text in found.items()}
 
     def is_at(self, edit, file, line):
         """Whether a place is in one of the functions that the edit changes."""
@@ -92,7 +126,7 @@ class Trial:
         near += [goal for cycle, goal in said.of_cycles for it in edit.functions if it.cycle == cycle and goal.name.split("-")[0].endswith(it.name)]
         if edit.cycles and not is_last:
             return near
-        names = [functions_module.name_of(it, self.crate.name, self.known) for it in edit.functions]
+        names = [self.name_of(it) for it in edit.functions]
         return near + [goal for name in names if name in said.open for goal in said.open[name]]
 
     def is_told(self, edit, said, is_last):
@@ -105,7 +139,7 @@ class Trial:
 
     def find_astray(self, batch, said):
         """Finds functions that no edit of the batch changes and that fail by themselves."""
-        edited = {functions_module.name_of(it, self.crate.name, self.known) for edit in batch for it in edit.functions}
+        edited = {self.name_of(it) for edit in batch for it in edit.functions}
         if not any(edit.cycles for edit in batch):
             self.astray += [(name, said.open[name][0].says[:160]) for name in sorted(set(said.open) - edited)]
 
