@@ -6,7 +6,7 @@ use Rattle.upon_types.specs.Path.{LoopVars}
 use Rattle.upon_types.specs.Span.{slice}
 use Rattle.upon_types.specs.Val.{Val}
 use Rattle.upon_lookup.specs.Environment.{Environment, alone_over, with_name}
-use Rattle.upon_render.specs.Items.{items_of}
+use Rattle.upon_lookup.specs.Items.{items_of}
 use Rattle.upon_meaning_spec.specs.Emission.{emit}
 use Rattle.upon_meaning_spec.specs.Engine.{Calls}
 use Rattle.upon_meaning_spec.specs.Evaluation.{evaluate}

@@ -10,3 +10,4 @@ pub mod PathSpans
 pub mod Asked
 pub mod Settled
 pub mod Seen
+pub mod Items

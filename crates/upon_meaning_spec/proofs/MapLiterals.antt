@@ -7,7 +7,7 @@ use Rattle.upon_types.specs.Val.{Entries, no_entries, map_val, key_of, entry_lis
 use Rattle.upon_types.proofs.Bindings.{one_map}
 use Rattle.upon_lookup.specs.Environment.{Environment}
 use Rattle.upon_lookup.specs.Finding.{Finding, found, at_fault, Reply, reply, with_found}
-use Rattle.upon_render.specs.Items.{items_of, entry_binds}
+use Rattle.upon_lookup.specs.Items.{items_of, entry_binds}
 use Rattle.upon_meaning_spec.specs.Engine.{Calls}
 use Rattle.upon_meaning_spec.specs.Entries.{with_entry}
 use Rattle.upon_meaning_spec.specs.Evaluation.{Operand, operand, evaluate_base, evaluate_items, as_map}

@@ -18,7 +18,7 @@ use Rattle.upon_types.specs.Conversions.{or_else, last_at}
 use Rattle.upon_types.proofs.Copies.{is_less}
 use Rattle.upon_lookup.specs.Environment.{Environment}
 use Rattle.upon_lookup.specs.Finding.{Finding, found, at_fault, reply, on_found}
-use Rattle.upon_render.specs.Items.{items_of, entry_binds}
+use Rattle.upon_lookup.specs.Items.{items_of, entry_binds}
 use Rattle.upon_meaning_spec.specs.Engine.{Calls}
 use Rattle.upon_meaning_spec.specs.Entries.{with_entry}
 use Rattle.upon_meaning_spec.specs.Evaluation.{Operand, operand, prepend, as_map, evaluate_base, evaluate_bases, evaluate_items}

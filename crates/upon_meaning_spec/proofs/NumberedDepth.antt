@@ -4,7 +4,7 @@ use Rattle.upon_types.specs.Expression.{expression_span}
 use Rattle.upon_types.specs.Path.{Ident}
 use Rattle.upon_types.specs.Tree.{Statement, raw, inline_expr, include, if_else, for_loop, with, Statements, no_statements, statement_then, Else, no_else, otherwise}
 use Rattle.upon_lookup.specs.Environment.{Environment, Root, root_environment, alone_over, with_name}
-use Rattle.upon_render.specs.Items.{items_of}
+use Rattle.upon_lookup.specs.Items.{items_of}
 use Rattle.upon_lookup.specs.Source.{Source, SourceAnswer, says, refuses}
 use Rattle.upon_meaning_spec.specs.Alone.{running, on_template, included, includes_left, alone}
 use Rattle.upon_meaning_spec.specs.Emission.{emit}

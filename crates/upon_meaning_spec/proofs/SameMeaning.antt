@@ -6,7 +6,7 @@ use Rattle.upon_types.specs.Tree.{Statement, raw, inline_expr, include, if_else,
 use Rattle.upon_types.specs.Val.{Entries, no_entries}
 use Rattle.upon_lookup.specs.Environment.{Binding, binding, plain, Environment, bind_all, with_name, alone_over, iteration, loop_state}
 use Rattle.upon_lookup.specs.Finding.{Finding, found, at_fault, with_found}
-use Rattle.upon_render.specs.Items.{items_of}
+use Rattle.upon_lookup.specs.Items.{items_of}
 use Rattle.upon_meaning_spec.specs.Emission.{emit, emit_base, emit_call, emit_value}
 use Rattle.upon_meaning_spec.specs.Engine.{Calls}
 use Rattle.upon_meaning_spec.specs.Entries.{with_entry}

@@ -6,7 +6,7 @@ use Rattle.upon_types.specs.Tree.{Statement, raw, inline_expr, include, if_else,
 use Rattle.upon_types.specs.Val.{Val}
 use Rattle.upon_lookup.specs.Environment.{Binding, binding, plain, loop_state, context}
 use Rattle.upon_lookup.specs.Finding.{Finding, found, at_fault, Reply}
-use Rattle.upon_render.specs.Items.{items_of}
+use Rattle.upon_lookup.specs.Items.{items_of}
 use Rattle.upon_lookup.specs.Source.{SourceAnswer, says, refuses, Source}
 use Rattle.upon_meaning_spec.specs.Alone.{running, on_template, included, alone_within}
 use Rattle.upon_meaning_spec.specs.Engine.{Template, Calls, Resolver}

@@ -8,7 +8,7 @@ use Rattle.upon_types.specs.Expression.{Bases, no_bases, base_then, Items, no_it
 use Rattle.upon_types.specs.Path.{Ident}
 use Rattle.upon_types.specs.Val.{Val, Entries, entry_at}
 use Rattle.upon_lookup.specs.Environment.{Binding}
-use Rattle.upon_render.specs.Items.{entry_binds}
+use Rattle.upon_lookup.specs.Items.{entry_binds}
 use Rattle.upon_meaning_spec.specs.Evaluation.{Operand}
 
 -- it is one of these

@@ -9,7 +9,7 @@ use Rattle.upon_types.specs.Tree.{Statement, raw, inline_expr, include, if_else,
 use Rattle.upon_types.specs.Val.{Val}
 use Rattle.upon_lookup.specs.Environment.{Binding, Environment, alone_over, with_name, iteration}
 use Rattle.upon_lookup.specs.Finding.{Finding, found, at_fault, Reply}
-use Rattle.upon_render.specs.Items.{items_of}
+use Rattle.upon_lookup.specs.Items.{items_of}
 use Rattle.upon_types.specs.Truth.{truth}
 use Rattle.upon_meaning_spec.specs.Emission.{emit}
 use Rattle.upon_meaning_spec.specs.Engine.{Calls}

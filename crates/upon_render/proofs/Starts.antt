@@ -7,7 +7,7 @@ use Rattle.upon_types.specs.declared.types.Span.{Span}
 use Rattle.upon_types.specs.declared.value.Value.{Value}
 use Rattle.upon_types.proofs.Bindings.{rises-entries}
 use Rattle.upon_types.proofs.Views.{Entry, view-List, view-Map}
-use Rattle.upon_render.specs.Items.{item_binds, entry_binds}
+use Rattle.upon_lookup.specs.Items.{item_binds, entry_binds}
 use Rattle.upon_render.specs.LoopItems.{binds, lone_items, entry_items}
 use Rattle.upon_lookup.specs.Vals.{val_list}
 

@@ -1,4 +1,3 @@
-pub mod Items
 pub mod Cursor
 pub mod LoopItems
 pub mod Loop

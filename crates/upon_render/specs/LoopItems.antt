@@ -13,7 +13,7 @@ use Rattle.upon_types.specs.View.{view}
 use Rattle.upon_types.specs.declared.value.Value.{Value}
 use Rattle.upon_lookup.specs.Answer.{is_borrowed_value}
 use Rattle.upon_lookup.specs.Environment.{Binding}
-use Rattle.upon_render.specs.Items.{item_binds, entry_binds}
+use Rattle.upon_lookup.specs.Items.{item_binds, entry_binds}
 use Rattle.upon_render.specs.declared.items.Here.{Here}
 use Rattle.upon_render.specs.declared.items.Item.{Item}
 use Rattle.upon_render.specs.declared.items.Item.TheVariants.{Lone, Entry}

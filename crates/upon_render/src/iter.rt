@@ -8,7 +8,7 @@ ghost use Rattle.upon_types.specs.View.{view};
 ghost use Rattle.upon_lookup.specs.Answer.{AnswersAlways, Answers, TellsFault, maybe_view, is_borrowed_value, IsLentIfAny, Lends};
 ghost use Rattle.upon_lookup.specs.Environment.{first_bound};
 ghost use Rattle.upon_render.specs.Cursor.{advance, has_begun, loop_bindings, loop_walk, lends_bound};
-ghost use Rattle.upon_render.specs.Items.{items_of};
+ghost use Rattle.upon_lookup.specs.Items.{items_of};
 ghost use Rattle.upon_lookup.specs.Lookup.{bindings_walk, maybe_bound, key_walk, state_map, state_walk};
 ghost use Rattle.upon_render.specs.declared.items.Item.TheVariants.{Lone};
 ghost use Rattle.upon_types.specs.declared.value.cow.ValueCow.TheVariants.{Borrowed, Owned};

@@ -6,7 +6,7 @@ use Rattle.upon_types.specs.Path.{Ident, LoopVars, item, key_value}
 use Rattle.upon_types.specs.Val.{Val, none_val, bool_val, int_val, text_val, list_val, map_val, Vals, no_vals, val_then, Entries, entry_list}
 use Rattle.upon_lookup.specs.Environment.{Bound, plain, key_text, loop_state, Binding, Root, context, value_source, nothing, Environment, first_bound}
 use Rattle.upon_lookup.specs.Finding.{Finding}
-use Rattle.upon_render.specs.Items.{item_binds, entry_binds, items_of}
+use Rattle.upon_lookup.specs.Items.{item_binds, entry_binds, items_of}
 use Rattle.upon_lookup.specs.Vals.{val_list}
 use Rattle.upon_meaning_spec.specs.MapOrder.{IsAmong}
 use Rattle.upon_meaning_spec.proofs.MapOrder.{goes_in_order}

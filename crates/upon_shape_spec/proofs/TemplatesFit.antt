@@ -7,7 +7,7 @@ use Rattle.upon_types.specs.Truth.{truth}
 use Rattle.upon_types.specs.Val.{Val}
 use Rattle.upon_lookup.specs.Environment.{Binding, Environment, binding, alone_over, with_name, iteration, loop_state, plain}
 use Rattle.upon_lookup.specs.Finding.{Finding, found, at_fault}
-use Rattle.upon_render.specs.Items.{items_of}
+use Rattle.upon_lookup.specs.Items.{items_of}
 use Rattle.upon_meaning_spec.specs.Emission.{emit}
 use Rattle.upon_meaning_spec.specs.Engine.{Calls}
 use Rattle.upon_meaning_spec.specs.Evaluation.{Operand, evaluate}

@@ -9,7 +9,7 @@ use Rattle.upon_types.specs.Tree.{Statement, raw, inline_expr, include, if_else,
 use Rattle.upon_types.specs.Val.{Val}
 use Rattle.upon_lookup.specs.Environment.{Binding, Environment, Root, root_environment, alone_over, with_name, iteration}
 use Rattle.upon_lookup.specs.Finding.{Finding, found, at_fault, Reply}
-use Rattle.upon_render.specs.Items.{items_of}
+use Rattle.upon_lookup.specs.Items.{items_of}
 use Rattle.upon_lookup.specs.Source.{SourceAnswer, says, refuses}
 use Rattle.upon_meaning_spec.specs.Alone.{running, on_template, included, alone_within, includes_left, alone}
 use Rattle.upon_meaning_spec.specs.Emission.{Emission, or_fault, formatter_outcome, callable_outcome, emit_call, emit_value, emit, emit_base}

@@ -10,7 +10,7 @@ use Rattle.upon_types.proofs.CombinedSpans.{combined_lies_in}
 use Rattle.upon_types.proofs.ExpressionSpans.{path_place}
 use Rattle.upon_lookup.specs.Environment.{Binding, Root}
 use Rattle.upon_lookup.specs.Finding.{Finding, found, at_fault}
-use Rattle.upon_render.specs.Items.{items_of}
+use Rattle.upon_lookup.specs.Items.{items_of}
 use Rattle.upon_lookup.specs.Lookup.{lookup}
 use Rattle.upon_lookup.specs.Source.{SourceAnswer, says, refuses}
 use Rattle.upon_meaning_spec.specs.Emission.{format_outcome, callable_outcome}

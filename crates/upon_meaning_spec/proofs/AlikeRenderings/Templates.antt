@@ -9,7 +9,7 @@ use Rattle.upon_types.specs.Truth.{truth}
 use Rattle.upon_types.specs.Val.{Val, none_val, bool_val, int_val, text_val, list_val, map_val, entry_list}
 use Rattle.upon_lookup.specs.Environment.{Binding, binding, plain, key_text, Environment, Root, root_environment, alone_over, with_name, iteration}
 use Rattle.upon_lookup.specs.Finding.{Finding, found, at_fault}
-use Rattle.upon_render.specs.Items.{items_of}
+use Rattle.upon_lookup.specs.Items.{items_of}
 use Rattle.upon_lookup.specs.LookupFaults.{wrong}
 use Rattle.upon_lookup.specs.Source.{SourceAnswer, says, refuses}
 use Rattle.upon_lookup.specs.Vals.{val_list}

@@ -11,7 +11,7 @@ use Rattle.upon_types.specs.Val.{Val, none_val, bool_val, int_val, text_val, lis
 use Rattle.upon_types.proofs.ExpressionSpans.{Covers, expression_place}
 use Rattle.upon_lookup.specs.Environment.{Binding, Environment, Root, root_environment, alone_over, with_name, iteration}
 use Rattle.upon_lookup.specs.Finding.{Finding, found, at_fault}
-use Rattle.upon_render.specs.Items.{items_of}
+use Rattle.upon_lookup.specs.Items.{items_of}
 use Rattle.upon_lookup.specs.Source.{SourceAnswer, says, refuses}
 use Rattle.upon_meaning_spec.specs.Alone.{running, on_template, included, alone_within}
 use Rattle.upon_meaning_spec.specs.Emission.{emit}

@@ -10,7 +10,7 @@ use Rattle.upon_types.specs.Tree.{Statements, Else, for_loop, with}
 use Rattle.upon_types.specs.Val.{Val, none_val, bool_val, int_val, text_val, list_val, map_val}
 use Rattle.upon_lookup.specs.Environment.{Bound, Binding, binding, plain, loop_state, Environment, bind, bind_all, with_name, iteration}
 use Rattle.upon_lookup.specs.Finding.{Finding, found, at_fault}
-use Rattle.upon_render.specs.Items.{items_of, item_binds, entry_binds}
+use Rattle.upon_lookup.specs.Items.{items_of, item_binds, entry_binds}
 use Rattle.upon_lookup.specs.Lookup.{maybe_bound, or_root, lookup}
 use Rattle.upon_lookup.specs.Source.{Source}
 use Rattle.upon_lookup.specs.Vals.{val_list}

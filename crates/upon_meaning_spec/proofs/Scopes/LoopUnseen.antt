@@ -8,7 +8,7 @@ use Rattle.upon_types.specs.Path.{Access, by_index, by_key, Member, LoopVars}
 use Rattle.upon_types.specs.Tree.{Statements, Else, for_loop}
 use Rattle.upon_lookup.specs.Environment.{Binding, loop_state, Environment, first_bound, iteration}
 use Rattle.upon_lookup.specs.Finding.{Finding, found, at_fault}
-use Rattle.upon_render.specs.Items.{items_of}
+use Rattle.upon_lookup.specs.Items.{items_of}
 use Rattle.upon_lookup.specs.Lookup.{maybe_bound, or_root, lookup}
 use Rattle.upon_lookup.specs.Source.{Source}
 use Rattle.upon_meaning_spec.specs.Alone.{included}

@@ -5,7 +5,7 @@ use Rattle.upon_types.specs.Path.{Ident, LoopVars, item, key_value}
 use Rattle.upon_types.specs.Val.{Val, none_val, bool_val, int_val, text_val, list_val, map_val, entry_list}
 use Rattle.upon_lookup.specs.Environment.{Binding}
 use Rattle.upon_lookup.specs.Finding.{Finding, found, at_fault}
-use Rattle.upon_render.specs.Items.{items_of, item_binds, entry_binds}
+use Rattle.upon_lookup.specs.Items.{items_of, item_binds, entry_binds}
 use Rattle.upon_lookup.specs.Vals.{val_list}
 use Rattle.upon_meaning_spec.specs.Needs.{Start, Hides, LoopHides}
 use Rattle.upon_meaning_spec.proofs.WhatIsNeeded.FoundAlike.{HiddenBy}

@@ -5,7 +5,7 @@ use Rattle.upon_types.specs.Path.{Ident}
 use Rattle.upon_types.specs.Tree.{Statement, raw, inline_expr, include, if_else, for_loop, with, Statements, no_statements, statement_then, Else, no_else, otherwise}
 use Rattle.upon_lookup.specs.Environment.{Binding, binding, plain, Environment, with_name, alone_over, iteration, loop_state}
 use Rattle.upon_lookup.specs.Finding.{Finding, found, at_fault}
-use Rattle.upon_render.specs.Items.{items_of}
+use Rattle.upon_lookup.specs.Items.{items_of}
 use Rattle.upon_lookup.specs.Source.{Source}
 use Rattle.upon_meaning_spec.specs.ValueSource.{with_source}
 use Rattle.upon_meaning_spec.specs.Engine.{Calls}

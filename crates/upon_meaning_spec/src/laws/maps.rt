@@ -7,7 +7,7 @@ ghost use Rattle.upon_types.specs.Path.{Ident, key_value};
 ghost use Rattle.upon_types.specs.Val.{Val, Entries, map_val, entry_at, key_of, entry_list, rises};
 ghost use Rattle.upon_lookup.specs.Environment.{Environment, Binding};
 ghost use Rattle.upon_lookup.specs.Finding.{found};
-ghost use Rattle.upon_render.specs.Items.{items_of, entry_binds};
+ghost use Rattle.upon_lookup.specs.Items.{items_of, entry_binds};
 ghost use Rattle.upon_meaning_spec.specs.Engine.{Calls};
 ghost use Rattle.upon_meaning_spec.specs.Entries.{with_entry};
 ghost use Rattle.upon_meaning_spec.specs.Evaluation.{Operand, evaluate_base, evaluate_bases};

@@ -6,7 +6,7 @@ ghost use Rattle.upon_types.specs.Expression.{Expression, base, var, expression_
 ghost use Rattle.upon_types.specs.Path.{Ident, Member, LoopVars};
 ghost use Rattle.upon_types.specs.Tree.{Statement, Statements, Else, inline_expr, include, for_loop, with, statement_then};
 ghost use Rattle.upon_lookup.specs.Environment.{Bound, Binding, Environment, binding, bind, bind_all, with_name, iteration};
-ghost use Rattle.upon_render.specs.Items.{items_of};
+ghost use Rattle.upon_lookup.specs.Items.{items_of};
 ghost use Rattle.upon_lookup.specs.Lookup.{bound_value, state_walk};
 ghost use Rattle.upon_lookup.specs.Walk.{walk};
 ghost use Rattle.upon_meaning_spec.specs.Alone.{included};

@@ -1,6 +1,6 @@
 use Rattle.std.proofs.Common.{map, refl}
 use Rattle.upon_types.specs.Val.{entry_list}
-use Rattle.upon_render.specs.Items.{entry_binds}
+use Rattle.upon_lookup.specs.Items.{entry_binds}
 use Rattle.upon_meaning_spec.proofs.MapOrder.{goes_in_order}
 use Rattle.upon_meaning_spec.proofs.laws.maps.map_in_order.Goals as goal
 
