@@ -17,7 +17,8 @@ use Rattle.upon_engine.specs.Theorem.{meaning}
 use Rattle.upon_engine.specs.Within.{runs}
 use Rattle.std.specs.Prelude.{⊤}
 use Rattle.upon_calls.specs.Failure.{is_memory_kind, IsFaultReport, RefusedIf}
-use Rattle.upon_calls.specs.Rendering.{is_limited, AnswersIf, EndsWith, FailsNamed, FailsText, IsFirstFaultOf, IsFirstNamed, IsFirstOfOne, IsMeaning, MeansNamed, MeansText}
+use Rattle.upon_vm.specs.Limits.{is_limited}
+use Rattle.upon_calls.specs.Rendering.{AnswersIf, EndsWith, FailsNamed, FailsText, IsFirstFaultOf, IsFirstNamed, IsFirstOfOne, IsMeaning, MeansNamed, MeansText}
 use Rattle.upon_calls.specs.Work.{WorkFails}
 use Rattle.upon_calls.specs.declared.failure.Argument.TheVariants.{Name}
 use Rattle.upon_calls.specs.declared.failure.Failure.{Failure}

@@ -1,5 +1,5 @@
 -- The text that a template means on a value, and the fault with which its rendering ends, by what an engine holds.
-use Rattle.std.specs.Prelude.{◌≡◌, ◌⊎◌, ℕ, List, ◌||◌, Bool, true, false, Option, Some, None, is_some, Result, String, Contains}
+use Rattle.std.specs.Prelude.{◌≡◌, ◌⊎◌, ℕ, List, Bool, true, false, Option, Some, None, Result, String, Contains}
 use Rattle.std.specs.declared.alloc.Global.{Global}
 use Rattle.upon_types.specs.Fault.{Fault, syntax, bare_fault, fault_with_name, fault_with_picture}
 use Rattle.upon_types.specs.Tree.{Statements}
@@ -17,10 +17,6 @@ use Rattle.upon_vm.specs.declared.limits.Limits.{Limits}
 use Rattle.upon_engine.specs.Texts.{Stored, Texts}
 use Rattle.upon_engine.specs.Theorem.{AnswersTree, IsTable, meaning}
 use Rattle.upon_engine.specs.Within.{AnswersWithin, runs}
-
--- whether a limit is set
-abbrev pub is_limited : Limits → Bool
-is_limited limits = (is_some limits.steps || is_some limits.output) || is_some limits.values
 
 -- what is answered of the tree of a text: without limits, or within them
 abbrev pub AnswersIf : Bool → Limits → Texts → Option (List ℕ) → List ℕ → Statements → Val

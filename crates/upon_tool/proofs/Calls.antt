@@ -16,12 +16,12 @@ use Rattle.upon_tool_messages.specs.Status.{tool_status, IsMemory}
 use Rattle.upon_tool_messages.specs.declared.failure.Failure.{Failure}
 use Rattle.upon_tool_messages.specs.declared.failure.Failure.TheVariants.{Data}
 use Rattle.upon_tool.specs.Calls.{AreWordsOf, IsCallContext, IsNoContext, IsTextFault, RefusesCall}
-use Rattle.upon_tool.specs.Refusals.{RefusesOrFails}
-use Rattle.upon_tool.specs.Sources.{IsUnread}
+use Rattle.upon_tool_pages.specs.Refusals.{RefusesOrFails}
+use Rattle.upon_tool_pages.specs.Sources.{IsUnread}
 use Rattle.upon_tool.specs.Work.{checked_files, IsUnreadOf, RefusesWork}
 use Rattle.upon_tool.specs.declared.work.Templates.{Templates}
 use Rattle.upon_tool.specs.declared.work.Work.{Work}
-use Rattle.upon_tool.proofs.Refusals.{data_handed_on, handed_on, memory_handed_on, of_part, of_unread_at}
+use Rattle.upon_tool_pages.proofs.Refusals.{data_handed_on, handed_on, memory_handed_on, of_part, of_unread_at}
 
 -- what is named by a call
 abbrev named_by_render : RenderCall → Bor (List ℕ) → Type 0

@@ -5,9 +5,9 @@ use Rattle.upon_language_spec.specs.Search.{DelimiterText}
 use Rattle.upon_meaning_spec.specs.Engine.{Table}
 use Rattle.upon_engine.specs.Texts.{Texts}
 use Rattle.upon_engine.specs.Theorem.{IsTable}
-use Rattle.upon_tool.specs.Missing.{EachIsRight, IsRightTemplate}
+use Rattle.upon_tool_pages.specs.Missing.{EachIsRight, IsRightTemplate}
 use Rattle.upon_tool_data.specs.Sources.{is_standard, IsTextOf}
-use Rattle.upon_tool.specs.Sources.{AreTexts}
+use Rattle.upon_tool_pages.specs.Sources.{AreTexts}
 use Rattle.upon_tool.specs.Work.{ChecksFiles}
 
 -- one text more

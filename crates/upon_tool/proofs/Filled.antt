@@ -36,14 +36,14 @@ use Rattle.upon_tool_shapes.specs.Fitting.{language_for}
 use Rattle.upon_std.specs.Table.{standard_answer, standard_name}
 use Rattle.upon_std.specs.declared.table.StandardFunction.{StandardFunction}
 use Rattle.upon_tool.specs.Names.{needs_text}
-use Rattle.upon_tool.specs.Rendering.{SendsPage, SendsWhole, StaysWithin}
+use Rattle.upon_tool_pages.specs.Rendering.{SendsPage, SendsWhole, StaysWithin}
 use Rattle.upon_tool.specs.Filled.{tool_engine, with_page, EachHasTree, TakesFiles, TakesRead, TakesText}
 use Rattle.upon_tool.specs.Work.{IsCheck, ListsNames, RefusesWork, Works}
-use Rattle.upon_tool.specs.declared.sources.FolderFile.{FolderFile}
+use Rattle.upon_tool_pages.specs.declared.sources.FolderFile.{FolderFile}
 use Rattle.upon_tool.specs.declared.work.Templates.{Templates}
 use Rattle.upon_tool.specs.declared.work.Work.{Work}
 use Rattle.upon_tool.specs.declared.work.Work.TheVariants.{Names}
-use Rattle.upon_tool.proofs.Refused.{taken}
+use Rattle.upon_tool.proofs.Taken.{taken}
 
 -- ---- the delimiters stay
 text_syntax : (name text : List ℕ) (old new : Texts) → TakesText name text old new → new.syntax ≡ old.syntax

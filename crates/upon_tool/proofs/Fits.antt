@@ -7,7 +7,7 @@ use Rattle.upon_shape_spec.specs.Shape.{Shape}
 use Rattle.upon_tool_io.specs.declared.arguments.Escape.{Escape}
 use Rattle.upon_tool_shapes.specs.Fitting.{FileFits}
 use Rattle.upon_tool.specs.Fitting.{EachFits}
-use Rattle.upon_tool.proofs.Kept.{first_true, second_true}
+use Rattle.upon_tool_pages.proofs.Kept.{first_true, second_true}
 
 -- there is nothing at an index of an empty list
 pub nothing_at : {A : Type 0} {P : Type 0} (xs : List A) (i : ℕ) → i < length xs → xs ≡ [] → P

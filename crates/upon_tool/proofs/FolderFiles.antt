@@ -13,10 +13,10 @@ use Rattle.upon_tool_messages.specs.Library.{library_names, refused_as, IsOfAdde
 use Rattle.upon_tool_messages.specs.declared.library.Library.{Library}
 use Rattle.upon_tool_messages.specs.declared.library.Refusal.{Refusal}
 use Rattle.upon_tool.specs.Filled.{with_page}
-use Rattle.upon_tool.specs.Missing.{EachName, HeldIsRight, LibraryIsRight}
+use Rattle.upon_tool_pages.specs.Missing.{EachName, HeldIsRight, LibraryIsRight}
 use Rattle.upon_tool.specs.Work.{EachFileIsRight}
-use Rattle.upon_tool.specs.declared.sources.FolderFile.{FolderFile}
-use Rattle.upon_tool.proofs.CheckedFiles.{each_name, name_more}
+use Rattle.upon_tool_pages.specs.declared.sources.FolderFile.{FolderFile}
+use Rattle.upon_tool_pages.proofs.CheckedFiles.{each_name, name_more}
 
 -- a text was taken under a name, or there is a reason why none was
 abbrev pub Took : List ℕ → Option Refusal → Texts → Texts → Type 0

@@ -1,13 +1,8 @@
 pub mod Calls
 pub mod Checked
-pub mod CheckedFiles
 pub mod Filled
 pub mod Fits
 pub mod FolderFiles
-pub mod Kept
 pub mod Outputs
-pub mod Refusals
-pub mod Refused
-pub mod Sent
-pub mod Statuses
 pub mod ManyPages
+pub mod Taken

@@ -17,14 +17,14 @@ use Rattle.upon_tool_many.specs.declared.each.Each.{Each}
 use Rattle.upon_tool_messages.specs.declared.failure.Failure.{Failure}
 use Rattle.upon_tool_messages.specs.declared.failure.Failure.TheVariants.{Data}
 use Rattle.upon_tool.specs.Calls.{may_be_input, IsFaultOfLayout, IsLayout, IsNoContext, RefusesCall}
-use Rattle.upon_tool.specs.ManyPages.{limits_set, BuildIsWell, EachIsWell}
-use Rattle.upon_calls.specs.Rendering.{is_limited}
-use Rattle.upon_tool.specs.Refusals.{RefusesOrFails}
-use Rattle.upon_tool.specs.Sources.{IsUnread}
+use Rattle.upon_tool_pages.specs.ManyPages.{limits_set, BuildIsWell, EachIsWell}
+use Rattle.upon_vm.specs.Limits.{is_limited}
+use Rattle.upon_tool_pages.specs.Refusals.{RefusesOrFails}
+use Rattle.upon_tool_pages.specs.Sources.{IsUnread}
 use Rattle.upon_tool.specs.Work.{Works}
 use Rattle.upon_tool.specs.declared.work.Work.{Work}
 use Rattle.upon_tool.specs.declared.work.Work.TheVariants.{Each as EachWork, Build as BuildWork}
-use Rattle.upon_tool.proofs.Refusals.{data_handed_on, handed_on, of_part, of_unread_at}
+use Rattle.upon_tool_pages.proofs.Refusals.{data_handed_on, handed_on, of_part, of_unread_at}
 
 -- ---- the same of what is equal
 pub each_moved : (e same_e : Texts) (v : Val) (asked same : Each) (status : ℕ) → e ≡ same_e → asked ≡ same → EachIsWell e v asked status → EachIsWell same_e v same status

@@ -29,11 +29,11 @@ use Rattle.upon_tool_messages.specs.declared.failure.Failure.{Failure}
 use Rattle.upon_tool.specs.Checked.{ChecksCall}
 use Rattle.upon_tool.specs.Filled.{tool_engine, standard_functions, with_page, TakesFiles}
 use Rattle.upon_tool.specs.Fitting.{FitsCall, WritesShape}
-use Rattle.upon_tool.specs.ManyPages.{limits_set, BuildIsWell, EachIsWell}
-use Rattle.upon_tool.specs.Refusals.{RefusesOrFails}
-use Rattle.upon_tool.specs.Rendering.{SendsPage, SendsWhole, StaysWithin}
+use Rattle.upon_tool_pages.specs.ManyPages.{limits_set, BuildIsWell, EachIsWell}
+use Rattle.upon_tool_pages.specs.Refusals.{RefusesOrFails}
+use Rattle.upon_tool_pages.specs.Rendering.{SendsPage, SendsWhole, StaysWithin}
 use Rattle.upon_tool.specs.Work.{to_standard, ListsNames}
-use Rattle.upon_tool.specs.declared.sources.FolderFile.{FolderFile}
+use Rattle.upon_tool_pages.specs.declared.sources.FolderFile.{FolderFile}
 
 -- the limits that a call asks for
 abbrev pub limits_asked : RenderCall → Limits

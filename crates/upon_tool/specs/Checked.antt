@@ -4,7 +4,7 @@ use Rattle.upon_engine.specs.Texts.{Texts}
 use Rattle.upon_tool_io.specs.declared.arguments.CheckCall.{CheckCall}
 use Rattle.upon_tool.specs.Filled.{tool_engine, TakesFiles}
 use Rattle.upon_tool.specs.Work.{ChecksFiles, EachFileIsRight}
-use Rattle.upon_tool.specs.declared.sources.FolderFile.{FolderFile}
+use Rattle.upon_tool_pages.specs.declared.sources.FolderFile.{FolderFile}
 
 -- A call of `check` ends with a status, so. If that is 0, each FILE's text has a tree, and no include in it names
 -- nothing, with the folder's files; and so it is of each file of the folder.

@@ -1,12 +1,6 @@
-pub mod Rendering
-pub mod Missing
 pub mod Names
-pub mod Sources
-pub mod Refusals
 pub mod Filled
-pub mod ManyPages
 pub mod Work
 pub mod Checked
 pub mod Fitting
 pub mod Calls
-pub mod Progress

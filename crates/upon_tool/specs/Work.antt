@@ -13,13 +13,13 @@ use Rattle.upon_calls.specs.Names.{NeededBy}
 use Rattle.upon_tool_data.specs.Sources.{is_standard}
 use Rattle.upon_tool_messages.specs.declared.failure.Failure.{Failure}
 use Rattle.upon_tool.specs.Filled.{EachHasTree, Fills}
-use Rattle.upon_tool.specs.ManyPages.{BuildIsWell, EachIsWell}
-use Rattle.upon_tool.specs.Missing.{EachIsRight, EachName, HeldIsRight}
+use Rattle.upon_tool_pages.specs.ManyPages.{BuildIsWell, EachIsWell}
+use Rattle.upon_tool_pages.specs.Missing.{EachIsRight, EachName, HeldIsRight}
 use Rattle.upon_tool.specs.Names.{needs_text}
-use Rattle.upon_tool.specs.Refusals.{RefusesOrFails}
-use Rattle.upon_tool.specs.Rendering.{ShowsPage}
-use Rattle.upon_tool.specs.Sources.{AreTexts}
-use Rattle.upon_tool.specs.declared.sources.FolderFile.{FolderFile}
+use Rattle.upon_tool_pages.specs.Refusals.{RefusesOrFails}
+use Rattle.upon_tool_pages.specs.Rendering.{ShowsPage}
+use Rattle.upon_tool_pages.specs.Sources.{AreTexts}
+use Rattle.upon_tool_pages.specs.declared.sources.FolderFile.{FolderFile}
 use Rattle.upon_tool.specs.declared.work.Templates.{Templates}
 use Rattle.upon_tool.specs.declared.work.Work.{Work}
 use Rattle.upon_tool.specs.declared.work.Work.TheVariants.{Render, Check, Names, Each as EachWork, Build as BuildWork}

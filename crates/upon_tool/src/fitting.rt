@@ -8,7 +8,6 @@ ghost use Rattle.upon_tool.specs.Work.{IsUnreadOf};
 ghost use Rattle.upon_tool_io.specs.declared.arguments.Call.TheVariants.{Fit as FitAsked, Shape as ShapeAsked};
 
 use crate::program::run_check;
-use crate::sources::{FolderFile, files_in, text_of};
 use std::alloc::{AllocError, Global};
 use std::env::Env;
 use std::io::{Read, Write};
@@ -19,6 +18,7 @@ use upon_tool_data::sources::STANDARD;
 use upon_tool_io::arguments::{FitCall, ShapeCall};
 use upon_tool_io::files::ReadFault;
 use upon_tool_messages::failure::{Failure, report};
+use upon_tool_pages::sources::{FolderFile, files_in, text_of};
 use upon_tool_shapes::contexts::shape_of;
 use upon_tool_shapes::fitting::{OnShape, fits};
 use upon_tool_shapes::written::send_schema;

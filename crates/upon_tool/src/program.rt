@@ -2,15 +2,13 @@
 ghost use Rattle.std.specs.Prelude.{◌≡◌, ◌≤◌, false, IfErr, IfOk, IsSomeAnd, OnErr, true};
 ghost use Rattle.upon_tool.specs.Checked.{ChecksCall};
 ghost use Rattle.upon_tool.specs.Filled.{standard_functions};
-ghost use Rattle.upon_tool.specs.ManyPages.{limits_set};
-ghost use Rattle.upon_tool.specs.Sources.{IsUnread};
+ghost use Rattle.upon_tool_pages.specs.ManyPages.{limits_set};
+ghost use Rattle.upon_tool_pages.specs.Sources.{IsUnread};
 ghost use Rattle.upon_tool.specs.Calls.{may_be_input, limits_asked, AreWordsOf, BuildsCall, CallEnds, IsLayout, ListsCall, RefusesCall, RendersCall, RendersEachCall, RunsCall};
 ghost use Rattle.upon_tool_io.specs.declared.arguments.Color.TheVariants.{Auto, Always, Never};
 ghost use Rattle.upon_tool_io.specs.declared.arguments.Call.TheVariants.{Render as RenderAsked, Check as CheckAsked, Names as NamesAsked, Each as EachAsked, Build as BuildAsked};
 
 use crate::fitting::{run_fit, run_shape};
-use crate::rendering::{Page, is_limited};
-use crate::sources::{files_in, text_of};
 use crate::work::{Templates, Work, carry_out};
 use std::alloc::Global;
 use std::env::{self, Env, VarError};
@@ -30,6 +28,8 @@ use upon_tool_many::build::Build;
 use upon_tool_many::each::Each;
 use upon_tool_messages::failure::{Failure, report};
 use upon_tool_messages::terminal::Terminal;
+use upon_tool_pages::rendering::{Page, is_limited};
+use upon_tool_pages::sources::{files_in, text_of};
 
 /// Does what the words ask for, of which the first is the program's name, and returns the status. Templates and
 /// contexts come from files, and from `input` if their name is `-`. What goes to `err` has its control characters

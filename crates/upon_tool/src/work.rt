@@ -4,16 +4,12 @@ ghost use Rattle.std.specs.Prelude.{◌≡◌, ◌≤◌, ◌↔◌, ℕ, List, 
 ghost use Rattle.upon_engine.specs.Engine.{engine_syntax, engine_templates};
 ghost use Rattle.upon_meaning_spec.specs.Engine.{Template as TemplateMeant};
 ghost use Rattle.upon_tool_messages.specs.Library.{library_names, refused_as};
-ghost use Rattle.upon_tool.specs.Missing.{EachIsRight, EachName, IsRightTemplate, LibraryIsRight};
-ghost use Rattle.upon_tool.specs.Rendering.{ShowsPage};
-ghost use Rattle.upon_tool.specs.Sources.{AreTexts};
+ghost use Rattle.upon_tool_pages.specs.Missing.{EachIsRight, EachName, IsRightTemplate, LibraryIsRight};
+ghost use Rattle.upon_tool_pages.specs.Rendering.{ShowsPage};
+ghost use Rattle.upon_tool_pages.specs.Sources.{AreTexts};
 ghost use Rattle.upon_tool.specs.Work.{checked_files, to_standard, CarriesOut, ChecksFiles, IsCheck, IsUnreadOf, ListsNames, RefusesWork, Works};
 
-use crate::check::{check_file, check_text};
-use crate::many::{show_build, show_each};
 use crate::names;
-use crate::rendering::{Page, explain, known_of, send, show};
-use crate::sources::{FolderFile, text_of};
 use std::alloc::{AllocError, Global};
 use std::borrow::CowStr;
 use std::io::{BufWriter, Read, Write};
@@ -32,6 +28,10 @@ use upon_tool_many::each::Each;
 use upon_tool_messages::call_check::CallCheck;
 use upon_tool_messages::failure::Failure;
 use upon_tool_messages::library::{Library, Refusal};
+use upon_tool_pages::check::{check_file, check_text};
+use upon_tool_pages::many::{show_build, show_each};
+use upon_tool_pages::rendering::{Page, explain, known_of, send, show};
+use upon_tool_pages::sources::{FolderFile, text_of};
 use upon_tool_shapes::fitting::language_for;
 
 /// What an engine is to hold.

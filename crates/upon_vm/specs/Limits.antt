@@ -1,6 +1,11 @@
 -- Limits that may be set: what is beyond one, what is within it, and what is left of it.
-use Rattle.std.specs.Prelude.{◌≡◌, ◌+◌, ◌<◌, ◌≤◌, ℕ, List, length, Option, Some, None}
+use Rattle.std.specs.Prelude.{◌≡◌, ◌+◌, ◌<◌, ◌≤◌, ◌||◌, ℕ, List, length, Bool, Option, Some, None, is_some}
 use Rattle.std.specs.Io.KnownBytes.{Appends}
+use Rattle.upon_vm.specs.declared.limits.Limits.{Limits}
+
+-- whether a limit is set
+abbrev pub is_limited : Limits → Bool
+is_limited limits = (is_some limits.steps || is_some limits.output) || is_some limits.values
 
 -- so many are more than the limit, which is set
 abbrev pub Exceeds : Option ℕ → ℕ → Type 0

@@ -5,7 +5,7 @@ use std::alloc::{AllocError, Global};
 use std::borrow::CowStr;
 use std::test::Fail;
 use upon::Engine;
-use upon_tool::check::check_text;
+use upon_tool_pages::check::check_text;
 use upon_tool_messages::call_check::CallCheck;
 
 // The hint for a text, or nothing.

@@ -6,7 +6,7 @@ use std::test::Fail;
 use upon::{Engine, Limits, Value};
 use upon_data::lines::json;
 use upon_html::formatters::{Escape, Verbatim};
-use upon_tool::rendering::{Page, show};
+use upon_tool_pages::rendering::{Page, show};
 use upon_tool_messages::library::Library;
 
 // The status, what went to standard output and what to standard error, as one text.

@@ -1,6 +1,6 @@
 use Rattle.std.proofs.Common.{Some, true, false, sym, ◌∙◌}
 use Rattle.upon_types.specs.View.{view}
-use Rattle.upon_calls.specs.Rendering.{is_limited}
+use Rattle.upon_vm.specs.Limits.{is_limited}
 use Rattle.upon_calls.proofs.Rendering.{some_answered}
 use Rattle.upon_calls.proofs.work.answer_named.Goals as goal
 

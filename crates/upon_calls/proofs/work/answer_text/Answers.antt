@@ -4,7 +4,8 @@ use Rattle.upon_engine.specs.Answers.{AnswersText}
 use Rattle.upon_engine.specs.Template.{template_of}
 use Rattle.upon_engine.proofs.Renderings.{on_value}
 use Rattle.upon_engine.proofs.Tables.{answers_by}
-use Rattle.upon_calls.specs.Rendering.{is_limited, AnswersIf}
+use Rattle.upon_vm.specs.Limits.{is_limited}
+use Rattle.upon_calls.specs.Rendering.{AnswersIf}
 use Rattle.upon_calls.proofs.Rendering.{answered_if}
 use Rattle.upon_calls.proofs.work.answer_text.Goals as goal
 

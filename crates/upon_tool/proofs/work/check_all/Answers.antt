@@ -1,8 +1,8 @@
 use Rattle.std.proofs.Common.{◌≡◌, true}
 use Rattle.upon_engine.specs.Texts.{texts_of}
 use Rattle.upon_tool.proofs.Checked.{checked_by}
-use Rattle.upon_tool.proofs.CheckedFiles.{library_right}
-use Rattle.upon_tool.proofs.Statuses.{one_no_success}
+use Rattle.upon_tool_pages.proofs.CheckedFiles.{library_right}
+use Rattle.upon_tool_pages.proofs.Statuses.{one_no_success}
 use Rattle.upon_tool.proofs.work.check_all.Goals.{then-is_right+then-is_whole, else-is_right}
 use Rattle.upon_tool.proofs.work.check_all.Goals as goal
 

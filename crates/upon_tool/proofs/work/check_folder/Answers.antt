@@ -3,8 +3,8 @@ use Rattle.std.proofs.lemmas.List.{take_all}
 use Rattle.upon_meaning_spec.specs.Engine.{Template}
 use Rattle.upon_engine.specs.Engine.{engine_syntax, engine_templates}
 use Rattle.upon_tool_messages.specs.Library.{refused_as}
-use Rattle.upon_tool.specs.Missing.{EachName, IsRightTemplate}
-use Rattle.upon_tool.proofs.CheckedFiles.{each_name_more}
+use Rattle.upon_tool_pages.specs.Missing.{EachName, IsRightTemplate}
+use Rattle.upon_tool_pages.proofs.CheckedFiles.{each_name_more}
 use Rattle.upon_tool.proofs.work.check_folder.Goals as goal
 
 pub loop-name-preserved : goal.loop-name-preserved

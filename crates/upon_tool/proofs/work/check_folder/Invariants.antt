@@ -2,7 +2,7 @@ use Rattle.std.proofs.Common.{◌≡◌, true, None, Some, map, string_bytes, ta
 use Rattle.upon_meaning_spec.specs.Engine.{Template}
 use Rattle.upon_engine.specs.Engine.{engine_syntax, engine_templates}
 use Rattle.upon_tool_messages.specs.Library.{refused_as}
-use Rattle.upon_tool.specs.Missing.{EachName, IsRightTemplate}
+use Rattle.upon_tool_pages.specs.Missing.{EachName, IsRightTemplate}
 use Rattle.upon_tool.proofs.work.check_folder.Given as goal
 
 -- if all was right so far, each file so far is

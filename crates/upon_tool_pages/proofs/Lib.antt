@@ -1,0 +1,6 @@
+pub mod CheckedFiles
+pub mod Kept
+pub mod Refusals
+pub mod Refused
+pub mod Sent
+pub mod Statuses
