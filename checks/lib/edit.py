@@ -4,12 +4,13 @@ A file has a line `refused: GOAL`, then a line `file: PATH`, and pairs of lines 
 that file once, at the time when its pair is applied, and each text is a line or a part of one. `GOAL` is what the edit leaves
 open: a clause by its name, the name of a goal, or `ensures`, `requires` or `invariant` if the goal has no clause's name.
 An edit of a line outside of functions may have a line `function: NAME` too: the one that it makes wrong, by the name that a check's
-lines give it, below the crate.
+lines give it, below the crate. An edit of one function may have a line `goals: NAME, NAME`, as `checks/edits --goals` writes it:
+all that it leaves open.
 """
 import os
 import re
 
-PART = re.compile(r"(file|old|new|refused|function):(?: (.*))?\Z")
+PART = re.compile(r"(file|old|new|refused|function|goals):(?: (.*))?\Z")
 
 
 class BadEdit(Exception):
@@ -21,7 +22,7 @@ class Edit:
 
     def __init__(self, path, crate, functions):
         self.name = os.path.basename(path).removesuffix(".edit")
-        self.refused, self.of, self.texts, self.bad = "", "", {}, None
+        self.path, self.refused, self.of, self.goals, self.texts, self.bad = path, "", "", (), {}, None
         try:
             with open(path, encoding="utf-8") as file:
                 self.apply(file.read().split("\n"), crate)
@@ -45,6 +46,8 @@ class Edit:
                 self.refused = text.strip()
             elif word == "function":
                 self.of = text.strip()
+            elif word == "goals":
+                self.goals = tuple(filter(None, text.strip().split(", ")))
             elif word == "file":
                 path = text.strip()
                 self.texts.setdefault(path, text_of(crate, path))
@@ -70,6 +73,14 @@ class Edit:
         is_said = lambda place: self.changes[place][0].startswith(("use ", "//", "ghost use "))
         inside = lambda place: any(it.file == place[0] and it.has(place[1]) for it in self.functions)
         return bool(self.functions) and all(is_said(place) or inside(place) for place in self.changes)
+
+    def write_goals(self, names):
+        """Writes the names of the goals that it leaves open into its file, in place of those that stand there."""
+        with open(self.path, encoding="utf-8") as file:
+            lines = [line for line in file.read().split("\n") if not line.startswith("goals:")]
+        at = next(at for at, line in enumerate(lines) if line.startswith("file:"))
+        with open(self.path, "w", encoding="utf-8") as file:
+            file.write("\n".join([*lines[:at], *[f"goals: {', '.join(names)}"] * bool(names), *lines[at:]]))
 
     def units(self):
         """Returns what no other edit of one copy may touch: its lines and functions."""

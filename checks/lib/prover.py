@@ -20,6 +20,9 @@ OF_NAMES = re.compile(r"has no field|is not in scope|has no `|was not admitted")
 # An error by which the text could not be read, so that nothing was tried.
 UNREAD = re.compile(r"is not in scope|has no field|is no name|operand is missing|expected the end|cannot continue")
 KINDS = "proved|not proved|no proof|could not tell"
+# What the prover tries by itself of a goal without an answer, and where its names come from.
+TRIED = "first_of (search rules, grind (arith, common_steps))"
+TRIED_NAMES = {"rules": "Rattle.std.proofs.Common", "arith": "native.Mathlib.Omega", "common_steps": "Rattle.std.proofs.lemmas.Grind"}
 
 
 def kit():
@@ -142,9 +145,34 @@ def assume(room, names):
             file.write(f"use {statement}.{{statement}}\n\naxiom pub {path[-1]}_spec : {{M : Type 1}} → statement M\n")
 
 
-def check(module, crate, texts, kept, only=(), assumed=()):
+def answer(room, goals):
+    """Answers goals of functions of the crate in a folder, by their names, by what the prover tries by itself, if no file does: where they stay
+    open it then tries no more, and does not look for what to write."""
+    for function, names in goals.items():
+        folder = os.path.join(room, "proofs", *function.split("::")[1:])
+        if not os.path.exists(f"{folder}/Proof.antt"):
+            os.makedirs(folder, exist_ok=True)
+            path, text = f"{folder}/Answers.antt", ""
+            if os.path.exists(path):
+                with open(path, encoding="utf-8") as file:
+                    text = file.read()
+            with open(path, "w", encoding="utf-8") as file:
+                file.write(answered(function, names, text))
+
+
+def answered(function, names, text):
+    """Returns the text of a function's answers with those of more goals, by their names, that it does not answer."""
+    module = ".".join(["Rattle", (parts := function.split("::"))[0], "proofs", *parts[1:]])
+    uses = "\n".join(line for line in text.split("\n") if line.startswith("use "))
+    brought = [f"use {path}.{{{name}}}" for name, path in TRIED_NAMES.items() if not re.search(rf"[{{ ]{name}[,}} ]", uses)]
+    brought += [f"use {module}.Goals as goal"] if ".Goals as goal" not in uses else []
+    answers = [f"pub {name} : goal.{name}\n{name} = {TRIED}\n" for name in names if not re.search(rf"^pub {re.escape(name)} :", text, re.M)]
+    return "\n".join([*brought, text, *answers]) if answers else text
+
+
+def check(module, crate, texts, kept, only=(), assumed=(), goals=None):
     """Checks a copy of the crate with these texts in place of its own, over the work in the folder `kept`, where some functions are assumed to
-    be proved. Returns what was said, and the processor time in seconds."""
+    be proved, and goals of others are answered by what the prover tries by itself. Returns what was said, and the processor time in seconds."""
     with tempfile.TemporaryDirectory(prefix="edits-") as room:
         for part in ("src", "specs", "proofs"):
             if os.path.isdir(f"{crate.folder}/{part}"):
@@ -153,6 +181,7 @@ def check(module, crate, texts, kept, only=(), assumed=()):
             with open(f"{room}/{path}", "w", encoding="utf-8") as file:
                 file.write(text)
         assume(room, assumed)
+        answer(room, goals or {})
         flags = ["--jobs", "1", *(word for name in only for word in ("--only", name))]
         words = [module.rtlib.RATTLE, "check", *crate.words(flags, keeps=False), "--incremental", kept]
         with tempfile.TemporaryFile("w+", errors="replace") as said:

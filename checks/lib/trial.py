@@ -1,12 +1,17 @@
 """The trial of a crate's edits: many in one copy where they change different functions, one by one where that tells nothing."""
 import dataclasses
 import os
+import re
 import shutil
 import signal
 
 import edit as edits_module
 import functions as functions_module
 import prover
+
+
+# An edit that leaves more goals open is tried without a line that names them.
+MOST_GOALS = 8
 
 
 @dataclasses.dataclass
@@ -46,6 +51,17 @@ class Trial:
         for edit in self.alone:
             self.try_alone(edit)
 
+    def write_goals(self):
+        """Tries each edit without what its file says of the goals that it leaves open, and writes that there."""
+        for edit in self.edits:
+            edit.goals = ()
+        self.run()
+        for edit in self.edits:
+            result = self.results.get(edit.name)
+            if result and not edit.bad and not edit.of:
+                names = [it for it in result.goals if re.fullmatch(r"[\w-]+", it)]
+                edit.write_goals(names if len(edit.functions) == 1 and not edit.cycles and len(names) <= MOST_GOALS else ())
+
     def named(self, name):
         """Returns the functions of a name, as a check's lines give it below the crate."""
         return {it for found in self.functions.values() for it in found if self.name_of(it) == f"{self.crate.name}::{name}"}
@@ -54,23 +70,23 @@ class Trial:
         """Returns the name under which a check's lines tell of the function, or None if that is not sure."""
         return functions_module.name_of(function, self.crate.name, self.known)
 
-    def check(self, batch, only=(), assumed=()):
+    def check(self, batch, only=(), assumed=(), goals=None):
         """Checks a copy with these edits, once more if the check was killed, most likely for memory."""
         texts = edits_module.texts_with(batch, self.crate.folder)
         if assumed:
             texts = self.without_bodies(texts, set(assumed))
         for _ in range(2):
-            said, seconds = prover.check(self.module, self.crate, texts, self.kept, only, assumed)
+            said, seconds = prover.check(self.module, self.crate, texts, self.kept, only, assumed, goals)
             self.seconds += seconds
             if said.status != -signal.SIGKILL:
                 break
         return said
 
-    def checked(self, batch):
+    def checked(self, batch, goals):
         """Checks a copy with these edits, in which the contracts of the other functions are taken as they are; if such a copy can't be read, one in
         which they are proved. Returns what was said, and the places that can't be read."""
         for others in (self.others(batch), ()):
-            said = self.check(batch, self.scope(batch), others)
+            said = self.check(batch, self.scope(batch), others, goals)
             places = said.unread({path for edit in batch for path in edit.texts})
             if not others or not places or any(self.is_at(edit, *place[:2]) for edit in batch for place in places):
                 break
@@ -81,7 +97,8 @@ class Trial:
         said, unread = None, []
         while batch:
             self.batches += 1
-            said, places = self.checked(batch)
+            goals = {} if is_last else self.goals_left(batch)
+            said, places = self.checked(batch, goals)
             unread = [edit for edit in batch if any(self.is_at(edit, *place[:2]) for place in places)]
             if not places:
                 break
@@ -94,7 +111,7 @@ class Trial:
             return []
         self.known |= said.known()
         self.find_astray(batch, said)
-        return [edit for edit in batch if not self.is_told(edit, said, is_last)]
+        return [edit for edit in batch if not self.is_told(edit, said, is_last, goals)]
 
     def scope(self, batch):
         """Returns what a check of these edits has to read: functions, or whole modules where their names are not known yet."""
@@ -129,10 +146,16 @@ class Trial:
         names = [self.name_of(it) for it in edit.functions]
         return near + [goal for name in names if name in said.open for goal in said.open[name]]
 
-    def is_told(self, edit, said, is_last):
-        """Whether the check tells of the edit that it is refused."""
+    def goals_left(self, batch):
+        """Returns the goals that edits say that they leave open, by the function that each changes. One in a cycle of calls is not among them."""
+        found = {self.name_of(it): edit.goals for edit in batch if edit.goals and len(edit.functions) == 1 and not edit.cycles for it in edit.functions}
+        return {name: goals for name, goals in found.items() if name}
+
+    def is_told(self, edit, said, is_last, answered):
+        """Whether the check tells of the edit that it is refused, and not that it leaves another goal open than its file says."""
         goals = self.goals_of(edit, said, is_last)
-        if not goals:
+        is_stale = any(it.is_of_names() and it.name.removeprefix("goal.") in edit.goals for it in goals) and any(self.name_of(it) in answered for it in edit.functions)
+        if not goals or is_stale:
             return False
         self.results[edit.name] = judged(edit, goals)
         return True
