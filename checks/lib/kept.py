@@ -46,6 +46,14 @@ class Kept:
         edits = [part for name in sorted(os.listdir(folder)) for part in (name.encode(), content(f"{folder}/{name}"))]
         return sum_of(self.sum(crate).encode(), *edits)
 
+    def known(self, crate):
+        """Returns the names of the crate's functions, if a run has kept them."""
+        return set(self.told(f"names-{self.sum(crate)}") or ())
+
+    def keep_known(self, crate, names):
+        """Keeps the names of the crate's functions, if that can be done."""
+        self.keep(f"names-{self.sum(crate)}", sorted(names))
+
     def told(self, name):
         """Returns the lines that are kept under a name, or None."""
         try:

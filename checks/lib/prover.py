@@ -145,29 +145,39 @@ def assume(room, names):
             file.write(f"use {statement}.{{statement}}\n\naxiom pub {path[-1]}_spec : {{M : Type 1}} → statement M\n")
 
 
+def answers_of(folder, function):
+    """Returns the path of a function's answers in a crate's folder, and their text."""
+    path = os.path.join(folder, "proofs", *function.split("::")[1:], "Answers.antt")
+    if not os.path.exists(path):
+        return path, ""
+    with open(path, encoding="utf-8") as file:
+        return path, file.read()
+
+
+def unanswered(folder, function, names):
+    """Returns those of a function's goals, by their names, that no file of the crate's folder answers."""
+    text = answers_of(folder, function)[1]
+    return tuple(name for name in names if not re.search(rf"^pub {re.escape(name)} :", text, re.M))
+
+
 def answer(room, goals):
-    """Answers goals of functions of the crate in a folder, by their names, by what the prover tries by itself, if no file does: where they stay
-    open it then tries no more, and does not look for what to write."""
+    """Answers goals of functions of the crate in a folder, by their names, by what the prover tries by itself: where they stay open it then tries
+    no more, and does not look for what to write."""
     for function, names in goals.items():
-        folder = os.path.join(room, "proofs", *function.split("::")[1:])
-        if not os.path.exists(f"{folder}/Proof.antt"):
-            os.makedirs(folder, exist_ok=True)
-            path, text = f"{folder}/Answers.antt", ""
-            if os.path.exists(path):
-                with open(path, encoding="utf-8") as file:
-                    text = file.read()
+        path, text = answers_of(room, function)
+        if not os.path.exists(os.path.join(os.path.dirname(path), "Proof.antt")):
+            os.makedirs(os.path.dirname(path), exist_ok=True)
             with open(path, "w", encoding="utf-8") as file:
                 file.write(answered(function, names, text))
 
 
 def answered(function, names, text):
-    """Returns the text of a function's answers with those of more goals, by their names, that it does not answer."""
-    module = ".".join(["Rattle", (parts := function.split("::"))[0], "proofs", *parts[1:]])
+    """Returns the text of a function's answers with those of more goals, by their names."""
+    crate, *path = function.split("::")
     uses = "\n".join(line for line in text.split("\n") if line.startswith("use "))
-    brought = [f"use {path}.{{{name}}}" for name, path in TRIED_NAMES.items() if not re.search(rf"[{{ ]{name}[,}} ]", uses)]
-    brought += [f"use {module}.Goals as goal"] if ".Goals as goal" not in uses else []
-    answers = [f"pub {name} : goal.{name}\n{name} = {TRIED}\n" for name in names if not re.search(rf"^pub {re.escape(name)} :", text, re.M)]
-    return "\n".join([*brought, text, *answers]) if answers else text
+    brought = [f"use {place}.{{{name}}}" for name, place in TRIED_NAMES.items() if not re.search(rf"[{{ ]{name}[,}} ]", uses)]
+    brought += [f"use {'.'.join(['Rattle', crate, 'proofs', *path])}.Goals as goal"] if ".Goals as goal" not in uses else []
+    return "\n".join([*brought, text, *(f"pub {name} : goal.{name}\n{name} = {TRIED}\n" for name in names)])
 
 
 def check(module, crate, texts, kept, only=(), assumed=(), goals=None):

@@ -147,15 +147,16 @@ class Trial:
         return near + [goal for name in names if name in said.open for goal in said.open[name]]
 
     def goals_left(self, batch):
-        """Returns the goals that edits say that they leave open, by the function that each changes. One in a cycle of calls is not among them."""
+        """Returns the goals that edits say that they leave open, and that no file answers, by the function that each changes. One in a cycle of
+        calls is not among them."""
         found = {self.name_of(it): edit.goals for edit in batch if edit.goals and len(edit.functions) == 1 and not edit.cycles for it in edit.functions}
-        return {name: goals for name, goals in found.items() if name}
+        return {name: goals for name, every in found.items() if name and (goals := prover.unanswered(self.crate.folder, name, every))}
 
     def is_told(self, edit, said, is_last, answered):
-        """Whether the check tells of the edit that it is refused, and not that it leaves another goal open than its file says."""
+        """Whether the check tells of the edit that it is refused, and not that a goal that was answered for it is not there."""
         goals = self.goals_of(edit, said, is_last)
-        is_stale = any(it.is_of_names() and it.name.removeprefix("goal.") in edit.goals for it in goals) and any(self.name_of(it) in answered for it in edit.functions)
-        if not goals or is_stale:
+        ours = {name for it in edit.functions for name in answered.get(self.name_of(it), ())}
+        if not goals or any(it.is_of_names() and it.name in ours for it in goals):
             return False
         self.results[edit.name] = judged(edit, goals)
         return True
