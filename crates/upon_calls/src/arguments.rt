@@ -9,8 +9,8 @@ ghost use Rattle.upon_calls.specs.Arguments.{json_in, its_text, HasNoArgumentVal
 use crate::failure::{Argument, Failure};
 use std::alloc::{AllocError, Global};
 use std::str;
-use upon::Value;
 use upon_json::context::{DataFault, context};
+use upon_types::value::Value;
 
 /// Returns the text that an argument's bytes are.
 pub(crate) fn text_of<'t>(argument: Argument, bytes: &'t [u8]) -> Result<&'t str, Failure>

@@ -22,9 +22,12 @@ use crate::pages::{check_pages, pages_of};
 use crate::templates::sources_of;
 use std::alloc::{AllocError, Global};
 use std::borrow::CowStr;
-use upon::value::look;
-use upon::{Engine, Syntax, Template, Value, includes};
 use upon_delimiters::search::Searcher;
+use upon_delimiters::syntax::Syntax;
+use upon_engine::engine::Engine;
+use upon_engine::template::Template;
+use upon_needs::template_names::includes;
+use upon_types::value::{Value, look};
 
 /// Checks templates, and returns the empty text if each of them is one and names none in an include that is not there,
 /// and if each page ends without a fault on the contexts that the options give, but that includes may be too deep one

@@ -1,25 +1,25 @@
 // Contexts on which the pages of a check are to end without a fault, as options give them: samples, or a schema.
-ghost use Rattle.std.specs.Prelude.{◌≡◌, None, Some, IfErr, IfOk, map, codes, option_map};
+ghost use Rattle.std.specs.Prelude.{◌≡◌, ⊤, None, Some, IfErr, IfOk, map, codes, option_map};
 ghost use Rattle.upon_types.specs.Val.{entry_then, key_of, list_val, map_val, no_entries};
 ghost use Rattle.upon_types.specs.View.{view, vals_view};
 ghost use Rattle.upon_shape.specs.View.{shape_view};
 ghost use Rattle.upon_needs.specs.Names.{texts};
 ghost use Rattle.upon_calls.specs.Arguments.{its_text};
 ghost use Rattle.upon_calls.specs.Asked.{asked_by, Asks, AsksNothing};
-ghost use Rattle.upon_calls.specs.Contexts.{contexts_by, read_each, pages_in, sample_in, samples_in, AsksCheck, AsksNoCheck, IsShapeBy, NoShapeBy, SamplesFit};
+ghost use Rattle.upon_calls.specs.Contexts.{contexts_by, read_each, pages_in, sample_in, samples_in, AsksCheck, AsksNoCheck, IsShapeBy, NoShapeBy, SamplesFit, ValidFit};
 ghost use Rattle.upon_calls.specs.Failure.{RefusedIf};
 ghost use Rattle.upon_calls.specs.declared.failure.Argument.TheVariants.{Options as OptionsRefused};
 ghost use Rattle.upon_calls.specs.declared.options.Known.TheVariants.{Rendering};
 
-use crate::arguments::text_in;
-use crate::failure::Failure;
+use crate::arguments::{refused, text_in};
+use crate::failure::{Argument, Failure};
 use crate::options::{Known, Options, options_of, wants};
-use crate::schema::by_schema;
 use std::alloc::{AllocError, Global};
 use std::collections::BTreeMap;
-use upon::Value;
-use upon::value::look;
+use upon_schema::fault::SchemaFault;
+use upon_schema::read::shape_of_schema;
 use upon_shape::shape::Shape;
+use upon_types::value::{Value, look};
 
 /// What a check asks for.
 #[derive(Drop)]
@@ -83,6 +83,18 @@ fn shape_in(alloc: Global, value: &Value) -> Result<Option<Shape>, Failure>
         (Some(samples), None) => Ok(Some(sampled(alloc, samples)?)),
         (None, Some(schema)) => Ok(Some(by_schema(alloc, schema)?)),
         (Some(_), Some(_)) => Err(wants(alloc, "schema", "no \"samples\" beside it")),
+    }
+}
+
+// The shape of the values that are valid by a schema.
+fn by_schema(alloc: Global, schema: &Value) -> Result<Shape, Failure>
+    ensures fits { IfOk result (λ shape. ValidFit (view schema.now) (shape_view shape)) }
+    ensures refused { IfErr result (RefusedIf OptionsRefused ⊤) }
+{
+    match shape_of_schema(alloc, schema) {
+        Ok(shape) => Ok(shape),
+        Err(SchemaFault::OutOfMemory) => Err(Failure::OutOfMemory),
+        Err(fault) => Err(refused(Argument::Options, format!(in alloc; "\"schema\": {fault}"))),
     }
 }
 

@@ -1,10 +1,10 @@
 // The formatter of values that are written into another language.
-use upon::Value;
-use upon::fmt::{self, Format, Formatter};
+use upon_fmt::fmt::{self, Format, Formatter};
 use upon_html::formatters::Escape as Html;
 use upon_quote::json::Json;
 use upon_quote::shell::Shell;
 use upon_quote::yaml::Yaml;
+use upon_types::value::Value;
 
 /// A language into which values are written.
 #[derive(Clone, Copy, Debug, PartialEq, Eq)]

@@ -5,8 +5,7 @@ ghost use Rattle.upon_calls.specs.Failure.{argument_word, failure_text, is_memor
 ghost use Rattle.upon_calls.specs.declared.failure.Failure.TheVariants.{OutOfMemory};
 
 use std::alloc::{AllocError, AllocFailed, Global};
-use upon::Error;
-use upon::error::ErrorKind;
+use upon_types::error::{Error, ErrorKind};
 
 /// An argument of a call.
 #[derive(Clone, Copy, Debug, PartialEq, Eq)]

@@ -5,12 +5,13 @@ use crate::failure::Failure;
 use std::alloc::{AllocError, Global};
 use std::borrow::CowStr;
 use std::collections::BTreeSet;
-use upon::error::ErrorKind;
-use upon::types::Span;
-use upon::types::token::Token;
-use upon::{Engine, Error, Result, includes};
 use upon_delimiters::search::Searcher;
+use upon_engine::engine::Engine;
 use upon_lexer::compile::lex::Lexer;
+use upon_needs::template_names::includes;
+use upon_types::error::{Error, ErrorKind, Result};
+use upon_types::types::Span;
+use upon_types::types::token::Token;
 
 // How many includes of a text are shown, for each of which the text is walked from its begin.
 const PICTURES: usize = 100;

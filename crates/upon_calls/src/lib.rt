@@ -14,7 +14,6 @@ pub mod options;
 pub mod pages;
 mod pairs;
 pub mod render;
-mod schema;
 mod templates;
 pub mod version;
 mod work;

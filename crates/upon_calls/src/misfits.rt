@@ -9,8 +9,9 @@ ghost use Rattle.upon_calls.specs.declared.failure.Failure.TheVariants.{OutOfMem
 use crate::failure::Failure;
 use crate::work::Pages;
 use std::alloc::{AllocError, Global};
-use upon::{AnyEngine, Engine, EngineTexts};
 use upon_accepts::accepts::accepts;
+use upon_engine::engine::Engine;
+use upon_engine::texts::{AnyEngine, EngineTexts};
 use upon_misfits::pictures::{Pictures, show_refusal};
 use upon_misfits::reasons::Known;
 use upon_shape::shape::Shape;

@@ -16,7 +16,10 @@ use crate::templates::sources_of;
 use crate::work::{Work, carry_out, no_template};
 use serde_json::{Value as Json, json};
 use std::alloc::{AllocError, Global};
-use upon::{AnyEngine, Engine, EngineTexts, Needs, laws_of_templates, needs_of, theorem};
+use upon_engine::engine::Engine;
+use upon_engine::texts::{AnyEngine, EngineTexts};
+use upon_engine::{laws_of_templates, theorem};
+use upon_needs::needs::{Needs, needs_of};
 
 /// Returns what the template of a name needs, as an object of JSON in a line: `names` of the context, `templates` that
 /// are there and `missing` ones, and whether the `whole` context counts.

@@ -11,8 +11,9 @@ use crate::escaping::Language;
 use crate::failure::{Argument, Failure};
 use crate::pairs::syntax_of;
 use std::alloc::Global;
-use upon::value::look;
-use upon::{Limits, Syntax, Value};
+use upon_delimiters::syntax::Syntax;
+use upon_engine::within::Limits;
+use upon_types::value::{Value, look};
 
 /// What a call asks for beside its templates.
 #[derive(Drop)]

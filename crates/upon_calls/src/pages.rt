@@ -18,8 +18,8 @@ use crate::failure::{Argument, Failure};
 use crate::options::Options;
 use crate::work::{Pages, Work, carry_out};
 use std::alloc::{AllocError, Global};
-use upon::Value;
 use upon_shape::shape::Shape;
+use upon_types::value::Value;
 
 /// Returns the names of the pages: those that are given, each of which has to be one of the templates, or all
 /// templates.

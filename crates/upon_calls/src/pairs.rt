@@ -13,8 +13,8 @@ use crate::arguments::text_in;
 use crate::failure::Failure;
 use crate::options::wants;
 use std::alloc::Global;
-use upon::value::look;
-use upon::{Syntax, SyntaxBuilder, Value};
+use upon_delimiters::syntax::{Syntax, SyntaxBuilder};
+use upon_types::value::{Value, look};
 
 /// What a pair of delimiters is for.
 #[derive(Clone, Copy, Debug, PartialEq, Eq)]

@@ -8,7 +8,7 @@ ghost use Rattle.upon_calls.specs.declared.failure.Argument.TheVariants.{Templat
 use crate::arguments::{refused, text_in};
 use crate::failure::{Argument, Failure};
 use std::alloc::Global;
-use upon::Value;
+use upon_types::value::Value;
 
 /// Returns the names and the sources of templates, in the order of their names.
 pub(crate) fn sources_of<'v>(

@@ -23,11 +23,16 @@ use crate::names::list;
 use crate::options::Options;
 use std::alloc::Global;
 use std::borrow::CowStr;
-use upon::{AnyEngine, Engine, EngineTexts, Limits, Template, Value, theorem};
 use upon_checked::declared::Declared;
+use upon_engine::engine::Engine;
+use upon_engine::template::Template;
+use upon_engine::texts::{AnyEngine, EngineTexts};
+use upon_engine::theorem;
+use upon_engine::within::Limits;
 use upon_html::formatters::Verbatim;
 use upon_shape::shape::Shape;
 use upon_std::table::{ALL, StandardFunction};
+use upon_types::value::Value;
 
 /// What is done with an engine.
 #[derive(Clone, Copy)]
@@ -167,7 +172,7 @@ fn answer_named(
     limits: &Limits,
     name: &str,
     value: &Value,
-) -> Option<upon::Result<String>>
+) -> Option<upon_types::error::Result<String>>
     ensures means { let texts = ⟦<AnyEngine as EngineTexts>⟧.texts engine.now in
         (held : Stored) (tree : Statements) → texts.texts name.now ≡ Some held
         → ∥ HasTree held.syntax held.text tree ∥₁
@@ -220,7 +225,7 @@ fn answer_text(
     limits: &Limits,
     template: &Template<'_>,
     value: &Value,
-) -> upon::Result<String>
+) -> upon_types::error::Result<String>
     requires { let texts = ⟦<AnyEngine as EngineTexts>⟧.texts engine.now in
         let t = template_of template.now in HasTree texts.syntax t.source t.tree }
     ensures { let texts = ⟦<AnyEngine as EngineTexts>⟧.texts engine.now in let t = template_of template.now in

@@ -4,6 +4,7 @@
 pub mod callables;
 pub mod compile;
 pub mod engine;
+pub mod laws_of_templates;
 pub mod renderer;
 pub mod sources;
 pub mod template;

@@ -11,7 +11,8 @@ ghost use Rattle.upon_tool.specs.Names.{needs_text};
 use crate::names_text::needs_text;
 use std::alloc::Global;
 use std::io;
-use upon::{Engine, Needs, needs_of};
+use upon_engine::engine::Engine;
+use upon_needs::needs::{Needs, needs_of};
 use upon_tool_messages::failure::{Failure, report};
 use upon_tool_messages::library::{Library, report_refusal};
 

@@ -4,8 +4,8 @@ ghost use Rattle.upon_needs.specs.Names.{texts};
 ghost use Rattle.upon_tool.specs.Names.{in_line, lines_of, needs_lines, needs_text, one_line};
 
 use std::alloc::{AllocError, Global};
-use upon::Needs;
 use upon_calls::names::object_text;
+use upon_needs::needs::Needs;
 
 /// Returns what a template needs as one object of JSON in a line, or as lines. It fails if there is no memory.
 pub fn needs_text(alloc: Global, needs: &Needs<'_>, as_json: bool) -> Result<Vec<u8>, AllocError>

@@ -15,7 +15,7 @@ use std::env::{self, Env, VarError};
 use std::io::{Read, Write};
 use std::rt::Files;
 use std::time::Clock;
-use upon::Limits;
+use upon_engine::within::Limits;
 use upon_std::table::{ALL, StandardFunction};
 use upon_tool_calls::judge::Declared;
 use upon_tool_data::context::context;

@@ -15,8 +15,10 @@ use std::borrow::CowStr;
 use std::io::{BufWriter, Read, Write};
 use std::rt::Files;
 use std::time::Clock;
-use upon::{AnyEngine, Engine, EngineTexts, Value, laws_of_templates, theorem};
 use upon_calls::escaping::Escaping;
+use upon_engine::engine::Engine;
+use upon_engine::texts::{AnyEngine, EngineTexts};
+use upon_engine::{laws_of_templates, theorem};
 use upon_html::formatters::Verbatim;
 use upon_std::table::StandardFunction;
 use upon_tool_calls::judge::Declared;
@@ -33,6 +35,7 @@ use upon_tool_pages::many::{show_build, show_each};
 use upon_tool_pages::rendering::{Page, explain, known_of, send, show};
 use upon_tool_pages::sources::{FolderFile, text_of};
 use upon_tool_shapes::fitting::language_for;
+use upon_types::value::Value;
 
 /// What an engine is to hold.
 #[derive(Drop)]

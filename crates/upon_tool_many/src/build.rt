@@ -16,9 +16,12 @@ use std::collections::BTreeMap;
 use std::path::PathBuf;
 use std::rt::Files;
 use std::{fs, io};
-use upon::{AnyEngine, Engine, EngineTexts, Limits, Value};
+use upon_engine::engine::Engine;
+use upon_engine::texts::{AnyEngine, EngineTexts};
+use upon_engine::within::Limits;
 use upon_tool_io::files::{ReadFault, joined, read_file};
 use upon_tool_io::folder::files_of;
+use upon_types::value::Value;
 
 /// What is built, and where to.
 #[derive(Clone, Copy)]

@@ -12,7 +12,10 @@ use crate::values::{item_value, split};
 use std::alloc::{AllocError, AllocFailed, Global};
 use std::collections::BTreeMap;
 use std::rt::Files;
-use upon::{AnyEngine, Engine, EngineTexts, Limits, Value};
+use upon_engine::engine::Engine;
+use upon_engine::texts::{AnyEngine, EngineTexts};
+use upon_engine::within::Limits;
+use upon_types::value::Value;
 
 /// What is rendered for each item, and where to.
 #[derive(Clone, Copy)]

@@ -12,9 +12,13 @@ ghost use Rattle.upon_tool_many.specs.declared.pages.PageFault.TheVariants.{NoTe
 use crate::written::write_page;
 use std::alloc::AllocError;
 use std::rt::Files;
-use upon::{AnyEngine, Engine, EngineTexts, Error, Limits, Value};
+use upon_engine::engine::Engine;
+use upon_engine::texts::{AnyEngine, EngineTexts};
+use upon_engine::within::Limits;
 use upon_tool_io::files::ReadFault;
 use upon_tool_io::output::WriteFault;
+use upon_types::error::Error;
+use upon_types::value::Value;
 
 /// A page that is to be written to a file.
 #[derive(Drop)]
@@ -122,7 +126,7 @@ fn answer_of_held(
     limits: Option<Limits>,
     name: &str,
     value: &Value,
-) -> Option<upon::Result<String>>
+) -> Option<upon_types::error::Result<String>>
     ensures means { (held : Stored) (tree : Statements)
         → (⟦<AnyEngine as EngineTexts>⟧.texts engine.now).texts name.now ≡ Some held
         → ∥ HasTree held.syntax held.text tree ∥₁ → IsSomeAnd result
@@ -155,7 +159,7 @@ fn answer_of_source(
     limits: Option<Limits>,
     source: &str,
     value: &Value,
-) -> upon::Result<String>
+) -> upon_types::error::Result<String>
     ensures means { (tree : Statements) → HasTree (⟦<AnyEngine as EngineTexts>⟧.texts engine.now).syntax source.now tree
         → AnswersIn limits (⟦<AnyEngine as EngineTexts>⟧.texts engine.now) None source.now tree (view value.now)
         result }
@@ -171,7 +175,7 @@ fn answer_of_source(
 }
 
 // What a rendering answers, with its fault as that of a page.
-fn text_of(answer: upon::Result<String>) -> Result<String, PageFault>
+fn text_of(answer: upon_types::error::Result<String>) -> Result<String, PageFault>
     ensures { result ≡ as_page answer }
 {
     match answer {

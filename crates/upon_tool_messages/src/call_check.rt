@@ -9,11 +9,10 @@ use crate::near::callable_hint;
 use crate::picture::PICTURES;
 use std::alloc::{AllocError, Global};
 use std::io;
-use upon::Error;
-use upon::error::ErrorKind;
-use upon::types::Span;
 use upon_tool_calls::calls::{FoundCall, calls_in};
 use upon_tool_calls::judge::{CallFault, Declared, fault_of};
+use upon_types::error::{Error, ErrorKind};
+use upon_types::types::Span;
 
 /// What templates may call, and whether a call failed so far.
 #[derive(Clone, Copy)]

@@ -7,10 +7,9 @@ use crate::hints::hint_of;
 use crate::picture::shown;
 use std::alloc::{AllocError, AllocFailed, Global};
 use std::io::{self, Write};
-use upon::Error;
-use upon::error::ErrorKind;
 use upon_tool_data::fault::ContextFault;
 use upon_tool_io::output::WriteFault;
+use upon_types::error::{Error, ErrorKind};
 
 /// Why a run fails.
 #[derive(Drop)]

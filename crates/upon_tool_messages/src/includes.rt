@@ -9,12 +9,14 @@ use std::alloc::Global;
 use std::borrow::CowStr;
 use std::collections::BTreeMap;
 use std::io;
-use upon::error::ErrorKind;
-use upon::types::Span;
-use upon::types::token::Token;
-use upon::{Engine, Error, Result, Template, includes};
 use upon_delimiters::search::Searcher;
+use upon_engine::engine::Engine;
+use upon_engine::template::Template;
 use upon_lexer::compile::lex::Lexer;
+use upon_needs::template_names::includes;
+use upon_types::error::{Error, ErrorKind, Result};
+use upon_types::types::Span;
+use upon_types::types::token::Token;
 
 /// Returns a template that includes another one, by a quoted name.
 pub fn including(alloc: Global, quoted: &str) -> Result<Template<'static>> {

@@ -1,6 +1,6 @@
 // What there is that templates may name.
 use crate::library::Library;
-use upon::Value;
+use upon_types::value::Value;
 
 /// What there is for a rendering: hints below pictures are taken from it.
 #[derive(Clone, Copy)]

@@ -10,9 +10,11 @@ use crate::includes::including;
 use std::alloc::{AllocError, Global};
 use std::collections::BTreeMap;
 use std::io;
-use upon::{Engine, Error, includes};
+use upon_engine::engine::Engine;
+use upon_needs::template_names::includes;
 use upon_tool_calls::judge::Declared;
 use upon_tool_io::files::ReadFault;
+use upon_types::error::Error;
 
 /// Why a file is no template.
 #[derive(Drop)]
@@ -42,7 +44,7 @@ impl Refusal {
     }
 
     /// Returns why a text is no template, or `None` if an engine took it. It fails if there was no memory.
-    pub fn of_added(added: upon::Result<()>) -> Result<Option<Refusal>, AllocError>
+    pub fn of_added(added: upon_types::error::Result<()>) -> Result<Option<Refusal>, AllocError>
         ensures { IsOfAdded added result }
     {
         let Err(error) = added else {

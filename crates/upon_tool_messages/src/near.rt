@@ -10,9 +10,12 @@ use crate::known::Known;
 use crate::library::Library;
 use std::alloc::{AllocError, Global};
 use std::io::Write;
-use upon::{Engine, Error, Value, needs_of};
+use upon_engine::engine::Engine;
 use upon_near::said::{names_text, near_text};
+use upon_needs::needs::needs_of;
 use upon_tool_calls::judge::Declared;
+use upon_types::error::Error;
+use upon_types::value::Value;
 use upon_types::value::look::entry;
 
 /// Says what an error is, with its picture, and which names there are in place of one that is not there.

@@ -9,7 +9,8 @@ use std::alloc::{AllocError, Global};
 use std::io::Write;
 use std::rt::Files;
 use std::time::Clock;
-use upon::{AnyEngine, Engine, EngineTexts, Value};
+use upon_engine::engine::Engine;
+use upon_engine::texts::{AnyEngine, EngineTexts};
 use upon_tool_io::files::joined;
 use upon_tool_many::build::{Build, BuildFault, build_folder};
 use upon_tool_many::each::{Each, EachFault, render_each};
@@ -17,6 +18,7 @@ use upon_tool_many::pages::{DonePage, PageEnd, PageFault, is_any_failed};
 use upon_tool_messages::failure::{Failure, report};
 use upon_tool_messages::known::Known;
 use upon_tool_messages::library::{Library, Refusal, report_refusal};
+use upon_types::value::Value;
 
 /// Renders a template for each item of a list of a value, says what is wrong, and returns the status.
 pub fn show_each<R: Files + Clock + AllocGlobal, E: Write>(

@@ -10,11 +10,14 @@ ghost use Rattle.upon_tool_pages.specs.Rendering.{SendsPage, SendsWhole, ShowsPa
 
 use std::alloc::Global;
 use std::io;
-use upon::{AnyEngine, Engine, EngineTexts, Limits, Value};
+use upon_engine::engine::Engine;
+use upon_engine::texts::{AnyEngine, EngineTexts};
+use upon_engine::within::Limits;
 use upon_tool_messages::failure::{Failure, report};
 use upon_tool_messages::known::Known;
 use upon_tool_messages::library::{Library, report_refusal};
 use upon_tool_messages::near::report_near;
+use upon_types::value::Value;
 
 /// A template of an engine, with what it is rendered on.
 #[derive(Clone, Copy)]
@@ -59,7 +62,7 @@ fn send_on<O: io::Write>(
     engine: &Engine<'_>,
     page: &Page<'_, '_>,
     out: &mut O,
-) -> Option<upon::Result<()>>
+) -> Option<upon_types::error::Result<()>>
     ensures means { let texts = ⟦<AnyEngine as EngineTexts>⟧.texts engine.now in
         (held : Stored) (tree : Statements) → texts.texts page.now.name.now ≡ Some held
         → ∥ HasTree held.syntax held.text tree ∥₁

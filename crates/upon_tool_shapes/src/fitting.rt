@@ -7,11 +7,12 @@ ghost use Rattle.upon_tool_shapes.specs.Fitting.{asked_of, language_for, FileFit
 
 use std::alloc::{AllocError, Global};
 use std::io::Write;
-use upon::{Limits, Syntax};
 use upon_calls::escaping::Language;
 use upon_calls::failure::Failure;
 use upon_calls::options::Options;
 use upon_calls::pages::check_pages;
+use upon_delimiters::syntax::Syntax;
+use upon_engine::within::Limits;
 use upon_shape::shape::Shape;
 use upon_tool_io::arguments::Escape;
 use upon_tool_messages::picture::shown;

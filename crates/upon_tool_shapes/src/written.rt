@@ -9,13 +9,12 @@ ghost use Rattle.upon_tool_shapes.specs.Written.{schema_line};
 
 use std::alloc::{AllocError, Global};
 use std::io::{self, Write};
-use upon::Value;
 use upon_functions::function::Function;
 use upon_schema::write::schema_of;
 use upon_shape::shape::Shape;
 use upon_std_writing::writing::Writing;
 use upon_tool_messages::failure::Failure;
-use upon_types::value::ValueCow;
+use upon_types::value::{Value, ValueCow};
 
 /// Writes the JSON Schema of a shape in a line, and flushes.
 ///

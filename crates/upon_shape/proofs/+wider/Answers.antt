@@ -1,5 +1,6 @@
-use Rattle.std.proofs.Common.{◌≡◌, [], true, false, ◌||◌, ◌&&◌, take, string_bytes, sym, ◌∙◌}
+use Rattle.std.proofs.Common.{◌≡◌, [], true, false, ◌||◌, ◌&&◌, take, string_bytes, sym, ◌∙◌, arith}
 use Rattle.std.proofs.lemmas.Bool.{or_left, or_right, or_from, and_from, and_right}
+use Rattle.std.proofs.lemmas.Grind.{common_steps}
 use Rattle.upon_shape_spec.specs.Shape.{KeyShape}
 use Rattle.upon_shape_spec.specs.Wider.{implies, each_beside, wider, maps_wider, keys_wider}
 use Rattle.upon_shape.specs.Keys.{is_among, seen_after}
@@ -90,3 +91,10 @@ wider::maps_are_as_wide-loop-index-preserved t c =
     wider_passed xs c.deref-key-items.result.now i x (shape_view c.in-Some-maps.keys.others.value) ns (keys_wider [] (keys_view c.in-Some-maps.keys) ns)
     c.deref-key-items.ensures.value c.loop-index-test.true c.key-item.is
     (or_right (is_among (string_bytes x.name) (take i xs)) (is_wider_at x ns) (asked ∙ and_from _ _ (is_held x.required known.required c.if-key-known.false) (sym c.is_as_wide_as.ensures ∙ c.if-not-is_as_wide_as.false))) c.loop-index.invariant
+
+-- the search finds no proof of these, and takes long
+pub wider::is_as_wide_beside-returns : goal.wider::is_as_wide_beside-returns
+wider::is_as_wide_beside-returns = grind (arith, common_steps)
+
+pub wider::maps_are_as_wide-returns : goal.wider::maps_are_as_wide-returns
+wider::maps_are_as_wide-returns = grind (arith, common_steps)

@@ -37,3 +37,10 @@ returns-in-Err g c =
     let rest : 0 < length (drop sent text) =
     omega (arith, length-drop sent text, c.loop-sent-test.true, c.as_bytes-bytes.ensures.len, ap length c.as_bytes-bytes.ensures.value) in
     (take sent text, drop sent text, sym (take-append-drop sent text), rest, Appends-kept _ _ _ (take sent text) c.loop-sent.invariant.received c.in-Err.ensures.bytes)
+
+-- the search finds no proof of these, and takes long
+pub returns-in-Ok-eq0 : goal.returns-in-Ok-eq0
+returns-in-Ok-eq0 = grind (arith, common_steps)
+
+pub returns : goal.returns
+returns = grind (arith, common_steps)

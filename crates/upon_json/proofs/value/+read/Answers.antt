@@ -2,6 +2,7 @@ use Rattle.std.proofs.Common.{◌≡◌, ◌-◌, ◌<◌, [], ◌∷◌, ◌++�
 use Rattle.json.specs.Json.{after_end_array, parse_map, read_key}
 use Rattle.json.specs.Reads.{token_of}
 use Rattle.json.proofs.Grammar.{read_key-shorter, value_is}
+use Rattle.std.proofs.lemmas.Grind.{common_steps}
 use Rattle.upon_types.specs.Val.{text_val, list_val, map_val}
 use Rattle.upon_types.specs.View.{view, entries_view}
 use Rattle.upon_types.proofs.Views.{view-None, view-Bool, view-String, view-List, view-Map}
@@ -189,3 +190,13 @@ pub read-returns-in-EndObject-clause-refused : goal.read-returns-in-EndObject-cl
 read-returns-in-EndObject-clause-refused t c _ =
     let first : c.args.reader.now ≡ token_of c.in-Some.token ∷ c.next.new.self = grind arith in
     rw (value_is c.args.depth c.args.reader.now, first) (grind arith)
+
+-- the search finds no proof of these, and takes long
+pub map-returns-clause-shorter : goal.map-returns-clause-shorter
+map-returns-clause-shorter = grind (arith, common_steps)
+
+pub read-returns-in-Null-clause-shorter : goal.read-returns-in-Null-clause-shorter
+read-returns-in-Null-clause-shorter = grind (arith, common_steps)
+
+pub read-returns-in-Bool-clause-shorter : goal.read-returns-in-Bool-clause-shorter
+read-returns-in-Bool-clause-shorter = grind (arith, common_steps)

@@ -1,4 +1,5 @@
 use Rattle.std.proofs.Common.{◌≡◌, ℕ, ◌+◌, ◌*◌, List, drop, Some, arith, sym, ap, ◌∙◌, subst}
+use Rattle.std.proofs.lemmas.Grind.{common_steps}
 use Rattle.std.specs.Char.{digit_value}
 use Rattle.upon_language_spec.specs.Literal.{sum_of_digits, digits_in}
 use Rattle.upon_literals.proofs.Digits.{Onward, ended, past_underscore, past_digit}
@@ -34,3 +35,10 @@ returns-clause-ok c =
     let F : List ℕ → Type 0 = λ x. (es : List ℕ) × (digits_in base (drop c.args.notation.start x) ≡ Some es) × (c.loop-at.value ≡ sum_of_digits base es) in
     let all : F c.args.text.now = subst F c.as_bytes-bytes.ensures.value found in
     (c.loop-at.invariant.low, all.0, all.1, all.2)
+
+-- the search finds no proof of these, and takes long
+pub returns-in_default-clause-err : goal.returns-in_default-clause-err
+returns-in_default-clause-err = grind (arith, common_steps)
+
+pub returns-then-next-from-clause-err : goal.returns-then-next-from-clause-err
+returns-then-next-from-clause-err = grind (arith, common_steps)

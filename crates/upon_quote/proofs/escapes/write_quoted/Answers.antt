@@ -1,4 +1,5 @@
 use Rattle.std.proofs.Common.{◌≡◌, ◌+◌, ◌≤◌, ◌++◌, length, drop, length-drop, arith, sym, subst, ap, ◌∙◌}
+use Rattle.std.proofs.lemmas.Grind.{common_steps}
 use Rattle.std.proofs.lemmas.Str.{IsCharBoundary-start, IsCharBoundary-past_char, IsUtf8-drop, drop_past_char, length-encode}
 use Rattle.std.specs.Char.{encode_utf8, len_utf8}
 use Rattle.std.specs.Str.{IsCharBoundary}
@@ -88,3 +89,7 @@ returns g c =
     let at = char_indices_offset c.loop-at.at-iterator in
     let all : length text ≤ at = omega (arith, length-drop at text, ap length before.left, c.in-None.ensures.steps.0) in
     finishes g.L.Language.escape_of c.args.f.now c.loop-at.f c.write_str-2.new.self c.write_str-2.result c.range_from.result.now text c.loop-at.start at all c.range_from.ensures.value before.keeps c.write_str-2.ensures
+
+-- the search finds no proof of this, and takes long
+pub loop-at-smaller-in-Some-escape : goal.loop-at-smaller-in-Some-escape
+loop-at-smaller-in-Some-escape = grind (arith, common_steps)

@@ -1,4 +1,5 @@
-use Rattle.std.proofs.Common.{◌≡◌, List, true, string_bytes, String, Global, refl, sym, ap, subst, ◌∙◌, ◌++◌, ◌∷◌, []}
+use Rattle.std.proofs.Common.{◌≡◌, List, true, string_bytes, String, Global, refl, sym, ap, subst, ◌∙◌, ◌++◌, ◌∷◌, [], arith}
+use Rattle.std.proofs.lemmas.Grind.{common_steps}
 use Rattle.upon_types.specs.Val.{entry_then}
 use Rattle.upon_types.specs.View.{view, entries_view}
 use Rattle.upon_types.specs.declared.value.Value.{Value}
@@ -32,3 +33,19 @@ entries_shape-returns-clause-rises t c = (
   rises-entries c.args.entries.now.entries c.iter-key-items.ensures.ordered,
   c.loop-key.invariant.rises (subst (λ (es : List (String Global × Value)). EntriesRise (entries_view es)) (sym c.in-None.ensures.steps.0) tt),
 )
+
+-- the search finds no proof of these, and takes long
+pub entries_shape-loop-key-smaller : goal.entries_shape-loop-key-smaller
+entries_shape-loop-key-smaller = grind (arith, common_steps)
+
+pub joined_shape-loop-index-init : goal.joined_shape-loop-index-init
+joined_shape-loop-index-init = grind (arith, common_steps)
+
+pub joined_shape-loop-index-smaller-in_ok-shape : goal.joined_shape-loop-index-smaller-in_ok-shape
+joined_shape-loop-index-smaller-in_ok-shape = grind (arith, common_steps)
+
+pub joined_shape-loop-index-smaller : goal.joined_shape-loop-index-smaller
+joined_shape-loop-index-smaller = grind (arith, common_steps)
+
+pub joined_shape-loop-index-preserved : goal.joined_shape-loop-index-preserved
+joined_shape-loop-index-preserved = grind (arith, common_steps)

@@ -1,4 +1,5 @@
-use Rattle.std.proofs.Common.{◌≡◌, string_bytes, sym, ap, ◌∙◌}
+use Rattle.std.proofs.Common.{◌≡◌, string_bytes, sym, ap, ◌∙◌, arith}
+use Rattle.std.proofs.lemmas.Grind.{common_steps}
 use Rattle.upon_types.specs.Val.{entry_then, rises}
 use Rattle.upon_types.specs.View.{view, entries_view}
 use Rattle.upon_types.proofs.Bindings.{rises-entries}
@@ -25,3 +26,13 @@ clone::clone_entries-returns t c =
     sym (joined-none (entries_view c.loop-key.copies.entries))
     ∙ ap (λ es. joined (entries_view c.loop-key.copies.entries) (entries_view es)) (sym c.in-None.ensures.steps.0)
     ∙ c.loop-key.invariant
+
+-- the search finds no proof of these, and takes long
+pub clone::clone_entries-loop-key-smaller : goal.clone::clone_entries-loop-key-smaller
+clone::clone_entries-loop-key-smaller = grind (arith, common_steps)
+
+pub clone::clone_items-loop-item-preserved : goal.clone::clone_items-loop-item-preserved
+clone::clone_items-loop-item-preserved = grind (arith, common_steps)
+
+pub clone::clone_items-returns : goal.clone::clone_items-returns
+clone::clone_items-returns = grind (arith, common_steps)

@@ -1,4 +1,5 @@
-use Rattle.std.proofs.Common.{Some, Err, length, string_bytes, subst}
+use Rattle.std.proofs.Common.{Some, Err, length, string_bytes, subst, arith}
+use Rattle.std.proofs.lemmas.Grind.{common_steps}
 use Rattle.std.specs.Io.KnownBytes.{Appends}
 use Rattle.upon_render.specs.Roots.{pure_root}
 use Rattle.upon_render.specs.Stack.{root_of}
@@ -46,3 +47,7 @@ returns-clause-did g c =
     (subst (Appends old new) c.as_str.ensures.value handed.1) (subst (λ l. Leaves c.args.room (length l) c.in-Whole.left) c.as_str.ensures.value handed.0)
     stop (stop_or_memory c.told_as_memory.new.stop) c.told_as_memory.ensures
     (subst (λ b. DidAll (Err stop) (Some b) (Some text) x t) c.new-text.ensures.bytes (c.in-None.ensures.did q ask has))
+
+-- the search finds no proof of this, and takes long
+pub returns-in-Over-clause-did : goal.returns-in-Over-clause-did
+returns-in-Over-clause-did = grind (arith, common_steps)

@@ -1,5 +1,6 @@
 use Rattle.std.proofs.Common.{◌<◌, ◌∙◌, [], refl, sym, subst, arith}
 use Rattle.std.proofs.KnownBytes.{Appends-nil}
+use Rattle.std.proofs.lemmas.Grind.{common_steps}
 use Rattle.upon_render.specs.Roots.{pure_root}
 use Rattle.upon_render.specs.Stack.{root_of}
 use Rattle.upon_machine_spec.specs.Run.{steps}
@@ -154,3 +155,7 @@ turns-preserved g c = record {
 
 pub turns-smaller : goal.turns-smaller
 turns-smaller g c = omega (arith, c.less-left.ensures)
+
+-- the search finds no proof of this, and takes long
+pub at_limit-requires-in_default-spend : goal.at_limit-requires-in_default-spend
+at_limit-requires-in_default-spend = grind (arith, common_steps)

@@ -1,4 +1,5 @@
-use Rattle.std.proofs.Common.{[], ◌∷◌, ap, sym, ◌∙◌}
+use Rattle.std.proofs.Common.{[], ◌∷◌, ap, sym, ◌∙◌, arith}
+use Rattle.std.proofs.lemmas.Grind.{common_steps}
 use Rattle.upon_types.specs.Cow.{cow_view}
 use Rattle.upon_types.specs.View.{view}
 use Rattle.upon_function_adapters.proofs.Returned.{of_two, two_seen}
@@ -12,3 +13,13 @@ returns c c' =
     let all = of_two c.A.OwnedArgument.misfit c.B.OwnedArgument.misfit (c.C.Call2.meaning c'.args.self.now.callable)
     _ _ _ _ _ _ _ _ seen c'.in_ok-first.ensures c'.in_ok-second.ensures c'.call.ensures c'.to_value.ensures in
     record { says = all.0; blames_given = all.1 }
+
+-- the search finds no proof of these, and takes long
+pub returns-in_default-clause-says : goal.returns-in_default-clause-says
+returns-in_default-clause-says = grind (arith, common_steps)
+
+pub returns-in_err-first-clause-says : goal.returns-in_err-first-clause-says
+returns-in_err-first-clause-says = grind (arith, common_steps)
+
+pub returns-in_err-second-clause-says : goal.returns-in_err-second-clause-says
+returns-in_err-second-clause-says = grind (arith, common_steps)

@@ -1,4 +1,5 @@
-use Rattle.std.proofs.Common.{◌≡◌, ◌-◌, [], None, sym, ap, ◌∙◌, take}
+use Rattle.std.proofs.Common.{◌≡◌, ◌-◌, [], None, sym, ap, ◌∙◌, take, arith}
+use Rattle.std.proofs.lemmas.Grind.{common_steps}
 use Rattle.upon_types.specs.declared.types.token.Token.{Token}
 use Rattle.upon_language_spec.specs.Reading.{brackets_after}
 use Rattle.upon_lexer.specs.Brackets.{brackets_of, open_token, close_token, plain_lexeme}
@@ -18,3 +19,7 @@ returns-in-Closes-clause-turned c =
     let none : c.pop.result ≡ None → c.pop.new.self.items ≡ [] = λ e. let empty = rw e at c.pop.ensures.cases in c.pop.ensures.rest ∙ ap (λ k. take (k - 1) c.args.brackets.now.items) empty.0 in
     closes c.args.brackets.now.items c.pop.new.self.items c.pop.result c.in-Closes.field-0 (plain_lexeme c.args.token c.args.span) c.pop.ensures.items none
     ∙ ap (λ (t : Token). brackets_after (brackets_of c.args.brackets.now.items) t (plain_lexeme c.args.token c.args.span)) (sym token)
+
+-- the search finds no proof of this, and takes long
+pub returns-in-Closes-clause-listed : goal.returns-in-Closes-clause-listed
+returns-in-Closes-clause-listed = grind (arith, common_steps)

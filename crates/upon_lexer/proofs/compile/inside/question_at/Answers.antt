@@ -1,4 +1,5 @@
 use Rattle.std.proofs.Common.{inl, inr, arith, refl, sym, ap, ◌+◌, ◌∙◌}
+use Rattle.std.proofs.lemmas.Grind.{common_steps}
 use Rattle.std.proofs.lemmas.Str.{length-encode}
 use Rattle.upon_language_spec.proofs.OneCut.Run.{one_char}
 use Rattle.upon_language_spec.proofs.OneFirstFault.Fault.{nothing_at_end}
@@ -25,3 +26,7 @@ returns-in-None-clause-none c = λ in_path.
     no_question s in_path at (at + 1) c.unexpected-in-None.result.span _ c.unexpected-in-None.ensures.start c.unexpected-in-None.ensures.end c.unexpected-in-None.ensures.reason c.requires.occurs
     (λ o. nothing_at_end s (at + 1) 46 (sym c.in-None.ensures.occurs) o)
     (inl (c.in-None.ensures.occurs, refl))
+
+-- the search finds no proof of this, and takes long
+pub returns-in-Some-eq46-clause-extent : goal.returns-in-Some-eq46-clause-extent
+returns-in-Some-eq46-clause-extent = grind (arith, common_steps)

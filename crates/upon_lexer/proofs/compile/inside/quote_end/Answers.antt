@@ -1,4 +1,5 @@
 use Rattle.std.proofs.Common.{arith, rules, ◌≡◌, ◌≢◌, ◌+◌, ◌⊎◌, inl, inr, ℕ, true, encode_utf8, sym, ap, ◌∙◌, subst}
+use Rattle.std.proofs.lemmas.Grind.{common_steps}
 use Rattle.std.specs.Str.{IsCharBoundary}
 use Rattle.std.proofs.lemmas.Bool.Decides.{nat_tests}
 use Rattle.std.proofs.lemmas.Str.{length-encode}
@@ -66,3 +67,7 @@ returns-clause-string c =
     let s = c.args.source.now in
     let end = c.loop-c.end in
     no_string s end (stuck_at_end s end c.in_default.ensures.occurs) c.args.at c.loop-c.invariant.read
+
+-- the search finds no proof of this, and takes long
+pub escape_end-requires-clause-occurs : goal.escape_end-requires-clause-occurs
+escape_end-requires-clause-occurs = grind (arith, common_steps)

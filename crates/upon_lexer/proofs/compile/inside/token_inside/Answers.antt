@@ -1,4 +1,5 @@
 use Rattle.std.proofs.Common.{◌+◌, rules, inl, Some, arith, refl, sym, ap, ◌∙◌, subst}
+use Rattle.std.proofs.lemmas.Grind.{common_steps}
 use Rattle.std.specs.Char.{is_ascii_digit}
 use Rattle.std.specs.Str.{IsCharBoundary}
 use Rattle.std.proofs.lemmas.Str.{length-encode}
@@ -77,3 +78,10 @@ returns-in-None-clause-wrong_span c =
       end = subst (λ n. IsCharBoundary s (at + n)) (sym c.len_utf8.ensures.value) end;
     } in
     subst (LiesIn s) (sym place) lies
+
+-- the search finds no proof of these, and takes long
+pub string_at-requires-clause-occurs : goal.string_at-requires-clause-occurs
+string_at-requires-clause-occurs = grind (arith, common_steps)
+
+pub question_at-requires-clause-occurs : goal.question_at-requires-clause-occurs
+question_at-requires-clause-occurs = grind (arith, common_steps)

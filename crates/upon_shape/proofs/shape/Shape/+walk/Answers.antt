@@ -1,4 +1,5 @@
 use Rattle.std.proofs.Common.{◌<◌, List, Some, length, map, drop, sym, ap, ◌∙◌, arith}
+use Rattle.std.proofs.lemmas.Grind.{common_steps}
 use Rattle.upon_types.specs.AstPath.{member_of}
 use Rattle.upon_types.specs.declared.types.ast.path.Member.{Member}
 use Rattle.upon_shape_spec.specs.Paths.{MemberShape, after_member_shape, walk_shape}
@@ -16,3 +17,13 @@ returns-in-Never t c =
     ∙ sym (walk-never rest)
     ∙ ap (λ (f : MemberShape). after_member_shape f (walk_shape rest)) c.in-Never.ensures
     ∙ ap (λ (p : List Member). walk_shape (map member_of p) (shape_view c.args.self.now)) (sym (cut_before path 0 c.member-item.result some c.member-item.is))
+
+-- the search finds no proof of these, and takes long
+pub returns-in_ok-try_clone-in-empty : goal.returns-in_ok-try_clone-in-empty
+returns-in_ok-try_clone-in-empty = grind (arith, common_steps)
+
+pub returns-in-Finds : goal.returns-in-Finds
+returns-in-Finds = grind (arith, common_steps)
+
+pub returns-in_ok-walk-in-MayMiss : goal.returns-in_ok-walk-in-MayMiss
+returns-in_ok-walk-in-MayMiss = grind (arith, common_steps)

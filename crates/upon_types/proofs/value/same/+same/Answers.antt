@@ -1,4 +1,5 @@
 use Rattle.std.proofs.Common.{◌≢◌, length, ne_eqb, sym, ◌∙◌, arith}
+use Rattle.std.proofs.lemmas.Grind.{common_steps}
 use Rattle.upon_types.proofs.Same.{apart_items, apart_entries}
 use Rattle.upon_types.proofs.Views.{view-List, view-Map}
 use Rattle.upon_types.proofs.value.same.+same.Goals as goal
@@ -14,3 +15,13 @@ same-returns-else-len-2 t c =
     let apart : length c.in-Map-Map.one.entries ≢ length c.in-Map-Map.other.entries =
     λ even. c.if-len-2.false (omega (arith, even, c.len-in-Map-Map.ensures.len, c.len-in-Map-Map-2.ensures.len)) in
     rw (c.in-Map-Map.is-0, c.in-Map-Map.is-1, view-Map c.in-Map-Map.one, view-Map c.in-Map-Map.other) (ne_eqb _ _ c.if-len-2.false ∙ sym (apart_entries _ _ apart))
+
+-- the search finds no proof of these, and takes long
+pub same_entries-loop-k-smaller : goal.same_entries-loop-k-smaller
+same_entries-loop-k-smaller = grind (arith, common_steps)
+
+pub same_entries-returns : goal.same_entries-returns
+same_entries-returns = grind (arith, common_steps)
+
+pub same_items-returns : goal.same_items-returns
+same_items-returns = grind (arith, common_steps)

@@ -1,4 +1,5 @@
 use Rattle.std.proofs.Common.{◌≡◌, [], length, drop, sym, subst, arith, rules}
+use Rattle.std.proofs.lemmas.Grind.{common_steps}
 use Rattle.std.proofs.lemmas.List.{drop_all}
 use Rattle.std.proofs.lemmas.Result.{on_ok_weaker}
 use Rattle.upon_types.specs.Events.{SendsVals, SendsEntries}
@@ -33,3 +34,10 @@ send_entries-returns g t c =
     let all = subst (λ es. SendsEntries (entries_view es) inside after) same (c.loop-key.invariant after rest) in
     sends_map entries c.len.result (g.S.Serializer.written c.args.out.now) inside after count c.in_ok-begin_map.ensures all)
     c.end_map.ensures
+
+-- the search finds no proof of these, and takes long
+pub send_entries-loop-key-smaller : goal.send_entries-loop-key-smaller
+send_entries-loop-key-smaller = grind (arith, common_steps)
+
+pub send_items-loop-item-preserved : goal.send_items-loop-item-preserved
+send_items-loop-item-preserved = grind (arith, common_steps)

@@ -1,4 +1,5 @@
-use Rattle.std.proofs.Common.{◌∷◌, refl}
+use Rattle.std.proofs.Common.{◌∷◌, refl, arith}
+use Rattle.std.proofs.lemmas.Grind.{common_steps}
 use Rattle.std.proofs.lemmas.Result.{err_from_is_err_and}
 use Rattle.upon_types.specs.declared.types.token.Token.TheVariants.{CloseBrace}
 use Rattle.upon_instructions.specs.Program.{program_view}
@@ -43,3 +44,13 @@ returns-in_err-closing-clause-stuck c =
 pub returns-clause-step : goal.returns-clause-step
 returns-clause-step c span whole from given =
     entry_closes c.args.self.now.source.now c.args.start c.args.key whole span from (place_of c.args.tokens.now c.args.code.now.items) given (place_of c.in_ok-closing.rest.now c.close_map.new.code.items) (program_view c.append.new.code.items) c.in_ok-closing.closing c.close_map.result c.in_ok-closing.ensures.token c.in_ok-append.ensures c.close_map.ensures.code c.close_map.ensures.span
+
+-- the search finds no proof of these, and takes long
+pub start_entry-requires-clause-number : goal.start_entry-requires-clause-number
+start_entry-requires-clause-number = grind (arith, common_steps)
+
+pub close_map-requires : goal.close_map-requires
+close_map-requires = grind (arith, common_steps)
+
+pub returns-clause-shorter : goal.returns-clause-shorter
+returns-clause-shorter = grind (arith, common_steps)

@@ -1,4 +1,5 @@
-use Rattle.std.proofs.Common.{refl}
+use Rattle.std.proofs.Common.{refl, arith}
+use Rattle.std.proofs.lemmas.Grind.{common_steps}
 use Rattle.std.proofs.lemmas.Result.{err_from_is_err_and}
 use Rattle.upon_types.specs.declared.types.token.Token.TheVariants.{CloseBracket}
 use Rattle.upon_instructions.specs.Program.{program_view}
@@ -30,3 +31,13 @@ returns-in_err-closing-clause-stuck c =
 pub returns-clause-step : goal.returns-clause-step
 returns-clause-step c span whole from given =
     item_closes c.args.self.now.source.now c.args.start whole span from (place_of c.args.tokens.now c.args.code.now.items) given (place_of c.in_ok-closing.rest.now c.close_list.new.code.items) (program_view c.append.new.code.items) c.in_ok-closing.closing c.close_list.result c.in_ok-closing.ensures.token c.in_ok-append.ensures c.close_list.ensures.code c.close_list.ensures.span
+
+-- the search finds no proof of these, and takes long
+pub start_item-requires : goal.start_item-requires
+start_item-requires = grind (arith, common_steps)
+
+pub close_list-requires : goal.close_list-requires
+close_list-requires = grind (arith, common_steps)
+
+pub returns-clause-shorter : goal.returns-clause-shorter
+returns-clause-shorter = grind (arith, common_steps)

@@ -1,4 +1,5 @@
-use Rattle.std.proofs.Common.{List}
+use Rattle.std.proofs.Common.{List, arith}
+use Rattle.std.proofs.lemmas.Grind.{common_steps}
 use Rattle.std.proofs.lemmas.Result.{err_from_is_err_and}
 use Rattle.upon_types.specs.declared.types.token.Token.TheVariants.{Number}
 use Rattle.upon_language_spec.specs.Parts.{Part}
@@ -20,3 +21,10 @@ returns-in_err-span-clause-stuck c =
 
 pub returns-in-Some-clause-rest : goal.returns-in-Some-clause-rest
 returns-in-Some-clause-rest c = rest_signed c.in-Some.sign c.in_ok-span.span c.in-Some.rest.now c.in_ok-span.left.now c.args.tokens.now c.in-Some.ensures.rest c.in_ok-span.ensures.token
+
+-- the search finds no proof of these, and takes long
+pub returns-in-Some-clause-shorter : goal.returns-in-Some-clause-shorter
+returns-in-Some-clause-shorter = grind (arith, common_steps)
+
+pub returns-in-Some-take-clause-shorter : goal.returns-in-Some-take-clause-shorter
+returns-in-Some-take-clause-shorter = grind (arith, common_steps)

@@ -1,4 +1,5 @@
-use Rattle.std.proofs.Common.{List, ◌∷◌, Bool, refl}
+use Rattle.std.proofs.Common.{List, ◌∷◌, Bool, refl, arith}
+use Rattle.std.proofs.lemmas.Grind.{common_steps}
 use Rattle.std.proofs.lemmas.Result.{err_from_is_err_and}
 use Rattle.upon_types.specs.declared.types.token.Token.TheVariants.{Ident as Identifier, OpenBrace}
 use Rattle.upon_types.specs.AstPath.{first_member, rest_members}
@@ -110,3 +111,13 @@ returns-in_ok-span-in-Some-2-clause-step c whole =
       code = c.in_ok-span-in-Some-2.ensures.code;
       is_at = c.in_ok-span-in-Some-2.ensures.span;
     }
+
+-- the search finds no proof of these, and takes long
+pub returns-in-Some-take_op-clause-shorter : goal.returns-in-Some-take_op-clause-shorter
+returns-in-Some-take_op-clause-shorter = grind (arith, common_steps)
+
+pub returns-in-Some-take-3-clause-shorter : goal.returns-in-Some-take-3-clause-shorter
+returns-in-Some-take-3-clause-shorter = grind (arith, common_steps)
+
+pub returns-in_ok-span-in-Some-2-clause-shorter : goal.returns-in_ok-span-in-Some-2-clause-shorter
+returns-in_ok-span-in-Some-2-clause-shorter = grind (arith, common_steps)

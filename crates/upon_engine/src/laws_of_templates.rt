@@ -7,8 +7,8 @@ ghost use Rattle.upon_engine.specs.Engine.{engine_templates};
 ghost use Rattle.upon_engine.specs.Texts.{Stored};
 ghost use Rattle.upon_engine.specs.Theorem.{IsTable};
 
-use upon_engine::engine::Engine;
-use upon_engine::texts::{AnyEngine, EngineTexts};
+use crate::engine::Engine;
+use crate::texts::{AnyEngine, EngineTexts};
 
 /// States that the templates of an engine are the table of the texts that it holds: each text, with its tree.
 pub fn templates_are_the_table(engine: &Engine<'_>)

@@ -2,7 +2,7 @@ use Rattle.std.specs.BTreeMap.{get_by_text}
 use Rattle.upon_before_spec.specs.Now.{statements_now}
 use Rattle.upon_before_spec.proofs.TreeKept.{tree_kept}
 use Rattle.upon_engine.proofs.Tables.{template_held}
-use Rattle.upon.proofs.laws_of_templates.old_trees_are_kept.Goals as goal
+use Rattle.upon_engine.proofs.laws_of_templates.old_trees_are_kept.Goals as goal
 
 pub returns : goal.returns
 returns g c name held tree there had =

@@ -1,0 +1,10 @@
+use Rattle.std.proofs.Common.{arith}
+use Rattle.std.proofs.lemmas.Grind.{common_steps}
+use Rattle.upon_render.proofs.iter.list_items.Goals as goal
+
+-- the search finds no proof of these, and takes long
+pub returns-in-List-clause-fits : goal.returns-in-List-clause-fits
+returns-in-List-clause-fits = grind (arith, common_steps)
+
+pub returns-in-List-value-clause-fits : goal.returns-in-List-value-clause-fits
+returns-in-List-value-clause-fits = grind (arith, common_steps)

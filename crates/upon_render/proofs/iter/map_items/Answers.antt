@@ -1,0 +1,10 @@
+use Rattle.std.proofs.Common.{arith}
+use Rattle.std.proofs.lemmas.Grind.{common_steps}
+use Rattle.upon_render.proofs.iter.map_items.Goals as goal
+
+-- the search finds no proof of these, and takes long
+pub returns-in-Map-clause-fits : goal.returns-in-Map-clause-fits
+returns-in-Map-clause-fits = grind (arith, common_steps)
+
+pub returns-in-Map-value-clause-fits : goal.returns-in-Map-value-clause-fits
+returns-in-Map-value-clause-fits = grind (arith, common_steps)

@@ -1,0 +1,7 @@
+use Rattle.std.proofs.Common.{arith}
+use Rattle.std.proofs.lemmas.Grind.{common_steps}
+use Rattle.upon_syntax.proofs.compile.parse.piece_reader.PieceReader.new.Goals as goal
+
+-- the search finds no proof of this, and takes long
+pub invariant_of-result : goal.invariant_of-result
+invariant_of-result = grind (arith, common_steps)
