@@ -7,6 +7,8 @@ An edit of a line outside of functions may have a line `function: NAME` too: the
 lines give it, below the crate. An edit of one function may have a line `goals: NAME, NAME`, as `checks/edits --goals` writes it:
 all that it leaves open.
 """
+import copy
+import dataclasses
 import os
 import re
 
@@ -22,7 +24,7 @@ class Edit:
 
     def __init__(self, path, crate, functions):
         self.name = os.path.basename(path).removesuffix(".edit")
-        self.path, self.refused, self.of, self.goals, self.texts, self.bad = path, "", "", (), {}, None
+        self.path, self.refused, self.of, self.goals, self.texts, self.bad, self.twin_of = path, "", "", (), {}, None, None
         try:
             with open(path, encoding="utf-8") as file:
                 self.apply(file.read().split("\n"), crate)
@@ -74,6 +76,24 @@ class Edit:
         inside = lambda place: any(it.file == place[0] and it.has(place[1]) for it in self.functions)
         return bool(self.functions) and all(is_said(place) or inside(place) for place in self.changes)
 
+    def is_of_one(self):
+        """Whether it is of one function, which is in no cycle of calls."""
+        return len(self.functions) == 1 and not self.cycles
+
+    def can_be_twin(self):
+        """Whether a twin of the function that it changes can stand beside that in a copy: each line that it changes is the function's."""
+        return self.is_of_one() and all(it.can_have_twin() and it.file == path and it.has(line) for it in self.functions for path, line in self.changes)
+
+    def as_twin(self, number):
+        """Returns the edit made in a twin of its function. Where that stands, the copy says (`texts_with`)."""
+        found = copy.copy(self)
+        found.twin_of, found.functions = self, {dataclasses.replace(it, suffix=f"_twin{number}") for it in self.functions}
+        return found
+
+    def plain(self):
+        """Returns the edit made in its function itself."""
+        return self.twin_of or self
+
     def write_goals(self, names):
         """Writes the names of the goals that it leaves open into its file, in place of those that stand there."""
         with open(self.path, encoding="utf-8") as file:
@@ -109,6 +129,15 @@ def function_at(functions, path, line):
     return next((it for it in functions.get(path, []) if it.has(line)), None)
 
 
+def with_twins(batches, has_name):
+    """Returns the copies with edits of later ones in the first one, each in a twin of the function that it changes, if that can have one and
+    has a name by which the check tells of it."""
+    first, *others = batches or [[]]
+    movable = [edit for batch in others for edit in batch if edit.can_be_twin() and has_name(edit)]
+    twins = [edit.as_twin(number) for number, edit in enumerate(movable, 1)]
+    return [batch for batch in ([*first, *twins], *([it for it in batch if it not in movable] for batch in others)) if batch]
+
+
 def batches_of(edits, with_cycles=False):
     """Puts edits into few copies, of which none has a function or a line twice, nor, if so asked, two of one cycle of calls."""
     batches, taken = [], []
@@ -124,9 +153,15 @@ def batches_of(edits, with_cycles=False):
 
 
 def texts_with(edits, crate):
-    """Returns the texts of the files with all these edits in them."""
+    """Returns the texts of the files with all these edits in them. Twins stand at the end of their files, and know then where."""
     lines = {}
-    for edit in edits:
+    for edit in (it for it in edits if not it.twin_of):
         for (path, number), (_, new) in edit.changes.items():
             lines.setdefault(path, text_of(crate, path).split("\n"))[number] = new
+    for edit in (it for it in edits if it.twin_of):
+        (function,), (twin,) = edit.plain().functions, edit.functions
+        found = lines.setdefault(function.file, text_of(crate, function.file).split("\n"))
+        own, twin = function.twin(edit.texts[function.file].split("\n"), twin.suffix, len(found))
+        edit.functions = {twin}
+        found += [*own, ""]
     return {path: "\n".join(found) for path, found in lines.items()}

@@ -8,7 +8,8 @@ CLAUSES = ("requires", "ensures", "ghost", "where")
 
 @dataclasses.dataclass(frozen=True)
 class Function:
-    """A function: the lines (from 0) of its head, of its body and of its end, whether it has one, the head of its impl, and its cycle of calls."""
+    """A function: the lines (from 0) of its head, of its body and of its end, whether it has one, the head of its impl, and its cycle of calls.
+    A twin of it has the same name, and what is put after that."""
 
     file: str
     first: int
@@ -18,10 +19,25 @@ class Function:
     name: str
     owner: str
     cycle: str
+    suffix: str = ""
 
     def has(self, line):
         """Whether the line is of its body, or of its clauses if it is a law, whose body is empty."""
         return self.body <= line <= self.last
+
+    def can_have_twin(self):
+        """Whether a twin can stand beside it: it is in no cycle of calls, and no trait asks for it."""
+        return self.has_body and not self.cycle and (not self.owner or self.owner.startswith("impl") and " for " not in self.owner)
+
+    def twin(self, lines, suffix, at):
+        """Returns the lines of a twin, of those of the file, and that twin if its lines begin at a line."""
+        above = next((i for i in range(self.first - 1, -1, -1) if not lines[i].strip() or lines[i].rstrip().endswith(("{", "}"))), -1) + 1
+        own = [*lines[above : self.first], re.sub(rf"\bfn {self.name}\b", f"fn {self.name}{suffix}", lines[self.first], count=1)]
+        own += lines[self.first + 1 : self.last + 1]
+        moved = at + bool(self.owner) - above
+        return [self.owner, *own, "}"] if self.owner else own, dataclasses.replace(
+            self, first=self.first + moved, body=self.body + moved, last=self.last + moved, suffix=suffix
+        )
 
 
 def functions_of(file, text):
@@ -97,7 +113,8 @@ def module_of(crate, file):
 
 
 def name_of(function, crate, known):
-    """Returns the name under which a check's lines tell of the function, of those that are known, or None if that is not sure."""
+    """Returns the name under which a check's lines tell of the function, of those that are known, or None if that is not sure. A twin's is that of
+    the function and its suffix."""
     names = [name.split("::") for name in known]
     names = [name for name in names if name[-1] == function.name]
     module = module_of(crate, function.file)
@@ -107,4 +124,4 @@ def name_of(function, crate, known):
         names = [name for name in names if name[:-2] == module] or names
     else:
         names = [name for name in names if name[:-1] == module]
-    return "::".join(names[0]) if len(names) == 1 else None
+    return "::".join(names[0]) + function.suffix if len(names) == 1 else None

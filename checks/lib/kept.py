@@ -28,23 +28,23 @@ class Kept:
 
     def __init__(self, module):
         kit = [path for path in (f"{module.rtlib.KIT}/{name}" for name in ("KIT-ID", "WHAT")) if os.path.isfile(path)]
-        self.rtlib, self.of_all = module.rtlib, sum_of(*map(content, [*kit, *SCRIPTS]))
+        self.rtlib, self.of_kit, self.of_scripts = module.rtlib, sum_of(*map(content, kit)), sum_of(*map(content, SCRIPTS))
 
     def sum(self, crate, known=None):
-        """Returns the sum of all that a crate's edits are tried on: its files, those of the crates below, the prover, the scripts."""
+        """Returns the sum of all that a crate is proved from: its files, those of the crates below, the prover."""
         known = {} if known is None else known
         if crate.name not in known:
             below = [self.sum(it, known).encode() for it in crate.deps]
             files = [(os.path.relpath(path, crate.folder), content(path)) for path in self.rtlib.files_of(crate.folder)]
             own = [part for name, text in files for part in (name.encode(), text)]
-            known[crate.name] = sum_of(self.of_all.encode(), repr(crate.of_kit).encode(), *own, *below)
+            known[crate.name] = sum_of(self.of_kit.encode(), repr(crate.of_kit).encode(), *own, *below)
         return known[crate.name]
 
     def name(self, crate):
         """Returns the name under which it is kept what a crate's edits came to."""
         folder = f"{crate.folder}/edits"
         edits = [part for name in sorted(os.listdir(folder)) for part in (name.encode(), content(f"{folder}/{name}"))]
-        return sum_of(self.sum(crate).encode(), *edits)
+        return sum_of(self.of_scripts.encode(), self.sum(crate).encode(), *edits)
 
     def known(self, crate):
         """Returns the names of the crate's functions, if a run has kept them."""

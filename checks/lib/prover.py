@@ -7,6 +7,7 @@ import dataclasses
 import importlib.machinery
 import importlib.util
 import os
+import pathlib
 import re
 import shutil
 import subprocess
@@ -22,7 +23,7 @@ UNREAD = re.compile(r"is not in scope|has no field|is no name|operand is missing
 KINDS = "proved|not proved|no proof|could not tell"
 # What the prover tries by itself of a goal without an answer, and where its names come from.
 TRIED = "first_of (search rules, grind (arith, common_steps))"
-TRIED_NAMES = {"rules": "Rattle.std.proofs.Common", "arith": "native.Mathlib.Omega", "common_steps": "Rattle.std.proofs.lemmas.Grind"}
+TRIED_NAMES = {"rules": "Rattle.std.proofs.Common", "arith": "Rattle.std.proofs.Common", "common_steps": "Rattle.std.proofs.lemmas.Grind"}
 
 
 def kit():
@@ -35,6 +36,12 @@ def kit():
     sys.modules["rt"] = module
     loader.exec_module(module)
     return module
+
+
+def crate_named(module, top, name):
+    """Returns the crate of a name in the repository in a folder."""
+    crates = {it.name: it for it in module.rtlib.crates_below(top)}
+    return crates.get(name) or sys.exit(f"no crate is named {name}")
 
 
 def write_stamp(crate):
@@ -81,7 +88,7 @@ class Said:
         self.read_goals()
         for name, kind, why in re.findall(rf"^(?:fn|impl) (\S+): ({KINDS})(.*)", text, re.M):
             if name not in assumed:
-                self.read_function(name, kind, why, errors["/".join(name.split("::")[1:])])
+                self.read_function(name, kind, why, errors_of(name, errors))
 
     def read_errors(self):
         """Returns the errors of proofs, by the folder of the proof; those of a cycle of calls are put into `of_cycles`."""
@@ -131,6 +138,22 @@ class Said:
         return found
 
 
+def errors_of(name, errors):
+    """Returns the errors of a function's proof, of those by folder. That of a function which calls itself has a plus before its name."""
+    *above, last = name.split("::")[1:]
+    return [it for own in (last, f"+{last}") for it in errors["/".join([*above, own])]]
+
+
+def times_of(kept, begun):
+    """Returns the modules that a check which began then has kept in a folder, each with its seconds, in the order of the check: the prover keeps
+    a file of each, and the time from one to the next is that module's."""
+    paths = [os.path.join(at, name) for at, _, names in os.walk(kept) for name in names]
+    files = sorted((os.stat(path).st_mtime, os.path.basename(path)) for path in paths)
+    files = [it for it in files if it[0] >= begun]
+    before = [begun, *(time for time, _ in files)]
+    return [(re.sub(r"(\.decls)?\.oantt$", "", name), time - last) for (time, name), last in zip(files, before)]
+
+
 def assume(room, names):
     """Has the check of the crate in a folder take these functions' contracts as they are: an axiom stands in place of each proof."""
     for name in names:
@@ -143,6 +166,22 @@ def assume(room, names):
         with open(f"{folder}/Proof.antt", "w", encoding="utf-8") as file:
             statement = ".".join(["Rattle", crate, "proofs", *path, "Statement"])
             file.write(f"use {statement}.{{statement}}\n\naxiom pub {path[-1]}_spec : {{M : Type 1}} → statement M\n")
+
+
+def give_to_twin(crate, room, name, twin):
+    """Gives a twin of a function, by their names, the answers and invariants that the function has in the crate, in the copy in a folder."""
+    of, path = (pathlib.PurePath("proofs", *it.split("::")[1:]) for it in (name, twin))
+    if os.path.isdir(crate / of):
+        shutil.copytree(crate / of, room / path)
+        for file in pathlib.Path(room / path).rglob("*.antt"):
+            file.write_text(of_twin(file.read_text(encoding="utf-8"), name.split("::"), twin.split("::")), encoding="utf-8")
+
+
+def of_twin(text, name, twin):
+    """Returns the text of a function's proof with its twin in the function's place, by the parts of their paths."""
+    inside = re.escape(".".join(name[1:]))
+    text = re.sub(rf"(Rattle\.{name[0]}\.(?:proofs|specs\.contracts)\.){inside}(?=[.\s])", rf"\g<1>{'.'.join(twin[1:])}", text)
+    return re.sub(rf"(?<![\w.-]){re.escape(name[-1])}_spec\b", f"{twin[-1]}_spec", text)
 
 
 def answers_of(folder, function):
@@ -160,29 +199,47 @@ def unanswered(folder, function, names):
     return tuple(name for name in names if not re.search(rf"^pub {re.escape(name)} :", text, re.M))
 
 
-def answer(room, goals):
-    """Answers goals of functions of the crate in a folder, by their names, by what the prover tries by itself: where they stay open it then tries
-    no more, and does not look for what to write."""
+def answer(room, goals, tried=TRIED):
+    """Answers goals of functions of the crate in a folder, by their names, by what the prover tries by itself, or by less: where they stay open it
+    then tries no more, and does not look for what to write."""
     for function, names in goals.items():
         path, text = answers_of(room, function)
         if not os.path.exists(os.path.join(os.path.dirname(path), "Proof.antt")):
             os.makedirs(os.path.dirname(path), exist_ok=True)
             with open(path, "w", encoding="utf-8") as file:
-                file.write(answered(function, names, text))
+                file.write(answered(function, names, text, tried))
 
 
-def answered(function, names, text):
-    """Returns the text of a function's answers with those of more goals, by their names."""
+def answered(function, names, text, tried, note=""):
+    """Returns the text of a function's answers with those of more goals, by their names, under a comment if there is one."""
     crate, *path = function.split("::")
-    uses = "\n".join(line for line in text.split("\n") if line.startswith("use "))
-    brought = [f"use {place}.{{{name}}}" for name, place in TRIED_NAMES.items() if not re.search(rf"[{{ ]{name}[,}} ]", uses)]
-    brought += [f"use {'.'.join(['Rattle', crate, 'proofs', *path])}.Goals as goal"] if ".Goals as goal" not in uses else []
-    return "\n".join([*brought, text, *(f"pub {name} : goal.{name}\n{name} = {TRIED}\n" for name in names)])
+    lines = text.rstrip("\n").split("\n") if text else []
+    uses = [line for line in lines if line.startswith("use ")]
+    rest = [line for line in lines if not line.startswith("use ")]
+    for name, place in TRIED_NAMES.items():
+        if re.search(rf"\b{name}\b", tried):
+            bring(uses, place, name)
+    if not any(line.endswith(".Goals as goal") for line in uses):
+        uses.append(f"use {'.'.join(['Rattle', crate, 'proofs', *path])}.Goals as goal")
+    answers = [f"pub {name} : goal.{name}\n{name} = {tried}\n" for name in names]
+    return "\n".join([*uses, *rest, "", *[note] * bool(note), *answers])
 
 
-def check(module, crate, texts, kept, only=(), assumed=(), goals=None):
+def bring(uses, place, name):
+    """Brings a name of a place into scope, in a list of lines that bring names, if none brings it."""
+    at = next((at for at, line in enumerate(uses) if line.startswith(f"use {place}.{{")), None)
+    if any(re.search(rf"[{{ ]{name}[,}} ]", line) for line in uses):
+        return
+    if at is None:
+        uses.insert(sum(line < f"use {place}." for line in uses), f"use {place}.{{{name}}}")
+    else:
+        uses[at] = f"{uses[at][:-1]}, {name}}}"
+
+
+def check(module, crate, texts, kept, only=(), assumed=(), goals=None, twins=(), tried=TRIED):
     """Checks a copy of the crate with these texts in place of its own, over the work in the folder `kept`, where some functions are assumed to
-    be proved, and goals of others are answered by what the prover tries by itself. Returns what was said, and the processor time in seconds."""
+    be proved, and goals of others are answered by `tried`; twins have the answers of the functions before them. Returns
+    what was said, and the processor time in seconds."""
     with tempfile.TemporaryDirectory(prefix="edits-") as room:
         for part in ("src", "specs", "proofs"):
             if os.path.isdir(f"{crate.folder}/{part}"):
@@ -191,7 +248,9 @@ def check(module, crate, texts, kept, only=(), assumed=(), goals=None):
             with open(f"{room}/{path}", "w", encoding="utf-8") as file:
                 file.write(text)
         assume(room, assumed)
-        answer(room, goals or {})
+        for name, other in twins:
+            give_to_twin(pathlib.Path(crate.folder), pathlib.Path(room), name, other)
+        answer(room, goals or {}, tried)
         flags = ["--jobs", "1", *(word for name in only for word in ("--only", name))]
         words = [module.rtlib.RATTLE, "check", *crate.words(flags, keeps=False), "--incremental", kept]
         with tempfile.TemporaryFile("w+", errors="replace") as said:

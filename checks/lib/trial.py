@@ -41,15 +41,15 @@ class Trial:
         take_kept(self.crate, self.kept)
         sound = [it for it in self.edits if not it.bad]
         again = []
-        for batch in edits_module.batches_of([it for it in sound if it.is_of_functions()]):
-            again += self.try_batch(batch, is_last=False)
+        for batch in edits_module.with_twins(edits_module.batches_of([it for it in sound if it.is_of_functions()]), self.has_name):
+            again += [it.plain() for it in self.try_batch(batch, is_last=False)]
         for batch in edits_module.batches_of(again, with_cycles=True):
             self.alone += self.try_batch(batch, is_last=True)
         for edit in (it for it in sound if it.of and not it.is_of_functions()):
             edit.functions |= self.named(edit.of)
             self.alone += self.try_batch([edit], is_last=True) if edit.functions else [edit]
         for edit in self.alone:
-            self.try_alone(edit)
+            self.try_alone(edit.plain())
 
     def write_goals(self):
         """Tries each edit without what its file says of the goals that it leaves open, and writes that there."""
@@ -60,7 +60,7 @@ class Trial:
             result = self.results.get(edit.name)
             if result and not edit.bad and not edit.of:
                 names = [it for it in result.goals if re.fullmatch(r"[\w-]+", it)]
-                edit.write_goals(names if len(edit.functions) == 1 and not edit.cycles and len(names) <= MOST_GOALS else ())
+                edit.write_goals(names if edit.is_of_one() and len(names) <= MOST_GOALS else ())
 
     def named(self, name):
         """Returns the functions of a name, as a check's lines give it below the crate."""
@@ -70,13 +70,18 @@ class Trial:
         """Returns the name under which a check's lines tell of the function, or None if that is not sure."""
         return functions_module.name_of(function, self.crate.name, self.known)
 
+    def has_name(self, edit):
+        """Whether the names of the functions that the edit changes are sure."""
+        return all(map(self.name_of, edit.functions))
+
     def check(self, batch, only=(), assumed=(), goals=None):
         """Checks a copy with these edits, once more if the check was killed, most likely for memory."""
         texts = edits_module.texts_with(batch, self.crate.folder)
         if assumed:
             texts = self.without_bodies(texts, set(assumed))
+        names = [tuple(self.name_of(it) for one in (edit.plain(), edit) for it in one.functions) for edit in batch if edit.twin_of]
         for _ in range(2):
-            said, seconds = prover.check(self.module, self.crate, texts, self.kept, only, assumed, goals)
+            said, seconds = prover.check(self.module, self.crate, texts, self.kept, only, assumed, goals, names)
             self.seconds += seconds
             if said.status != -signal.SIGKILL:
                 break
@@ -149,8 +154,11 @@ class Trial:
     def goals_left(self, batch):
         """Returns the goals that edits say that they leave open, and that no file answers, by the function that each changes. One in a cycle of
         calls is not among them."""
-        found = {self.name_of(it): edit.goals for edit in batch if edit.goals and len(edit.functions) == 1 and not edit.cycles for it in edit.functions}
-        return {name: goals for name, every in found.items() if name and (goals := prover.unanswered(self.crate.folder, name, every))}
+        found = {}
+        for edit in (it for it in batch if it.goals and it.is_of_one() and self.has_name(it)):
+            (name,), (of,) = map(self.name_of, edit.functions), map(self.name_of, edit.plain().functions)
+            found[name] = prover.unanswered(self.crate.folder, of, edit.goals)
+        return {name: goals for name, goals in found.items() if goals}
 
     def is_told(self, edit, said, is_last, answered):
         """Whether the check tells of the edit that it is refused, and not that a goal that was answered for it is not there."""

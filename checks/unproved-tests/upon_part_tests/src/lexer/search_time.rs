@@ -7,10 +7,10 @@ use std::time::CpuClock;
 use upon_delimiters::search::Searcher;
 use upon_delimiters::syntax::Syntax;
 
-// A text of 8 KiB, each byte the same.
+// A text of 1 KiB, each byte the same: short, so that a search can end before another process takes the processor.
 fn text_of(alloc: Global, part: char) -> Result<String, AllocError> {
     let mut text = String::new(alloc);
-    for _ in 0..8_192 {
+    for _ in 0..1_024 {
         text.push(part)?;
     }
     Ok(text)
@@ -57,7 +57,7 @@ fn finds(searcher: &Searcher, text: &str, way: Way) -> bool {
     is_found
 }
 
-// The microseconds of a walk over a text, and of a search of it, each the least of five.
+// The microseconds of a walk over a text, and of a search of it, each the least of a hundred.
 fn least<C: CpuClock>(
     clock: &C,
     searcher: &Searcher,
@@ -66,7 +66,7 @@ fn least<C: CpuClock>(
 ) -> Result<(u128, u128), Fail> {
     let mut walk = u128::MAX;
     let mut search = u128::MAX;
-    for _ in 0..5 {
+    for _ in 0..100 {
         let begun = now(clock)?;
         let is_there = count(text, 0) > 0;
         let walked = now(clock)?;
