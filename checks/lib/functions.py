@@ -34,10 +34,10 @@ class Function:
         above = next((i for i in range(self.first - 1, -1, -1) if not lines[i].strip() or lines[i].rstrip().endswith(("{", "}"))), -1) + 1
         own = [*lines[above : self.first], re.sub(rf"\bfn {self.name}\b", f"fn {self.name}{suffix}", lines[self.first], count=1)]
         own += lines[self.first + 1 : self.last + 1]
-        moved = at + bool(self.owner) - above
-        return [self.owner, *own, "}"] if self.owner else own, dataclasses.replace(
-            self, first=self.first + moved, body=self.body + moved, last=self.last + moved, suffix=suffix
-        )
+        before, after = ([self.owner, *uses_inside(lines, self.first)], ["}"]) if self.owner else ([], [])
+        moved = at + len(before) - above
+        twin = dataclasses.replace(self, first=self.first + moved, body=self.body + moved, last=self.last + moved, suffix=suffix)
+        return [*before, *own, *after], twin
 
 
 def functions_of(file, text):
@@ -59,6 +59,12 @@ def owner_of(lines, at):
     is_end = lambda i: lines[i] == "}" or i == at and lines[at].endswith("}")
     ends = next((i for i in range(at, len(lines)) if is_end(i)), at)
     return " ".join(line.strip() for line in lines[at : head + 1]), ends
+
+
+def uses_inside(lines, at):
+    """Returns the lines by which the impl around a line brings names in for its clauses."""
+    head = next((i for i in range(at, -1, -1) if lines[i].startswith("impl")), at)
+    return [line for line in lines[head:at] if line.startswith("    ghost use ")]
 
 
 def body_of(lines, at, indent):
@@ -86,9 +92,9 @@ def cycle_of(lines, at):
 
 
 def without_bodies(text, functions):
-    """Returns a file's text in which these functions have a body that never ends, in as many lines."""
+    """Returns a file's text in which these functions have a body that never ends, in as many lines. A law has an empty body as it is."""
     lines = text.split("\n")
-    for it in functions:
+    for it in (it for it in functions if not lines[it.last].endswith("{}")):
         inside = range(it.body + 1, it.last)
         for line in inside:
             lines[line] = "loop {}" if line == inside[0] else ""
@@ -120,7 +126,7 @@ def name_of(function, crate, known):
     module = module_of(crate, function.file)
     if function.owner:
         forms = names_of_impl(function.owner)
-        names = [name for name in names if len(name) > 2 and name[-2].lower() in forms]
+        names = [name for name in names if len(name) > 2 and re.sub(r"\W", "", name[-2]).lower() in forms]
         names = [name for name in names if name[:-2] == module] or names
     else:
         names = [name for name in names if name[:-1] == module]

@@ -91,6 +91,7 @@ class Trial:
         """Checks a copy with these edits, in which the contracts of the other functions are taken as they are; if such a copy can't be read, one in
         which they are proved. Returns what was said, and the places that can't be read."""
         for others in (self.others(batch), ()):
+            self.batches += 1
             said = self.check(batch, self.scope(batch), others, goals)
             places = said.unread({path for edit in batch for path in edit.texts})
             if not others or not places or any(self.is_at(edit, *place[:2]) for edit in batch for place in places):
@@ -101,7 +102,6 @@ class Trial:
         """Tries edits in one copy, and returns those of which that tells nothing and which are to be tried with fewer, or alone."""
         said, unread = None, []
         while batch:
-            self.batches += 1
             goals = {} if is_last else self.goals_left(batch)
             said, places = self.checked(batch, goals)
             unread = [edit for edit in batch if any(self.is_at(edit, *place[:2]) for place in places)]
