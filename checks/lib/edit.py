@@ -129,11 +129,11 @@ def function_at(functions, path, line):
     return next((it for it in functions.get(path, []) if it.has(line)), None)
 
 
-def with_twins(batches, has_name):
+def with_twins(batches, can_be_told):
     """Returns the copies with edits of later ones in the first one, each in a twin of the function that it changes, if that can have one and
-    has a name by which the check tells of it."""
+    a check can tell of that."""
     first, *others = batches or [[]]
-    movable = [edit for batch in others for edit in batch if edit.can_be_twin() and has_name(edit)]
+    movable = [edit for batch in others for edit in batch if edit.can_be_twin() and can_be_told(edit)]
     twins = [edit.as_twin(number) for number, edit in enumerate(movable, 1)]
     return [batch for batch in ([*first, *twins], *([it for it in batch if it not in movable] for batch in others)) if batch]
 

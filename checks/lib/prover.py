@@ -138,10 +138,20 @@ class Said:
         return found
 
 
-def errors_of(name, errors):
-    """Returns the errors of a function's proof, of those by folder. That of a function which calls itself has a plus before its name."""
+def own_cycle(name):
+    """Returns the path, below proofs/, of the proof of a function that calls itself: it has a plus before the function's name."""
     *above, last = name.split("::")[1:]
-    return [it for own in (last, f"+{last}") for it in errors["/".join([*above, own])]]
+    return os.path.join(*above, f"+{last}")
+
+
+def has_proof_of_cycle(folder, name):
+    """Whether files of a crate's folder are of the proof of a function as one that calls itself."""
+    return os.path.isdir(os.path.join(folder, "proofs", own_cycle(name)))
+
+
+def errors_of(name, errors):
+    """Returns the errors of a function's proof, of those by folder."""
+    return [it for own in (os.path.join(*name.split("::")[1:]), own_cycle(name)) for it in errors[own]]
 
 
 def times_of(kept, begun):

@@ -41,7 +41,7 @@ class Trial:
         take_kept(self.crate, self.kept)
         sound = [it for it in self.edits if not it.bad]
         again = []
-        for batch in edits_module.with_twins(edits_module.batches_of([it for it in sound if it.is_of_functions()]), self.has_name):
+        for batch in edits_module.with_twins(edits_module.batches_of([it for it in sound if it.is_of_functions()]), self.can_be_told_of_twin):
             again += [it.plain() for it in self.try_batch(batch, is_last=False)]
         for batch in edits_module.batches_of(again, with_cycles=True):
             self.alone += self.try_batch(batch, is_last=True)
@@ -73,6 +73,11 @@ class Trial:
     def has_name(self, edit):
         """Whether the names of the functions that the edit changes are sure."""
         return all(map(self.name_of, edit.functions))
+
+    def can_be_told_of_twin(self, edit):
+        """Whether a check tells of the edit made in a twin: names are sure, and the functions' answers are not those of functions that call
+        themselves, which a twin, as it calls the function itself, can't be given."""
+        return self.has_name(edit) and not any(prover.has_proof_of_cycle(self.crate.folder, self.name_of(it)) for it in edit.functions)
 
     def check(self, batch, only=(), assumed=(), goals=None):
         """Checks a copy with these edits, once more if the check was killed, most likely for memory."""
