@@ -48,7 +48,7 @@ class Fault:
         """The kernel's test of what is before a fault takes no strings, indexes, closing tags and no text in comments."""
         words = [self.source[it.span[0]:it.span[1]] for it in self.cutting.lexemes if it.token == "keyword"]
         tokens = [it.token for it in self.cutting.lexemes]
-        closing = {b"else", b"endif", b"endfor", b"endwith"} & set(words)
+        closing = [word for word in words if word.startswith((b"else", b"end"))]
         if {"string", "index"} & set(tokens) or "begin comment" in tokens[:-1] or closing or len(tokens) > MOST:
             raise NotShown
 

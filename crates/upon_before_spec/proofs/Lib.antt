@@ -1,3 +1,5 @@
+pub mod TagsKept
+pub mod BlocksKept
 pub mod TreeKept
 pub mod FaultKept
 pub mod MeaningKept

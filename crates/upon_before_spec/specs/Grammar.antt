@@ -1,14 +1,33 @@
--- The written grammar before `for .. else`: statements, and which tree a text had. The tags are those of today.
-use Rattle.std.specs.Prelude.{◌≡◌, ◌⊎◌, ℕ, List, [], length, false, codes}
+-- The written grammar before `for .. else`: statements, and which tree a text had.
+use Rattle.std.specs.Prelude.{◌≡◌, ◌⊎◌, ℕ, List, [], length, Bool, false, codes}
 use Rattle.upon_types.specs.declared.types.Span.{Span}
 use Rattle.upon_types.specs.declared.types.token.Token.TheVariants.{Raw, BeginExpr, EndExpr, EndBlock}
+use Rattle.upon_types.specs.Path.{Ident, LoopVars}
+use Rattle.upon_types.specs.Expression.{Expression}
 use Rattle.upon_before_spec.specs.Tree.{Statement, raw, inline_expr, include, if_else, for_loop, with, Statements, no_statements, statement_then, Else, no_else, otherwise}
 use Rattle.upon_language_spec.specs.Search.{DelimiterText}
 use Rattle.upon_language_spec.specs.Cut.{Lexeme, outside, Cut}
 use Rattle.upon_language_spec.specs.Shown.{shown_lexemes}
-use Rattle.upon_language_spec.specs.Tokens.{Goes, GoesBy, GoesText, from_to, significant}
+use Rattle.upon_language_spec.specs.Tokens.{Goes, GoesBy, GoesKeyword, GoesName, GoesText, from_to, significant}
 use Rattle.upon_language_spec.specs.Expressions.{IsExpression}
-use Rattle.upon_language_spec.specs.Grammar.{BeginsBlock, IsWordTag, IsIfTag, IsElseIfTag, IsForTag, IsWithTag, AreGlobals}
+use Rattle.upon_language_spec.specs.Grammar.{BeginsBlock, IsWordTag, IsCondition, IsElseIfTag, AreLoopVars, AreGlobals}
+
+-- tag("if" Cond)
+abbrev pub IsIfTag : List ℕ → Bool → Expression → List Lexeme → List Lexeme → Type 0
+IsIfTag s negated e before rest = (mid after : List Lexeme) × BeginsBlock s (codes "if") before mid
+    × IsCondition s negated e mid after × GoesBy EndBlock after rest
+
+-- tag("for" Ident ["," Ident] "in" Expr)
+abbrev pub IsForTag : List ℕ → LoopVars → Expression → List Lexeme → List Lexeme → Type 0
+IsForTag s names e before rest = (start mid after last : List Lexeme) × BeginsBlock s (codes "for") before start
+    × AreLoopVars s names start mid × GoesKeyword s (codes "in") mid after × IsExpression s e after last
+    × GoesBy EndBlock last rest
+
+-- tag("with" Expr "as" Ident)
+abbrev pub IsWithTag : List ℕ → Expression → Ident → List Lexeme → List Lexeme → Type 0
+IsWithTag s e name before rest = (start mid after last : List Lexeme) × BeginsBlock s (codes "with") before start
+    × IsExpression s e start mid × GoesKeyword s (codes "as") mid after × GoesName s name after last
+    × GoesBy EndBlock last rest
 
 abbrev mutual
   -- Stmt = Raw | Inline | If | For | With | Include

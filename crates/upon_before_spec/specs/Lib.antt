@@ -1,5 +1,9 @@
 pub mod Tree
 pub mod Grammar
+pub mod Blocks
+pub mod Tags
+pub mod Wanted
+pub mod TagFaults
 pub mod Faults
 pub mod Meaning
 pub mod Alone

@@ -1,12 +1,16 @@
 -- Each statement has an instruction.
 use Rattle.std.proofs.Common.{ℕ, suc, ◌≤◌, List, [], ◌∷◌, ◌++◌, length, length-append, Some, None, arith}
 use Rattle.upon_types.specs.Expression.{Expression, base, filtered, Base, var, literal, list, mapping, paren, call}
-use Rattle.upon_types.specs.Tree.{Statement, raw, inline_expr, include, if_else, for_loop, with}
+use Rattle.upon_types.specs.Tree.{Statement, raw, inline_expr, include, block}
 use Rattle.upon_machine_spec.specs.Code.{count, expression_code, base_code, arguments_code, emission_code, base_emission_code, statement_code}
 use Rattle.upon_machine_spec.specs.Instr.{Instr, emit, emit_with}
+use Rattle.upon_machine_spec.proofs.BlockCode.{block_some}
 
 after_some : (a b : List Instr) (i : Instr) → 1 ≤ length (a ++ i ∷ b)
 after_some a b i = omega (arith, length-append a (i ∷ b))
+
+some_after : (a b : List Instr) → 1 ≤ length b → 1 ≤ length (a ++ b)
+some_after a b h = omega (arith, length-append a b, h)
 
 mutual
   shown_code : (e : Expression) → 1 ≤ length (emission_code e)
@@ -28,6 +32,4 @@ some_code at (raw span) = omega arith
 some_code at (inline_expr e span) = shown_code e
 some_code at (include word None) = omega arith
 some_code at (include word (Some e)) = after_some (expression_code e) _ _
-some_code at (if_else negated e body branch) = after_some (expression_code e) _ _
-some_code at (for_loop names e body branch) = after_some (expression_code e) _ _
-some_code at (with e word body) = after_some (expression_code e) _ _
+some_code at (block opening e body branch) = some_after (expression_code e) _ (block_some opening branch _ _ _ _)

@@ -1,9 +1,10 @@
 -- A walk along a tree's program doubts what is in doubt in the tree.
-use Rattle.std.proofs.Common.{◌≡◌, ℕ, ◌+◌, ◌≤◌, List, [], ◌∷◌, ◌++◌, length, length-append, append-nil, Bool, true, false, not, if◌then◌else◌, Some, None, refl, sym, ap, ◌∙◌, subst, arith}
+use Rattle.std.proofs.Common.{◌≡◌, ℕ, ◌+◌, ◌≤◌, List, [], ◌∷◌, ◌++◌, length, length-append, append-nil, Bool, true, false, not, if◌then◌else◌, Some, None, refl, sym, ap, ◌∙◌, arith}
 use Rattle.std.proofs.lemmas.Bool.{le-leb, lt-leb}
 use Rattle.upon_types.specs.Expression.{Expression, expression_span}
 use Rattle.upon_types.specs.Path.{Ident, LoopVars}
-use Rattle.upon_types.specs.Tree.{Statement, raw, inline_expr, include, if_else, for_loop, with, Statements, no_statements, statement_then, Else, no_else, otherwise}
+use Rattle.upon_types.specs.BlockKinds.{if_tag, for_tag, with_tag}
+use Rattle.upon_types.specs.Tree.{Statement, raw, inline_expr, include, block, Statements, no_statements, statement_then, Else, no_else, otherwise}
 use Rattle.upon_machine_spec.specs.Code.{expression_code, jump_unless, else_start, else_part, turn, statement_code, statements_code, else_code, program_of}
 use Rattle.upon_machine_spec.specs.Instr.{Instr, jump, emit_raw, loop_start, with_start, with_end}
 use Rattle.upon_machine_spec.specs.Instr.{include as enter, include_with as enter_with}
@@ -114,17 +115,16 @@ module _ (declared : Declared) (included : List ℕ → Scope → Bool) where
   with_follows : (e : Expression) (word : Ident) (at : ℕ) (os : List KnownOperand) (scope : Scope) (opens : List Open) (inner : List Instr) (ds : List Doubt) →
       let s : Shape = or_never (expression_shape declared scope e) in
       Turns (at + 1) os (with_names (name_shape word.text (value_of s) ∷ []) scope) (binding scope ∷ opens) inner ds
-      → Follows at (known (operand_of declared scope e ∷ os) scope opens) (with_start word ∷ (inner ++ with_end ∷ [])) ds (left_at (at + 1 + length inner + 1) os scope opens)
+      → Follows at (known (operand_of declared scope e ∷ os) scope opens) (with_start word ∷ (inner ++ with_end ∷ [])) (ds ++ []) (left_at (at + 1 + length inner + 1) os scope opens)
   with_follows e word at os scope opens inner ds w =
       let s : Shape = or_never (expression_shape declared scope e) in
       let inside : Scope = with_names (name_shape word.text (value_of s) ∷ []) scope in
       let k : Known = known os inside (binding scope ∷ opens) in
       let p : ℕ = at + 1 + length inner in
       let end : Known = left_at (p + 1) os scope opens in
-      walk_after declared included at (known (operand_of declared scope e ∷ os) scope opens) end (with_start word) (inner ++ with_end ∷ []) [] ds os inside (binding scope ∷ opens) refl refl
-      (subst (λ l. Follows (at + 1) k (inner ++ with_end ∷ []) l end) (append-nil ds)
+      walk_after declared included at (known (operand_of declared scope e ∷ os) scope opens) end (with_start word) (inner ++ with_end ∷ []) [] (ds ++ []) os inside (binding scope ∷ opens) refl refl
       (walk_then declared included (at + 1) k k end inner (with_end ∷ []) ds [] w
-      (walk_step declared included p k with_end [] os scope opens refl refl)))
+      (walk_step declared included p k with_end [] os scope opens refl refl))
 
   -- ---- trees
   mutual
@@ -141,7 +141,7 @@ module _ (declared : Declared) (included : List ℕ → Scope → Bool) where
         to_number declared included at (at + length c + 1) (at + length (c ++ end)) (known os scope opens) (c ++ end) (expression_doubts declared scope e ++ ds) os scope opens len
         (after_value e at os scope opens end ds (left_at (at + length c + 1) os scope opens) (sooner (at + length (c ++ end)) (at + length c + 1) opens (omega arith) h)
         (walk_step declared included (at + length c) (known (operand_of declared scope e ∷ os) scope opens) (enter_with word) ds os scope opens refl refl))
-    statement_follows (if_else negated e body branch) at os scope opens h =
+    statement_follows (block (if_tag negated) e body branch) at os scope opens h =
         let c : List Instr = expression_code e in
         let from : ℕ = at + length c in
         let inner : List Instr = statements_code (from + 1) body in
@@ -153,7 +153,7 @@ module _ (declared : Declared) (included : List ℕ → Scope → Bool) where
         let turned : Scope = tested_scope negated e scope in
         let inside : List Open = body_to n turned scope ∷ opens in
         let ds : List Doubt = statements_doubts declared included begun body in
-        let es : List Doubt = else_doubts declared included turned branch in
+        let es : List Doubt = else_doubts declared included turned true branch in
         let len : p + length part ≡ at + length (c ++ code) = omega (arith, length-append c code, length-append inner part) in
         let far : EndFrom (p + length part) opens = sooner (at + length (c ++ code)) (p + length part) opens (omega arith) h in
         to_number declared included at (p + length part) (at + length (c ++ code)) (known os scope opens) (c ++ code) (expression_doubts declared scope e ++ (ds ++ es)) os scope opens len
@@ -161,7 +161,7 @@ module _ (declared : Declared) (included : List ℕ → Scope → Bool) where
         (if_follows negated e branch from os scope opens inner part ds es
         (statements_follow body (from + 1) os begun inside (begins_after branch p, sooner (p + length part) p opens (omega arith) far))
         (else_follows branch p os begun turned scope opens far)))
-    statement_follows (for_loop names e body branch) at os scope opens h =
+    statement_follows (block (for_tag names) e body branch) at os scope opens h =
         let c : List Instr = expression_code e in
         let from : ℕ = at + length c in
         let s : Shape = or_never (expression_shape declared scope e) in
@@ -172,7 +172,7 @@ module _ (declared : Declared) (included : List ℕ → Scope → Bool) where
         let way : List Instr = inner ++ jump (from + 1) ∷ other in
         let code : List Instr = loop_start names (expression_span e) ∷ turn branch after (after + length other) ∷ way in
         let ds : List Doubt = statements_doubts declared included inside body in
-        let es : List Doubt = else_doubts declared included scope branch in
+        let es : List Doubt = else_doubts declared included scope true branch in
         let items : List Doubt = items_in_doubt (expression_span e) names s in
         let len : after + length other ≡ at + length (c ++ code) = omega (arith, length-append c code, length-append inner (jump (from + 1) ∷ other)) in
         let far : EndFrom (after + length other) opens = sooner (at + length (c ++ code)) (after + length other) opens (omega arith) h in
@@ -181,7 +181,7 @@ module _ (declared : Declared) (included : List ℕ → Scope → Bool) where
         (for_follows names e branch from after (after + length other) os scope opens inner other ds es
         (statements_follow body (from + 1 + 1) os inside (binding scope ∷ opens) (tt, sooner (after + length other) (from + 1 + 1 + length inner) opens (omega arith) far))
         (branch_follows branch after os scope opens far)))
-    statement_follows (with e word body) at os scope opens h =
+    statement_follows (block (with_tag word) e body branch) at os scope opens h =
         let c : List Instr = expression_code e in
         let from : ℕ = at + length c in
         let s : Shape = or_never (expression_shape declared scope e) in
@@ -192,8 +192,8 @@ module _ (declared : Declared) (included : List ℕ → Scope → Bool) where
         let ds : List Doubt = statements_doubts declared included inside body in
         let len : p + 1 ≡ at + length (c ++ code) = omega (arith, length-append c code, length-append inner (with_end ∷ [])) in
         let far : EndFrom (p + 1) opens = sooner (at + length (c ++ code)) (p + 1) opens (omega arith) h in
-        to_number declared included at (p + 1) (at + length (c ++ code)) (known os scope opens) (c ++ code) (expression_doubts declared scope e ++ ds) os scope opens len
-        (after_value e at os scope opens code ds (left_at (p + 1) os scope opens) (sooner (p + 1) (from + 1) opens (omega arith) far)
+        to_number declared included at (p + 1) (at + length (c ++ code)) (known os scope opens) (c ++ code) (expression_doubts declared scope e ++ (ds ++ [])) os scope opens len
+        (after_value e at os scope opens code (ds ++ []) (left_at (p + 1) os scope opens) (sooner (p + 1) (from + 1) opens (omega arith) far)
         (with_follows e word from os scope opens inner ds (statements_follow body (from + 1) os inside (binding scope ∷ opens) (tt, sooner (p + 1) p opens (omega arith) far))))
 
     statements_follow : (ts : Statements) (at : ℕ) (os : List KnownOperand) (scope : Scope) (opens : List Open) → EndFrom (at + length (statements_code at ts)) opens
@@ -219,7 +219,7 @@ module _ (declared : Declared) (included : List ℕ → Scope → Bool) where
 
     -- the other branch of a loop
     branch_follows : (branch : Else) (at : ℕ) (os : List KnownOperand) (scope : Scope) (opens : List Open) → EndFrom (at + length (else_code at branch)) opens
-        → Turns at os scope opens (else_code at branch) (else_doubts declared included scope branch)
+        → Turns at os scope opens (else_code at branch) (else_doubts declared included scope true branch)
     branch_follows no_else at os scope opens h =
         let e : at ≡ at + 0 = omega arith in
         to_number declared included at at (at + 0) (left_at at os scope opens) [] [] os scope opens e (walk_nothing declared included at (left_at at os scope opens))
@@ -227,7 +227,7 @@ module _ (declared : Declared) (included : List ℕ → Scope → Bool) where
 
     -- the other case of an `if`, whose body ends at this number
     else_follows : (branch : Else) (at : ℕ) (os : List KnownOperand) (scope turned outer : Scope) (opens : List Open) → EndFrom (at + length (else_part branch at (else_code (else_start branch at) branch))) opens
-        → Follows at (left_at at os scope (body_to (else_start branch at) turned outer ∷ opens)) (else_part branch at (else_code (else_start branch at) branch)) (else_doubts declared included turned branch)
+        → Follows at (left_at at os scope (body_to (else_start branch at) turned outer ∷ opens)) (else_part branch at (else_code (else_start branch at) branch)) (else_doubts declared included turned true branch)
         (left_at (at + length (else_part branch at (else_code (else_start branch at) branch))) os outer opens)
     else_follows no_else at os scope turned outer opens h =
         let e : at ≡ at + 0 = omega arith in

@@ -5,9 +5,10 @@ use Rattle.upon_types.specs.Expression.{Expression, base, filtered, Base, var, l
 use Rattle.upon_types.specs.Path.{Access, by_index, by_key, Member, LoopVars, item, key_value, access_span}
 use Rattle.upon_types.specs.Span.{LiesIn}
 use Rattle.upon_types.specs.declared.types.Span.{Span}
-use Rattle.upon_types.specs.Tree.{Statement, raw, inline_expr, include, if_else, for_loop, with, Statements, no_statements, statement_then, Else, no_else, otherwise}
-use Rattle.upon_types.specs.TreeSpans.{SelectorSpans, StepSpans, StepsSpans, LoopNamesSpans, ExpressionSpans, BaseSpans, BasesSpans, ItemsSpans, ArgumentsSpans, GivenSpans, StatementSpans, StatementsSpans, ElseSpans, TreeLiesIn}
-use Rattle.upon_language_spec.specs.SpansLieIn.{StepLiesIn, StepsLieIn, ExpressionLiesIn, BaseLiesIn, BasesLieIn, ItemsLieIn, ArgumentsLieIn, NamesLieIn, ContextLiesIn, StatementLiesIn, StatementsLieIn, ElseLiesIn}
+use Rattle.upon_types.specs.BlockKinds.{Opening, for_tag, LoopNamesSpans, OpeningSpans}
+use Rattle.upon_types.specs.Tree.{Statement, raw, inline_expr, include, block, Statements, no_statements, statement_then, Else, no_else, otherwise}
+use Rattle.upon_types.specs.TreeSpans.{SelectorSpans, StepSpans, StepsSpans, ExpressionSpans, BaseSpans, BasesSpans, ItemsSpans, ArgumentsSpans, GivenSpans, StatementSpans, StatementsSpans, ElseSpans, TreeLiesIn}
+use Rattle.upon_language_spec.specs.SpansLieIn.{StepLiesIn, StepsLieIn, ExpressionLiesIn, BaseLiesIn, BasesLieIn, ItemsLieIn, ArgumentsLieIn, ContextLiesIn, StatementLiesIn, StatementsLieIn, ElseLiesIn}
 
 module _ (s : List ℕ) where
   abbrev P : Span → Type 0
@@ -27,6 +28,10 @@ module _ (s : List ℕ) where
   names-prop : (names : LoopVars) (x y : LoopNamesSpans P names) → x ≡ y
   names-prop (item name) = hlevel props
   names-prop (key_value key value both) = hlevel props
+
+  opening-prop : (opening : Opening) (x y : OpeningSpans P opening) → x ≡ y
+  opening-prop (for_tag names) = names-prop names
+  opening-prop _ = hlevel props
 
   mutual
     expression-prop : (e : Expression) (x y : ExpressionSpans P e) → x ≡ y
@@ -62,9 +67,7 @@ module _ (s : List ℕ) where
     statement-prop (raw span) = hlevel props
     statement-prop (inline_expr e span) = hlevel (props, expression-prop e)
     statement-prop (include word value) = hlevel (props, given-prop value)
-    statement-prop (if_else negated e body other) = hlevel (props, expression-prop e, statements-prop body, else-prop other)
-    statement-prop (for_loop names e body other) = hlevel (props, names-prop names, expression-prop e, statements-prop body, else-prop other)
-    statement-prop (with e word body) = hlevel (props, expression-prop e, statements-prop body)
+    statement-prop (block opening e body other) = hlevel (props, opening-prop opening, expression-prop e, statements-prop body, else-prop other)
 
     statements-prop : (ts : Statements) (x y : StatementsSpans P ts) → x ≡ y
     statements-prop no_statements = hlevel props
@@ -87,10 +90,6 @@ module _ (s : List ℕ) where
   steps_spans : (ms : List Member) → StepsLieIn s ms → StepsSpans P ms
   steps_spans [] h = tt
   steps_spans (m ∷ ms) h = (step_spans m h.0, steps_spans ms h.1)
-
-  names_spans : (names : LoopVars) → NamesLieIn s names → LoopNamesSpans P names
-  names_spans (item name) h = h
-  names_spans (key_value key value both) h = h
 
   mutual
     expression_spans : (e : Expression) → ExpressionLiesIn s e → ExpressionSpans P e
@@ -126,9 +125,7 @@ module _ (s : List ℕ) where
     statement_spans (raw span) h = h
     statement_spans (inline_expr e span) h = (expression_spans e h.0, h.1)
     statement_spans (include word value) h = (h.0, given_spans value h.1)
-    statement_spans (if_else negated e body other) h = (expression_spans e h.0, statements_spans body h.1, else_spans other h.2)
-    statement_spans (for_loop names e body other) h = (names_spans names h.0, expression_spans e h.1, statements_spans body h.2, else_spans other h.3)
-    statement_spans (with e word body) h = (expression_spans e h.0, h.1, statements_spans body h.2)
+    statement_spans (block opening e body other) h = (h.0, expression_spans e h.1, statements_spans body h.2, else_spans other h.3)
 
     statements_spans : (ts : Statements) → StatementsLieIn s ts → StatementsSpans P ts
     statements_spans no_statements h = tt

@@ -1,13 +1,14 @@
 -- What a compiler has after it is told of a piece of a template. A jump past instructions is written once they are
 -- there; before that, another instruction is in its place.
 use Rattle.std.specs.Prelude.{◌≡◌, ℕ, ◌<◌, List, [], ◌∷◌, ◌++◌, length, Bool, true, false, Option, Some, None, slice_set}
+use Rattle.upon_types.specs.BlockKinds.{Block, if_block, for_block, with_block, Opening, if_tag, for_tag, with_tag}
 use Rattle.upon_types.specs.Path.{LoopVars}
 use Rattle.upon_types.specs.declared.types.Span.{Span}
 use Rattle.upon_machine_spec.specs.Code.{jump_unless}
 use Rattle.upon_machine_spec.specs.Instr.{Instr, jump, emit_raw, loop_start, loop_next, loop_next_else, with_start, with_end}
 use Rattle.upon_machine_spec.specs.Instr.{include as enter, include_with as enter_with}
 use Rattle.upon_compiler.specs.Compiler.{CompilerState, state}
-use Rattle.upon_compiler.specs.Events.{Event, raw_event, shown_event, if_event, else_if_event, else_event, endif_event, for_event, endfor_event, with_event, endwith_event, include_event, include_with_event}
+use Rattle.upon_compiler.specs.Events.{Event, raw_event, shown_event, opening_event, else_if_event, else_event, end_event, include_event, include_with_event}
 use Rattle.upon_compiler.specs.declared.compile.OpenBlock.{OpenBlock}
 use Rattle.upon_compiler.specs.declared.compile.OpenBlock.TheVariants.{If, Else, ElseIf, For, ForElse, With}
 
@@ -85,19 +86,27 @@ for_ended code (For next ∷ blocks) =
 for_ended code (ForElse next other ∷ blocks) = state (slice_set code next (loop_next_else other (length code))) blocks
 for_ended code (other ∷ blocks) = state code blocks
 
+-- a block, whose expression has this span and its instructions are there
+abbrev pub block_begun : Opening → Span → List Instr → List OpenBlock → CompilerState
+block_begun (if_tag negated) span code blocks = if_begun negated code blocks
+block_begun (for_tag names) span code blocks = for_begun names span code blocks
+block_begun (with_tag word) span code blocks = state (code ++ with_start word ∷ []) (With ∷ blocks)
+
+-- its end
+abbrev pub block_ended : Block → List Instr → List OpenBlock → CompilerState
+block_ended if_block code blocks = if_ended code blocks
+block_ended for_block code blocks = for_ended code blocks
+block_ended with_block code blocks = state (code ++ with_end ∷ []) (outer blocks)
+
 -- what there is after a piece
 abbrev pub after_event : Event → CompilerState → CompilerState
 after_event (raw_event span) s = state (s.code ++ emit_raw span ∷ []) s.blocks
 after_event (shown_event code) s = state (s.code ++ code) s.blocks
-after_event (if_event negated code) s = if_begun negated (s.code ++ code) s.blocks
+after_event (opening_event tag at code) s = block_begun tag at (s.code ++ code) s.blocks
 after_event (else_if_event negated code) s =
     let ready : CompilerState = else_if_begun s.code s.blocks in if_begun negated (ready.code ++ code) ready.blocks
 after_event else_event s = else_begun s.code s.blocks
-after_event endif_event s = if_ended s.code s.blocks
-after_event (for_event names span code) s = for_begun names span (s.code ++ code) s.blocks
-after_event endfor_event s = for_ended s.code s.blocks
-after_event (with_event word code) s = state ((s.code ++ code) ++ with_start word ∷ []) (With ∷ s.blocks)
-after_event endwith_event s = state (s.code ++ with_end ∷ []) (outer s.blocks)
+after_event (end_event kind) s = block_ended kind s.code s.blocks
 after_event (include_event word) s = state (s.code ++ enter word ∷ []) s.blocks
 after_event (include_with_event word code) s = state ((s.code ++ code) ++ enter_with word ∷ []) s.blocks
 

@@ -2,9 +2,11 @@
 // instructions is written once they are there, and until then the block that it belongs to is on a stack.
 ghost use Rattle.std.specs.Prelude.{◌≡◌, ◌++◌, [], ◌∷◌, OnOk, MatchOption, length, slice_set};
 ghost use Rattle.upon_types.specs.AstPath.{ident_of, string_of};
+ghost use Rattle.upon_types.specs.BlockKinds.{with_block, with_tag};
+ghost use Rattle.upon_types.specs.declared.types.Span.{Span};
 ghost use Rattle.upon_instructions.specs.Program.{instr_of, program_view};
 ghost use Rattle.upon_compiler.specs.After.{after_event, outer};
-ghost use Rattle.upon_compiler.specs.Events.{raw_event, shown_event, with_event, endwith_event, include_event};
+ghost use Rattle.upon_compiler.specs.Events.{raw_event, shown_event, opening_event, end_event, include_event};
 ghost use Rattle.upon_compiler.specs.Events.{include_with_event};
 
 mod branches;
@@ -80,8 +82,9 @@ impl Compiler {
     /// Begins a `with`, whose expression has these instructions, and leaves none of them behind. It fails if memory
     /// is out.
     pub fn begin_with(&mut self, code: &mut Vec<Instr>, name: Ident) -> Result<(), AllocError>
-        ensures state { OnOk result (compiler_state self.new
-            ≡ after_event (with_event (ident_of name) (program_view code.old.items)) (compiler_state self.old)) }
+        ensures state { (at : Span) → OnOk result (compiler_state self.new
+            ≡ after_event (opening_event (with_tag (ident_of name)) at (program_view code.old.items))
+            (compiler_state self.old)) }
         ensures moved { OnOk result (code.new.items ≡ []) }
     {
         self.append(code)?;
@@ -92,7 +95,7 @@ impl Compiler {
 
     /// Ends the innermost block, which is a `with`. It fails if memory is out.
     pub fn end_with(&mut self) -> Result<(), AllocError>
-        ensures { OnOk result (compiler_state self.new ≡ after_event endwith_event (compiler_state self.old)) }
+        ensures { OnOk result (compiler_state self.new ≡ after_event (end_event with_block) (compiler_state self.old)) }
     {
         self.leave();
         self.push(Instr::WithEnd)?;

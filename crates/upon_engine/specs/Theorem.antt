@@ -18,8 +18,7 @@ use Rattle.upon_engine.specs.Texts.{Stored, Texts}
 abbrev pub IsTemplateOf : Option Stored → Option Template → Type 0
 IsTemplateOf None None = Unit {0}
 IsTemplateOf (Some s) (Some t) = (t.source ≡ s.text) × ∥ HasTree s.syntax s.text t.tree ∥₁
-IsTemplateOf None (Some t) = ⊥
-IsTemplateOf (Some s) None = ⊥
+IsTemplateOf _ _ = ⊥
 
 -- under each name the table has the text that is held, and the tree of this text
 abbrev pub IsTable : (List ℕ → Option Stored) → Table → Type 0

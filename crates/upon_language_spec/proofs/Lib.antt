@@ -7,6 +7,7 @@ pub mod OneCut
 pub mod SameDelimiters
 pub mod OneFirstFault
 pub mod SpansLieIn
+pub mod BlockKinds
 pub mod OneTree
 pub mod NoTreeWithFault
 pub mod GivenTokens

@@ -3,6 +3,7 @@ pub mod ExpressionMore
 pub mod InsideClear
 pub mod First
 pub mod Stage
+pub mod Means
 pub mod ExpressionTree
 pub mod TagTree
 pub mod SomethingOccurs

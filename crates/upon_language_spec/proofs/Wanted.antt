@@ -1,5 +1,4 @@
 pub mod EachWord
-pub mod PartOn
 pub mod LeadingBegins
 pub mod ExpressionsLead
 pub mod TagsLead

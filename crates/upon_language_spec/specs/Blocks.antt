@@ -1,17 +1,12 @@
 -- Which blocks are open after some tokens, and which closing tags the innermost of them takes.
-use Rattle.std.specs.Prelude.{ℕ, List, [], ◌∷◌, Bool, true, false, Option, Some, None, if◌then◌else◌, codes}
+use Rattle.std.specs.Prelude.{ℕ, List, [], ◌∷◌, Bool, true, false, not, ◌&&◌, Option, Some, None, option_map, if◌then◌else◌, codes}
 use Rattle.std.specs.Str.{bytes_eq}
 use Rattle.upon_types.specs.declared.types.Span.{Span}
 use Rattle.upon_types.specs.declared.types.token.Token.TheVariants.{BeginBlock, EndBlock, Keyword}
 use Rattle.upon_types.specs.Span.{slice}
+use Rattle.upon_types.specs.BlockKinds.{Block, block_word, end_word, may_have_else, may_have_else_if, kind_with}
 use Rattle.upon_language_spec.specs.Cut.{Lexeme}
 use Rattle.upon_language_spec.specs.Tokens.{from_to}
-
--- a kind of block
-pub data Block : Type 0 where
-  if_block : Block
-  for_block : Block
-  with_block : Block
 
 -- an open block: its kind, whether its `else` was read, and where its tag is
 pub record OpenBlock : Type 0 where
@@ -23,9 +18,7 @@ pub record OpenBlock : Type 0 where
 pub data Closer : Type 0 where
   else_if : Closer
   plain_else : Closer
-  end_if : Closer
-  end_for : Closer
-  end_with : Closer
+  end_of : Block → Closer
 
 -- the closing tag whose keywords these tokens begin with
 abbrev pub else_by : List ℕ → List Lexeme → Closer
@@ -34,10 +27,8 @@ else_by s (l ∷ ls) = elim l.token [ Keyword ↦ else_if | _ ↦ plain_else ]
 
 -- the closing tag of a keyword
 abbrev pub closer_by : List ℕ → List ℕ → List Lexeme → Option Closer
-closer_by s word ls = if bytes_eq word (codes "else") then Some (else_by s ls) else
-    (if bytes_eq word (codes "endif") then Some end_if
-    else (if bytes_eq word (codes "endfor") then Some end_for else
-    (if bytes_eq word (codes "endwith") then Some end_with else None)))
+closer_by s word ls =
+    if bytes_eq word (codes "else") then Some (else_by s ls) else option_map end_of (kind_with end_word word)
 
 -- the closing tag that a tag's tokens are
 abbrev pub closer_of : List ℕ → List Lexeme → Option Closer
@@ -45,25 +36,11 @@ closer_of s [] = None
 closer_of s (l ∷ []) = None
 closer_of s (l ∷ k ∷ ls) = elim l.token [ BeginBlock ↦ closer_by s (slice s k.span) ls | _ ↦ None ]
 
--- whether an open `if` takes the closing tag
-abbrev pub if_takes : Bool → Closer → Bool
-if_takes has_else end_if = true
-if_takes false else_if = true
-if_takes false plain_else = true
-if_takes has_else closer = false
-
--- whether an open `for` takes it
-abbrev pub for_takes : Bool → Closer → Bool
-for_takes has_else end_for = true
-for_takes false plain_else = true
-for_takes has_else closer = false
-
 -- whether an open block of a kind takes the closing tag
 abbrev pub block_takes : Block → Bool → Closer → Bool
-block_takes if_block has_else closer = if_takes has_else closer
-block_takes for_block has_else closer = for_takes has_else closer
-block_takes with_block has_else end_with = true
-block_takes kind has_else closer = false
+block_takes kind has_else else_if = not has_else && may_have_else_if kind
+block_takes kind has_else plain_else = not has_else && may_have_else kind
+block_takes kind has_else (end_of ended) = bytes_eq (end_word kind) (end_word ended)
 
 -- whether the innermost open block takes it
 abbrev pub takes : List OpenBlock → Closer → Bool
@@ -74,9 +51,7 @@ takes (o ∷ stack) closer = block_takes o.kind o.has_else closer
 abbrev pub blocks_after_closer : Closer → OpenBlock → List OpenBlock → List OpenBlock
 blocks_after_closer else_if o stack = o ∷ stack
 blocks_after_closer plain_else o stack = record o { has_else = true } ∷ stack
-blocks_after_closer end_if o stack = stack
-blocks_after_closer end_for o stack = stack
-blocks_after_closer end_with o stack = stack
+blocks_after_closer (end_of kind) o stack = stack
 
 -- the open blocks after a closing tag
 abbrev pub after_closer : Closer → List OpenBlock → List OpenBlock
@@ -98,12 +73,15 @@ abbrev pub by_closer : Option Closer → List OpenBlock → List OpenBlock
 by_closer None stack = stack
 by_closer (Some closer) stack = after_closer closer stack
 
+-- the open blocks after a tag whose keyword begins a block of this kind, or else these
+abbrev pub open_or : Option Block → Span → List Lexeme → List OpenBlock → List OpenBlock → List OpenBlock
+open_or (Some kind) begin ls stack others = open_block kind begin ls stack
+open_or None begin ls stack others = others
+
 -- the open blocks after a tag that begins with this keyword
 abbrev pub by_word : List ℕ → Span → List ℕ → List Lexeme → List OpenBlock → List OpenBlock
-by_word s begin word ls stack = if bytes_eq word (codes "if") then open_block if_block begin ls stack else
-    (if bytes_eq word (codes "for") then open_block for_block begin ls stack
-    else (if bytes_eq word (codes "with") then open_block with_block begin ls stack else by_closer
-    (closer_by s word ls) stack))
+by_word s begin word ls stack =
+    open_or (kind_with block_word word) begin ls stack (by_closer (closer_by s word ls) stack)
 
 -- the open blocks after the tag that begins here
 abbrev pub at_begin : List ℕ → Span → List Lexeme → List OpenBlock → List OpenBlock
@@ -125,16 +103,8 @@ outermost [] = None
 outermost (o ∷ []) = Some o
 outermost (o ∷ p ∷ stack) = outermost (p ∷ stack)
 
--- the keyword of a kind of block
-abbrev pub block_word : Block → List ℕ
-block_word if_block = codes "if"
-block_word for_block = codes "for"
-block_word with_block = codes "with"
-
 -- the keywords of a closing tag
 abbrev pub closer_words : Closer → List ℕ
 closer_words else_if = codes "else if"
 closer_words plain_else = codes "else"
-closer_words end_if = codes "endif"
-closer_words end_for = codes "endfor"
-closer_words end_with = codes "endwith"
+closer_words (end_of kind) = end_word kind

@@ -4,7 +4,8 @@ use Rattle.upon_types.specs.declared.types.Span.{Span}
 use Rattle.upon_types.specs.declared.types.token.Token.TheVariants.{Raw, BeginExpr, EndExpr, BeginBlock, EndBlock, Comma}
 use Rattle.upon_types.specs.Path.{Ident, LoopVars, item, key_value}
 use Rattle.upon_types.specs.Expression.{Expression}
-use Rattle.upon_types.specs.Tree.{Statement, raw, inline_expr, include, if_else, for_loop, with, Statements, no_statements, statement_then, Else, no_else, otherwise}
+use Rattle.upon_types.specs.BlockKinds.{Block, if_block, Opening, if_tag, for_tag, with_tag, opened_kind, block_word, end_word, may_have_else, may_have_else_if}
+use Rattle.upon_types.specs.Tree.{Statement, raw, inline_expr, include, block, Statements, no_statements, statement_then, Else, no_else, otherwise}
 use Rattle.upon_language_spec.specs.Search.{DelimiterText}
 use Rattle.upon_language_spec.specs.Cut.{Lexeme, outside, Cut}
 use Rattle.upon_language_spec.specs.Shown.{shown_lexemes}
@@ -25,11 +26,6 @@ IsCondition s true e before rest = (mid : List Lexeme) × GoesKeyword s (codes "
     × IsExpression s e mid rest
 IsCondition s false e before rest = IsExpression s e before rest
 
--- tag("if" Cond)
-abbrev pub IsIfTag : List ℕ → Bool → Expression → List Lexeme → List Lexeme → Type 0
-IsIfTag s negated e before rest = (mid after : List Lexeme) × BeginsBlock s (codes "if") before mid
-    × IsCondition s negated e mid after × GoesBy EndBlock after rest
-
 -- tag("else" "if" Cond)
 abbrev pub IsElseIfTag : List ℕ → Bool → Expression → List Lexeme → List Lexeme → Type 0
 IsElseIfTag s negated e before rest = (start mid after : List Lexeme) × BeginsBlock s (codes "else") before start
@@ -41,17 +37,18 @@ AreLoopVars s (item name) before rest = GoesName s name before rest
 AreLoopVars s (key_value key value span) before rest = (mid after : List Lexeme) × GoesName s key before mid
     × GoesBy Comma mid after × GoesName s value after rest × (span ≡ from_to key.span value.span)
 
--- tag("for" Ident ["," Ident] "in" Expr)
-abbrev pub IsForTag : List ℕ → LoopVars → Expression → List Lexeme → List Lexeme → Type 0
-IsForTag s names e before rest = (start mid after last : List Lexeme) × BeginsBlock s (codes "for") before start
-    × AreLoopVars s names start mid × GoesKeyword s (codes "in") mid after × IsExpression s e after last
-    × GoesBy EndBlock last rest
+-- what follows the keyword of a block: Cond, or Ident ["," Ident] "in" Expr, or Expr "as" Ident
+abbrev pub IsHead : List ℕ → Opening → Expression → List Lexeme → List Lexeme → Type 0
+IsHead s (if_tag negated) e before rest = IsCondition s negated e before rest
+IsHead s (for_tag names) e before rest = (mid after : List Lexeme) × AreLoopVars s names before mid
+    × GoesKeyword s (codes "in") mid after × IsExpression s e after rest
+IsHead s (with_tag name) e before rest = (mid after : List Lexeme) × IsExpression s e before mid
+    × GoesKeyword s (codes "as") mid after × GoesName s name after rest
 
--- tag("with" Expr "as" Ident)
-abbrev pub IsWithTag : List ℕ → Expression → Ident → List Lexeme → List Lexeme → Type 0
-IsWithTag s e name before rest = (start mid after last : List Lexeme) × BeginsBlock s (codes "with") before start
-    × IsExpression s e start mid × GoesKeyword s (codes "as") mid after × GoesName s name after last
-    × GoesBy EndBlock last rest
+-- the first tag of a block
+abbrev pub IsOpeningTag : List ℕ → Opening → Expression → List Lexeme → List Lexeme → Type 0
+IsOpeningTag s tag e before rest = (mid after : List Lexeme)
+    × BeginsBlock s (block_word (opened_kind tag)) before mid × IsHead s tag e mid after × GoesBy EndBlock after rest
 
 -- ["with" Expr]
 abbrev pub AreGlobals : List ℕ → Option Expression → List Lexeme → List Lexeme → Type 0
@@ -60,7 +57,7 @@ AreGlobals s (Some e) before rest = (mid : List Lexeme) × GoesKeyword s (codes 
     × IsExpression s e mid rest
 
 abbrev mutual
-  -- Stmt = Raw | Inline | If | For | With | Include
+  -- Stmt = Raw | Inline | Include | If | For | With
   pub IsStatement : List ℕ → Statement → List Lexeme → List Lexeme → Type 0
   IsStatement s (raw span) before rest = Goes Raw span before rest
   IsStatement s (inline_expr e span) before rest = (begin end : Span) × (mid after : List Lexeme)
@@ -69,12 +66,8 @@ abbrev mutual
   IsStatement s (include name context) before rest = (start mid after : List Lexeme) × BeginsBlock s
       (codes "include") before start × GoesText s name start mid × AreGlobals s context mid after
       × GoesBy EndBlock after rest
-  IsStatement s (if_else negated e body other) before rest = (mid after : List Lexeme)
-      × IsIfTag s negated e before mid × AreStatements s body mid after × IsElse s other after rest
-  IsStatement s (for_loop names e body other) before rest = (mid after : List Lexeme) × IsForTag s names e before mid
-      × AreStatements s body mid after × IsForElse s other after rest
-  IsStatement s (with e name body) before rest = (mid after : List Lexeme) × IsWithTag s e name before mid
-      × AreStatements s body mid after × IsWordTag s (codes "endwith") after rest
+  IsStatement s (block tag e body other) before rest = (mid end : List Lexeme)
+      × IsOpeningTag s tag e before mid × AreStatements s body mid end × IsBlockEnd s (opened_kind tag) other end rest
 
   -- Stmt*
   pub AreStatements : List ℕ → Statements → List Lexeme → List Lexeme → Type 0
@@ -82,18 +75,13 @@ abbrev mutual
   AreStatements s (statement_then t ts) before rest = (mid : List Lexeme) × IsStatement s t before mid
       × AreStatements s ts mid rest
 
-  -- [Else] tag("endif"): an `else if` is an `if` inside the other branch, and one `endif` ends them all
-  pub IsElse : List ℕ → Else → List Lexeme → List Lexeme → Type 0
-  IsElse s no_else before rest = IsWordTag s (codes "endif") before rest
-  IsElse s (otherwise body) before rest =
-      ((mid after : List Lexeme) × IsWordTag s (codes "else") before mid × AreStatements s body mid after
-      × IsWordTag s (codes "endif") after rest) ⊎ IsElseIf s body before rest
-
-  -- [tag("else") Stmt*] tag("endfor")
-  pub IsForElse : List ℕ → Else → List Lexeme → List Lexeme → Type 0
-  IsForElse s no_else before rest = IsWordTag s (codes "endfor") before rest
-  IsForElse s (otherwise body) before rest = (mid after : List Lexeme) × IsWordTag s (codes "else") before mid
-      × AreStatements s body mid after × IsWordTag s (codes "endfor") after rest
+  -- [Else] and the last tag: an `else if` is an `if` inside the other branch, and one `endif` ends them all
+  pub IsBlockEnd : List ℕ → Block → Else → List Lexeme → List Lexeme → Type 0
+  IsBlockEnd s kind no_else before rest = IsWordTag s (end_word kind) before rest
+  IsBlockEnd s kind (otherwise body) before rest =
+      ((mid after : List Lexeme) × (may_have_else kind ≡ true) × IsWordTag s (codes "else") before mid
+      × AreStatements s body mid after × IsWordTag s (end_word kind) after rest)
+      ⊎ ((may_have_else_if kind ≡ true) × IsElseIf s body before rest)
 
   -- an `else if`: one `if` is all that the other branch holds
   pub IsElseIf : List ℕ → Statements → List Lexeme → List Lexeme → Type 0
@@ -103,8 +91,8 @@ abbrev mutual
 
   -- the `if` of an `else if`, whose tag has both keywords
   pub IsIfAfterElse : List ℕ → Statement → List Lexeme → List Lexeme → Type 0
-  IsIfAfterElse s (if_else negated e body other) before rest = (mid after : List Lexeme)
-      × IsElseIfTag s negated e before mid × AreStatements s body mid after × IsElse s other after rest
+  IsIfAfterElse s (block (if_tag negated) e body other) before rest = (mid after : List Lexeme)
+      × IsElseIfTag s negated e before mid × AreStatements s body mid after × IsBlockEnd s if_block other after rest
   IsIfAfterElse s _ before rest = ⊥
 
 -- the text has this tree: it is cut whole, and its tokens read as the tree's statements

@@ -14,7 +14,8 @@ use Rattle.upon_language_spec.specs.Tokens.{significant}
 use Rattle.upon_language_spec.specs.Tags.{BeginsTag, IsTag}
 use Rattle.upon_language_spec.specs.Wanted.{expected_found, in_quotes, plain_symbol}
 use Rattle.upon_language_spec.specs.Reading.{ReadsTo, open_tag, first_span, before_tag, last_of}
-use Rattle.upon_language_spec.specs.Blocks.{OpenBlock, Closer, closer_of, takes, open_blocks, outermost, block_word, closer_words}
+use Rattle.upon_types.specs.BlockKinds.{block_word}
+use Rattle.upon_language_spec.specs.Blocks.{OpenBlock, Closer, closer_of, takes, open_blocks, outermost, closer_words}
 use Rattle.upon_language_spec.specs.Faults.{span_of, tag_tokens, tag_row, lexeme_at}
 
 -- whether a token is the begin of a comment

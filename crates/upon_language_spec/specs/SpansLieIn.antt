@@ -1,9 +1,10 @@
 -- That every span in a tree lies in a text, on character boundaries.
 use Rattle.std.specs.Prelude.{ℕ, List, [], ◌∷◌, Option, Some, None}
 use Rattle.upon_types.specs.Span.{LiesIn}
-use Rattle.upon_types.specs.Path.{Member, LoopVars, item, key_value, access_span, path_span}
+use Rattle.upon_types.specs.Path.{Member, access_span, path_span}
 use Rattle.upon_types.specs.Expression.{Expression, base, filtered, Base, var, literal, list, mapping, paren, call, Bases, no_bases, base_then, Items, no_items, item_then, Arguments, no_arguments, arguments}
-use Rattle.upon_types.specs.Tree.{Statement, raw, inline_expr, include, if_else, for_loop, with, Statements, no_statements, statement_then, Else, no_else, otherwise}
+use Rattle.upon_types.specs.Tree.{Statement, raw, inline_expr, include, block, Statements, no_statements, statement_then, Else, no_else, otherwise}
+use Rattle.upon_types.specs.BlockKinds.{OpeningSpans}
 
 -- the spans of a member of a path
 abbrev pub StepLiesIn : List ℕ → Member → Type 0
@@ -45,11 +46,6 @@ abbrev mutual
   ArgumentsLieIn s no_arguments = Unit {0}
   ArgumentsLieIn s (arguments bases span) = BasesLieIn s bases × LiesIn s span
 
--- the spans of a loop's names
-abbrev pub NamesLieIn : List ℕ → LoopVars → Type 0
-NamesLieIn s (item name) = LiesIn s name.span
-NamesLieIn s (key_value key value span) = LiesIn s key.span × LiesIn s value.span × LiesIn s span
-
 -- the spans of the value that an include is given
 abbrev pub ContextLiesIn : List ℕ → Option Expression → Type 0
 ContextLiesIn s None = Unit {0}
@@ -61,10 +57,8 @@ abbrev mutual
   StatementLiesIn s (raw span) = LiesIn s span
   StatementLiesIn s (inline_expr e span) = ExpressionLiesIn s e × LiesIn s span
   StatementLiesIn s (include name context) = LiesIn s name.span × ContextLiesIn s context
-  StatementLiesIn s (if_else negated e body other) = ExpressionLiesIn s e × StatementsLieIn s body × ElseLiesIn s other
-  StatementLiesIn s (for_loop names e body other) =
-      NamesLieIn s names × ExpressionLiesIn s e × StatementsLieIn s body × ElseLiesIn s other
-  StatementLiesIn s (with e name body) = ExpressionLiesIn s e × LiesIn s name.span × StatementsLieIn s body
+  StatementLiesIn s (block opening e body other) =
+      OpeningSpans (LiesIn s) opening × ExpressionLiesIn s e × StatementsLieIn s body × ElseLiesIn s other
 
   -- those of each statement
   pub StatementsLieIn : List ℕ → Statements → Type 0

@@ -4,26 +4,23 @@ use Rattle.upon_types.specs.declared.types.Span.{Span}
 use Rattle.upon_types.specs.declared.types.token.Token.{Token}
 use Rattle.upon_types.specs.declared.types.token.Token.TheVariants.{Keyword}
 use Rattle.upon_types.specs.Span.{slice}
-use Rattle.upon_types.specs.Path.{Ident, LoopVars}
+use Rattle.upon_types.specs.Path.{Ident}
 use Rattle.upon_types.specs.Expression.{Expression}
+use Rattle.upon_types.specs.BlockKinds.{Block, Opening, end_word}
 use Rattle.upon_types.specs.Tree.{inline_expr, include}
 use Rattle.std.specs.Prelude.{Option}
 use Rattle.upon_language_spec.specs.Cut.{Lexeme}
-use Rattle.upon_language_spec.specs.Grammar.{IsStatement, IsIfTag, IsElseIfTag, IsForTag, IsWithTag, IsWordTag}
+use Rattle.upon_language_spec.specs.Grammar.{IsStatement, IsOpeningTag, IsElseIfTag, IsWordTag}
 
 -- from the first of these tokens up to the rest is a whole tag
 pub data IsTag (s : List ℕ) (ls rest : List Lexeme) : Type 0 where
   an_inline : (e : Expression) (span : Span) → IsStatement s (inline_expr e span) ls rest → IsTag s ls rest
   an_include : (name : Ident) (context : Option Expression) → IsStatement s (include name context) ls rest
       → IsTag s ls rest
-  an_if : (negated : Bool) (e : Expression) → IsIfTag s negated e ls rest → IsTag s ls rest
+  an_opening : (opening : Opening) (e : Expression) → IsOpeningTag s opening e ls rest → IsTag s ls rest
   an_else_if : (negated : Bool) (e : Expression) → IsElseIfTag s negated e ls rest → IsTag s ls rest
   an_else : IsWordTag s (codes "else") ls rest → IsTag s ls rest
-  an_endif : IsWordTag s (codes "endif") ls rest → IsTag s ls rest
-  a_for : (names : LoopVars) (e : Expression) → IsForTag s names e ls rest → IsTag s ls rest
-  an_endfor : IsWordTag s (codes "endfor") ls rest → IsTag s ls rest
-  a_with : (e : Expression) (name : Ident) → IsWithTag s e name ls rest → IsTag s ls rest
-  an_endwith : IsWordTag s (codes "endwith") ls rest → IsTag s ls rest
+  an_end : (kind : Block) → IsWordTag s (end_word kind) ls rest → IsTag s ls rest
 
 -- a token without its span and its text; of a keyword the word stays
 pub record Symbol : Type 0 where

@@ -1,14 +1,11 @@
 -- Each jump of a tree's program goes to one of its instructions, or to its end.
-use Rattle.std.proofs.Common.{ℕ, ◌+◌, ◌≤◌, List, [], ◌∷◌, ◌++◌, length, Some, None, Bool, true, false, arith, length-append}
+use Rattle.std.proofs.Common.{ℕ, ◌+◌, ◌≤◌, List, [], ◌∷◌, ◌++◌, length, Some, None, arith, length-append}
 use Rattle.upon_types.specs.Expression.{Expression, base, filtered, Base, var, literal, list, mapping, paren, call, Bases, no_bases, base_then, Items, no_items, item_then, Arguments, no_arguments, arguments, expression_span}
-use Rattle.upon_types.specs.Tree.{Statement, raw, inline_expr, include, if_else, for_loop, with, Statements, no_statements, statement_then, Else, no_else, otherwise}
-use Rattle.upon_machine_spec.specs.Code.{expression_code, base_code, bases_code, arguments_code, list_code, map_code, emission_code, base_emission_code, jump_unless, else_start, else_part, if_code, turn, for_code, with_code, statement_code, statements_code, else_code, program_of}
-use Rattle.upon_machine_spec.specs.Instr.{Instr, jump, emit, with_end}
-use Rattle.upon_machine_spec.specs.Jumps.{JumpsTo, JumpWithin}
-
-joined : (end : ℕ) (a b : List Instr) → JumpWithin end a → JumpWithin end b → JumpWithin end (a ++ b)
-joined end [] b h k = k
-joined end (i ∷ a) b h k = (h.0, joined end a b h.1 k)
+use Rattle.upon_types.specs.Tree.{Statement, raw, inline_expr, include, block, Statements, no_statements, statement_then, Else, no_else, otherwise}
+use Rattle.upon_machine_spec.specs.Code.{expression_code, base_code, bases_code, arguments_code, list_code, map_code, emission_code, base_emission_code, body_start, block_code, statement_code, statements_code, else_code, program_of}
+use Rattle.upon_machine_spec.specs.Instr.{Instr, emit}
+use Rattle.upon_machine_spec.specs.Jumps.{JumpWithin}
+use Rattle.upon_machine_spec.proofs.BlockCode.{jumps_append as joined, past_body, block_jumps}
 
 -- expressions have no jumps
 module _ (end : ℕ) where
@@ -57,19 +54,6 @@ module _ (end : ℕ) where
     base_emission_jumps (list bases span) = plain_jumps (list bases span)
     base_emission_jumps (mapping items span) = plain_jumps (mapping items span)
 
-  jumps_unless : (negated : Bool) (n : ℕ) → n ≤ end → JumpsTo end (jump_unless negated n)
-  jumps_unless true n h = h
-  jumps_unless false n h = h
-
-  turn_jumps : (branch : Else) (other past : ℕ) → other ≤ end → past ≤ end → JumpsTo end (turn branch other past)
-  turn_jumps no_else other past h k = k
-  turn_jumps (otherwise body) other past h k = (h, k)
-
--- the other case begins where the body ends, or after the jump past it
-starts_by : (branch : Else) (at : ℕ) (other : List Instr) → else_start branch at ≤ at + length (else_part branch at other)
-starts_by no_else at other = omega arith
-starts_by (otherwise body) at other = omega arith
-
 -- statements from an offset on jump no further than to their end, nor than anything after it
 mutual
   statement_jumps : (end at : ℕ) (t : Statement) → at + length (statement_code at t) ≤ end → JumpWithin end (statement_code at t)
@@ -77,38 +61,12 @@ mutual
   statement_jumps end at (inline_expr e span) le = emission_jumps end e
   statement_jumps end at (include word None) le = (tt, tt)
   statement_jumps end at (include word (Some e)) le = joined end (expression_code e) _ (expression_jumps end e) (tt, tt)
-  statement_jumps end at (if_else negated e body branch) le =
+  statement_jumps end at (block opening e body branch) le =
       let start : ℕ = at + length (expression_code e) in
-      let inner : List Instr = statements_code (start + 1) body in
-      let other : List Instr = else_code (else_start branch (start + 1 + length inner)) branch in
-      let part : List Instr = else_part branch (start + 1 + length inner) other in
-      let in_all = length-append (expression_code e) (if_code negated branch start inner other) in
-      let in_body = length-append inner part in
-      let begins = starts_by branch (start + 1 + length inner) other in
-      joined end (expression_code e) _ (expression_jumps end e) (
-        jumps_unless end negated (else_start branch (start + 1 + length inner)) (omega (arith, le, in_all, in_body, begins)),
-        joined end inner _ (statements_jump end (start + 1) body (omega (arith, le, in_all, in_body))) (else_jumps end branch (start + 1 + length inner) (omega (arith, le, in_all, in_body))),
-      )
-  statement_jumps end at (for_loop names e body branch) le =
-      let start : ℕ = at + length (expression_code e) in
-      let inner : List Instr = statements_code (start + 1 + 1) body in
-      let after : ℕ = start + 1 + 1 + length inner + 1 in
-      let other : List Instr = else_code after branch in
-      let in_all = length-append (expression_code e) (for_code branch names (expression_span e) start inner other) in
-      let in_body = length-append inner (jump (start + 1) ∷ other) in
-      joined end (expression_code e) _ (expression_jumps end e) (
-        tt,
-        (
-          turn_jumps end branch after (after + length other) (omega (arith, le, in_all, in_body)) (omega (arith, le, in_all, in_body)),
-          joined end inner _ (statements_jump end (start + 1 + 1) body (omega (arith, le, in_all, in_body))) (omega (arith, le, in_all, in_body), branch_jumps end branch after (omega (arith, le, in_all, in_body))),
-        ),
-      )
-  statement_jumps end at (with e word body) le =
-      let start : ℕ = at + length (expression_code e) in
-      let inner : List Instr = statements_code (start + 1) body in
-      let in_all = length-append (expression_code e) (with_code word inner) in
-      let in_body = length-append inner (with_end ∷ []) in
-      joined end (expression_code e) _ (expression_jumps end e) (tt, joined end inner _ (statements_jump end (start + 1) body (omega (arith, le, in_all, in_body))) (tt, tt))
+      let inner : List Instr = statements_code (body_start opening start) body in
+      let to : ℕ = past_body opening branch start inner in
+      let code : List Instr = block_code opening branch (expression_span e) start inner (else_code to branch) in
+      joined end (expression_code e) code (expression_jumps end e) (block_jumps end opening branch (expression_span e) start inner (else_code to branch) (omega (arith, le, length-append (expression_code e) code)) (statements_jump end (body_start opening start) body) (branch_jumps end branch to))
 
   statements_jump : (end at : ℕ) (ts : Statements) → at + length (statements_code at ts) ≤ end → JumpWithin end (statements_code at ts)
   statements_jump end at no_statements le = tt
@@ -118,15 +76,9 @@ mutual
       let in_all = length-append first rest in
       joined end first rest (statement_jumps end at t (omega (arith, le, in_all))) (statements_jump end (at + length first) ts (omega (arith, le, in_all)))
 
-  -- the other branch of a loop
   branch_jumps : (end : ℕ) (branch : Else) (at : ℕ) → at + length (else_code at branch) ≤ end → JumpWithin end (else_code at branch)
   branch_jumps end no_else at le = tt
   branch_jumps end (otherwise body) at le = statements_jump end at body le
-
-  -- the other case, where the body ends at this span
-  else_jumps : (end : ℕ) (branch : Else) (at : ℕ) → at + length (else_part branch at (else_code (else_start branch at) branch)) ≤ end → JumpWithin end (else_part branch at (else_code (else_start branch at) branch))
-  else_jumps end no_else at le = tt
-  else_jumps end (otherwise body) at le = (omega (arith, le), statements_jump end (at + 1) body (omega (arith, le)))
 
 pub jumps_within : (tree : Statements) → JumpWithin (length (program_of tree)) (program_of tree)
 jumps_within tree = statements_jump (length (program_of tree)) 0 tree (omega arith)

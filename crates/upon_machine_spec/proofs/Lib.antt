@@ -5,5 +5,6 @@ pub mod Midway
 pub mod JumpsWithin
 pub mod Walks
 pub mod NamesOfExpressions
+pub mod BlockCode
 pub mod NamesOfTree
 mod Examples

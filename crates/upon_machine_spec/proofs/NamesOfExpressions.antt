@@ -5,7 +5,8 @@ use Rattle.std.proofs.lemmas.List.Folds.{list_any-append}
 use Rattle.std.proofs.lemmas.Slice.Eq.{bytes_eq-Decides}
 use Rattle.upon_types.specs.Expression.{Expression, base, filtered, Base, var, literal, list, mapping, paren, call, Bases, no_bases, base_then, Items, no_items, item_then, Arguments, no_arguments, arguments}
 use Rattle.upon_types.specs.Path.{Access, by_index, by_key, LoopVars, item, key_value}
-use Rattle.upon_meaning_spec.specs.Needs.{Start, a_name, IsStart, LoopHides, ExpressionBegins, BaseBegins, BasesBegin, ItemsBegin, ArgumentsBegin}
+use Rattle.upon_types.specs.BlockKinds.{for_tag, block_names}
+use Rattle.upon_meaning_spec.specs.Needs.{Start, a_name, IsStart, OneHides, ExpressionBegins, BaseBegins, BasesBegin, ItemsBegin, ArgumentsBegin}
 use Rattle.upon_machine_spec.specs.Code.{expression_code, base_code, bases_code, arguments_code, list_code, map_code, emission_code, base_emission_code}
 use Rattle.upon_machine_spec.specs.Instr.{Instr, jump, emit, emit_with, loop_start, with_start, with_end, expr_start_var, expr_start_literal, expr_start_list, expr_start_map, expr_list_push, expr_map_insert, apply}
 use Rattle.upon_machine_spec.specs.Instr.{include as enter, include_with as enter_with}
@@ -99,11 +100,19 @@ that_name word name = ((bytes_eq-Decides word name).0, (bytes_eq-Decides word na
 pub none : (false ≡ true) ↔ ⊥
 none = (λ e. absurd (cc), λ h. absurd h)
 
-pub loop_names : (name : List ℕ) (names : LoopVars) → (loop_binds name names ≡ true) ↔ LoopHides names (a_name name)
-loop_names name (item word) = either (bytes_eq (codes "loop") name) (bytes_eq word.text name) (that_name (codes "loop") name) (that_name word.text name)
+-- the last of some names is that name
+pub last_name : (word name : List ℕ) → (bytes_eq word name ≡ true) ↔ OneHides (word ∷ []) (a_name name)
+last_name word name = (λ e. inl ((that_name word name).0 e), λ h. that_one h)
+  where
+    that_one : OneHides (word ∷ []) (a_name name) → bytes_eq word name ≡ true
+    that_one (inl same) = (that_name word name).1 same
+    that_one (inr h) = absurd h
+
+pub loop_names : (name : List ℕ) (names : LoopVars) → (loop_binds name names ≡ true) ↔ OneHides (block_names (for_tag names)) (a_name name)
+loop_names name (item word) = either (bytes_eq (codes "loop") name) (bytes_eq word.text name) (that_name (codes "loop") name) (last_name word.text name)
 loop_names name (key_value key value both) =
     either (bytes_eq (codes "loop") name) (bytes_eq key.text name || bytes_eq value.text name) (that_name (codes "loop") name)
-    (either (bytes_eq key.text name) (bytes_eq value.text name) (that_name key.text name) (that_name value.text name))
+    (either (bytes_eq key.text name) (bytes_eq value.text name) (that_name key.text name) (last_name value.text name))
 
 -- what a test finds in one part or the other
 module _ (f : Instr → Bool) where

@@ -84,6 +84,10 @@ module _ (name : List ℕ) where
     pub bound : (n : ℕ) → unbound name at (suc n) c ≡ []
     pub finds : (list_any f (unbound name at 0 c) ≡ true) ↔ P
 
+  -- a walk that finds the same in other words
+  pub reworded : (f : Instr → Bool) (at : ℕ) (c : List Instr) (P Q : Type 0) → (P → Q) → (Q → P) → Walks f at c P → Walks f at c Q
+  reworded f at c P Q there back w = record { ends = w.ends; bound = w.bound; finds = (λ e. there (w.finds.0 e), λ q. w.finds.1 (back q)) }
+
   module _ (f : Instr → Bool) where
     pub walk_nothing : (at : ℕ) → Walks f at [] ⊥
     walk_nothing at = record { ends = λ n. refl; bound = λ n. refl; finds = (λ e. absurd (cc), λ h. absurd h) }

@@ -2,14 +2,14 @@
 use Rattle.std.proofs.Common.{◌≡◌, ℕ, ◌+◌, List, [], ◌∷◌, ◌++◌, length, Bool, true, false, refl, sym, ap, ◌∙◌, append_assoc, append-nil, subst}
 use Rattle.upon_types.specs.Path.{Ident}
 use Rattle.upon_types.specs.Val.{Val}
-use Rattle.upon_lookup.specs.Environment.{Binding, Environment, iteration}
+use Rattle.upon_lookup.specs.Environment.{Binding, Environment, bind_all}
 use Rattle.upon_lookup.specs.Finding.{Finding, found, at_fault}
 use Rattle.upon_lookup.specs.Source.{SourceAnswer, says, refuses}
 use Rattle.upon_meaning_spec.specs.Alone.{on_template}
 use Rattle.upon_meaning_spec.specs.Engine.{Template}
 use Rattle.upon_meaning_spec.specs.Evaluation.{Operand}
 use Rattle.upon_meaning_spec.specs.GreaterDepth.{GoesOn}
-use Rattle.upon_meaning_spec.specs.Meaning.{RunningTemplate, Body, choose, each, each_of, each_or, on_value}
+use Rattle.upon_meaning_spec.specs.Meaning.{RunningTemplate, Body, each, each_or, on_value}
 use Rattle.upon_meaning_spec.specs.Outcome.{End, good, fails, too_deep, Outcome, States, with_text_before, go_on, then_do, too_deep_outcome}
 
 abbrev pub IsBeginning : List ℕ → List ℕ → Type 0
@@ -65,22 +65,14 @@ module _ {Q : Type 0} where
   pub deeper_then : (a b : Outcome Q) (f g : Q → Outcome Q) → Deeper a b → ((q : Q) → Deeper (f q) (g q)) → Deeper (then_do a f) (then_do b g)
   deeper_then a b f g h k = by_then a.end a.text a.next b f g h k
 
-  deeper_each : (f g : Body Q) → ((env : Environment) (q : Q) → Deeper (f env q) (g env q)) → (count index : ℕ) (items : List (List Binding)) (env : Environment) (q : Q) → Deeper (each f count index items env q) (each g count index items env q)
-  deeper_each f g h count index [] env q = refl
-  deeper_each f g h count index (bs ∷ items) env q = deeper_then (f (iteration index count bs env) q) (g (iteration index count bs env) q) _ _ (h (iteration index count bs env) q) (deeper_each f g h count (index + 1) items env)
-
-  pub deeper_each_of : (f g : Body Q) → ((env : Environment) (q : Q) → Deeper (f env q) (g env q)) → (from : RunningTemplate) (x : Finding (List (List Binding))) (env : Environment) (q : Q) → Deeper (each_of f from x env q) (each_of g from x env q)
-  deeper_each_of f g h from (found items) env q = deeper_each f g h (length items) 0 items env q
-  deeper_each_of f g h from (at_fault x) env q = refl
+  deeper_each : (f g : Body Q) → ((env : Environment) (q : Q) → Deeper (f env q) (g env q)) → (turns : List (List Binding)) (env : Environment) (q : Q) → Deeper (each f turns env q) (each g turns env q)
+  deeper_each f g h [] env q = refl
+  deeper_each f g h (bs ∷ turns) env q = deeper_then (f (bind_all bs env) q) (g (bind_all bs env) q) _ _ (h (bind_all bs env) q) (deeper_each f g h turns env)
 
   pub deeper_each_or : (f g f' g' : Body Q) → ((env : Environment) (q : Q) → Deeper (f env q) (g env q)) → ((env : Environment) (q : Q) → Deeper (f' env q) (g' env q)) → (from : RunningTemplate) (x : Finding (List (List Binding))) (env : Environment) (q : Q) → Deeper (each_or f f' from x env q) (each_or g g' from x env q)
   deeper_each_or f g f' g' h k from (found []) env q = k env q
-  deeper_each_or f g f' g' h k from (found (bs ∷ items)) env q = deeper_each_of f g h from (found (bs ∷ items)) env q
+  deeper_each_or f g f' g' h k from (found (bs ∷ turns)) env q = deeper_each f g h (bs ∷ turns) env q
   deeper_each_or f g f' g' h k from (at_fault x) env q = refl
-
-  pub deeper_choose : (test : Bool) (f f' g g' : Q → Outcome Q) → ((q : Q) → Deeper (f q) (g q)) → ((q : Q) → Deeper (f' q) (g' q)) → (q : Q) → Deeper (choose test f f' q) (choose test g g' q)
-  deeper_choose true f f' g g' h k q = h q
-  deeper_choose false f f' g g' h k q = k q
 
   pub deeper_template : (from : RunningTemplate) (word : Ident) (x : SourceAnswer Template) (q : Q) (f g : Template → Q → Outcome Q) → ((t : Template) (q : Q) → Deeper (f t q) (g t q)) → Deeper (on_template from word x q f) (on_template from word x q g)
   deeper_template from word (says t) q f g h = h t q

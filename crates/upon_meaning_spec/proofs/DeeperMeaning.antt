@@ -1,18 +1,18 @@
 -- What statements, includes and templates give at a greater depth, beside what they give at a lesser one.
-use Rattle.std.proofs.Common.{ℕ, zero, suc, ◌≤◌, List, Option, Some, None, refl, arith}
+use Rattle.std.proofs.Common.{ℕ, zero, suc, ◌≤◌, List, Option, Some, None, refl, arith, Bool, true, false}
 use Rattle.upon_types.specs.Expression.{expression_span}
 use Rattle.upon_types.specs.Path.{Ident}
-use Rattle.upon_types.specs.Tree.{Statement, raw, inline_expr, include, if_else, for_loop, with, Statements, no_statements, statement_then, Else, no_else, otherwise}
-use Rattle.upon_lookup.specs.Environment.{Environment, Root, root_environment, alone_over, with_name}
-use Rattle.upon_lookup.specs.Items.{items_of}
+use Rattle.upon_types.specs.BlockKinds.{opened_kind, may_have_else}
+use Rattle.upon_types.specs.Tree.{Statement, raw, inline_expr, include, block, Statements, no_statements, statement_then, Else, no_else, otherwise}
+use Rattle.upon_lookup.specs.Environment.{Environment, Root, root_environment, alone_over}
 use Rattle.upon_meaning_spec.specs.Alone.{running, included, alone_within, includes_left, alone}
 use Rattle.upon_meaning_spec.specs.Emission.{emit}
 use Rattle.upon_meaning_spec.specs.Engine.{Template, Calls, Resolver, Rendering}
 use Rattle.upon_meaning_spec.specs.Evaluation.{evaluate}
 use Rattle.upon_meaning_spec.specs.GreaterDepth.{GoesOn}
-use Rattle.upon_meaning_spec.specs.Meaning.{RunningTemplate, Inclusion, condition, in_template, statement_means, statements_mean, else_means}
+use Rattle.upon_meaning_spec.specs.Meaning.{RunningTemplate, Inclusion, turns, in_template, statement_means, statements_mean, else_means}
 use Rattle.upon_meaning_spec.specs.Outcome.{States}
-use Rattle.upon_meaning_spec.proofs.Deeper.{Deeper, deeper_same, goes_on_of_deeper, stopped_deeper, deeper_then, deeper_each_or, deeper_choose, deeper_template, deeper_value}
+use Rattle.upon_meaning_spec.proofs.Deeper.{Deeper, deeper_same, goes_on_of_deeper, stopped_deeper, deeper_then, deeper_each_or, deeper_template, deeper_value}
 
 module _ {V T : Type 0} (calls : Calls V) (run : RunningTemplate) (i j : Inclusion V T) (h : (from : RunningTemplate) (word : Ident) (env : Environment) (s : States V T) → Deeper (i from word env s) (j from word env s)) where
   mutual
@@ -21,17 +21,16 @@ module _ {V T : Type 0} (calls : Calls V) (run : RunningTemplate) (i j : Inclusi
     deeper_statement (inline_expr e span) env s = deeper_same (in_template run s.templates (emit calls e env s.values))
     deeper_statement (include word None) env s = h run word env s
     deeper_statement (include word (Some e)) env s = deeper_value run (evaluate calls e env s.values).answer _ _ _ (λ v s'. h run word (alone_over v) s')
-    deeper_statement (if_else n e a b) env s = deeper_value run (evaluate calls e env s.values).answer _ _ _ (λ v s'. deeper_choose (condition n v) _ _ _ _ (deeper_statements a env) (deeper_else b env) s')
-    deeper_statement (for_loop names e body other) env s = deeper_value run (evaluate calls e env s.values).answer _ _ _ (λ v s'. deeper_each_or (statements_mean calls i run body) (statements_mean calls j run body) (else_means calls i run other) (else_means calls j run other) (deeper_statements body) (deeper_else other) run (items_of names v (expression_span e)) env s')
-    deeper_statement (with e word body) env s = deeper_value run (evaluate calls e env s.values).answer _ _ _ (λ v s'. deeper_statements body (with_name word v env) s')
+    deeper_statement (block opening e body other) env s = deeper_value run (evaluate calls e env s.values).answer _ _ _ (λ v s'. deeper_each_or (statements_mean calls i run body) (statements_mean calls j run body) (else_means calls i run other (may_have_else (opened_kind opening))) (else_means calls j run other (may_have_else (opened_kind opening))) (deeper_statements body) (deeper_else other (may_have_else (opened_kind opening))) run (turns opening (expression_span e) v) env s')
 
     pub deeper_statements : (ts : Statements) (env : Environment) (s : States V T) → Deeper (statements_mean calls i run ts env s) (statements_mean calls j run ts env s)
     deeper_statements no_statements env s = refl
     deeper_statements (statement_then t ts) env s = deeper_then _ _ _ _ (deeper_statement t env s) (deeper_statements ts env)
 
-    deeper_else : (t : Else) (env : Environment) (s : States V T) → Deeper (else_means calls i run t env s) (else_means calls j run t env s)
-    deeper_else no_else env s = refl
-    deeper_else (otherwise body) env s = deeper_statements body env s
+    deeper_else : (t : Else) (may : Bool) (env : Environment) (s : States V T) → Deeper (else_means calls i run t may env s) (else_means calls j run t may env s)
+    deeper_else no_else may env s = refl
+    deeper_else (otherwise body) false env s = refl
+    deeper_else (otherwise body) true env s = deeper_statements body env s
 
 module _ {V T : Type 0} (calls : Calls V) (resolve : Resolver T) where
   pub deeper_included : (a b : ℕ) → a ≤ b → (from : RunningTemplate) (word : Ident) (env : Environment) (s : States V T) → Deeper (included calls resolve a from word env s) (included calls resolve b from word env s)

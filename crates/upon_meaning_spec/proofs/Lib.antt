@@ -1,5 +1,6 @@
 pub mod Computing
 pub mod NotTooDeep
+pub mod Turns
 pub mod Deeper
 pub mod DeeperMeaning
 pub mod UnaskedExpressions

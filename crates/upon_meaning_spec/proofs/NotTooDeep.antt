@@ -4,13 +4,13 @@ use Rattle.upon_types.specs.declared.types.Span.{Span}
 use Rattle.upon_types.specs.Expression.{Expression, base, filtered, Base, var, literal, list, mapping, paren, call}
 use Rattle.upon_types.specs.Path.{Ident}
 use Rattle.upon_types.specs.Val.{Val}
-use Rattle.upon_lookup.specs.Environment.{Binding, Environment, iteration}
+use Rattle.upon_lookup.specs.Environment.{Binding, Environment, bind_all}
 use Rattle.upon_lookup.specs.Finding.{Finding, found, at_fault, Reply}
 use Rattle.upon_types.specs.Answers.{FormatEnd, well, refused, Formatter, Callable, formatter, function}
 use Rattle.upon_meaning_spec.specs.Emission.{Emission, end_of, or_fault, formatter_outcome, callable_outcome, emit_call, emit_value, emit, emit_base}
 use Rattle.upon_meaning_spec.specs.Engine.{Calls}
 use Rattle.upon_meaning_spec.specs.Evaluation.{Operand, values_of, answer_value, append_operand, evaluate, evaluate_base, evaluate_arguments}
-use Rattle.upon_meaning_spec.specs.Meaning.{RunningTemplate, ends_in, Body, choose, each, each_of, each_or, on_value}
+use Rattle.upon_meaning_spec.specs.Meaning.{RunningTemplate, ends_in, Body, each, each_or, on_value}
 use Rattle.upon_meaning_spec.specs.Outcome.{End, good, fails, too_deep, Outcome, States, go_on, then_do}
 
 abbrev pub NotTooDeep : End → Type 0
@@ -37,22 +37,14 @@ module _ {Q : Type 0} where
   pub then_not_too_deep : (o : Outcome Q) (go : Q → Outcome Q) → NotTooDeep o.end → ((q : Q) → NotTooDeep (go q).end) → NotTooDeep (then_do o go).end
   then_not_too_deep o go h k = by_go_on o.text o.end o.next go h k
 
-  each_not_too_deep : (body : Body Q) → ((env : Environment) (q : Q) → NotTooDeep (body env q).end) → (count index : ℕ) (items : List (List Binding)) (env : Environment) (q : Q) → NotTooDeep (each body count index items env q).end
-  each_not_too_deep body h count index [] env q = tt
-  each_not_too_deep body h count index (bs ∷ items) env q = then_not_too_deep (body (iteration index count bs env) q) _ (h (iteration index count bs env) q) (each_not_too_deep body h count (index + 1) items env)
-
-  pub each_of_not_too_deep : (body : Body Q) → ((env : Environment) (q : Q) → NotTooDeep (body env q).end) → (from : RunningTemplate) (x : Finding (List (List Binding))) (env : Environment) (q : Q) → NotTooDeep (each_of body from x env q).end
-  each_of_not_too_deep body h from (found items) env q = each_not_too_deep body h (length items) 0 items env q
-  each_of_not_too_deep body h from (at_fault f) env q = tt
+  each_not_too_deep : (body : Body Q) → ((env : Environment) (q : Q) → NotTooDeep (body env q).end) → (turns : List (List Binding)) (env : Environment) (q : Q) → NotTooDeep (each body turns env q).end
+  each_not_too_deep body h [] env q = tt
+  each_not_too_deep body h (bs ∷ turns) env q = then_not_too_deep (body (bind_all bs env) q) _ (h (bind_all bs env) q) (each_not_too_deep body h turns env)
 
   pub each_or_not_too_deep : (body other : Body Q) → ((env : Environment) (q : Q) → NotTooDeep (body env q).end) → ((env : Environment) (q : Q) → NotTooDeep (other env q).end) → (from : RunningTemplate) (x : Finding (List (List Binding))) (env : Environment) (q : Q) → NotTooDeep (each_or body other from x env q).end
   each_or_not_too_deep body other h k from (found []) env q = k env q
-  each_or_not_too_deep body other h k from (found (bs ∷ items)) env q = each_of_not_too_deep body h from (found (bs ∷ items)) env q
+  each_or_not_too_deep body other h k from (found (bs ∷ turns)) env q = each_not_too_deep body h (bs ∷ turns) env q
   each_or_not_too_deep body other h k from (at_fault f) env q = tt
-
-  pub choose_not_too_deep : (test : Bool) (f g : Q → Outcome Q) → ((q : Q) → NotTooDeep (f q).end) → ((q : Q) → NotTooDeep (g q).end) → (q : Q) → NotTooDeep (choose test f g q).end
-  choose_not_too_deep true f g h k q = h q
-  choose_not_too_deep false f g h k q = k q
 
 module _ {V T : Type 0} where
   pub value_not_too_deep : (from : RunningTemplate) (x : Finding Operand) (s : States V T) (go : Val → States V T → Outcome (States V T)) → ((v : Val) (s : States V T) → NotTooDeep (go v s).end) → NotTooDeep (on_value from x s go).end

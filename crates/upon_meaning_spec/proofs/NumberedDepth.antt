@@ -1,20 +1,20 @@
 -- Where includes have numbers that show how deep they go, no depth above those ends because includes are too deep.
-use Rattle.std.proofs.Common.{◌≡◌, ◌≢◌, inl, inr, ℕ, zero, suc, ◌<◌, ◌≤◌, List, [], ◌∷◌, Option, Some, None, refl, arith}
+use Rattle.std.proofs.Common.{◌≡◌, ◌≢◌, inl, inr, ℕ, zero, suc, ◌<◌, ◌≤◌, List, [], ◌∷◌, Option, Some, None, refl, arith, Bool, true, false}
 use Rattle.upon_types.specs.Expression.{expression_span}
 use Rattle.upon_types.specs.Path.{Ident}
-use Rattle.upon_types.specs.Tree.{Statement, raw, inline_expr, include, if_else, for_loop, with, Statements, no_statements, statement_then, Else, no_else, otherwise}
-use Rattle.upon_lookup.specs.Environment.{Environment, Root, root_environment, alone_over, with_name}
-use Rattle.upon_lookup.specs.Items.{items_of}
+use Rattle.upon_types.specs.BlockKinds.{opened_kind, may_have_else}
+use Rattle.upon_types.specs.Tree.{Statement, raw, inline_expr, include, block, Statements, no_statements, statement_then, Else, no_else, otherwise}
+use Rattle.upon_lookup.specs.Environment.{Environment, Root, root_environment, alone_over}
 use Rattle.upon_lookup.specs.Source.{Source, SourceAnswer, says, refuses}
 use Rattle.upon_meaning_spec.specs.Alone.{running, on_template, included, includes_left, alone}
 use Rattle.upon_meaning_spec.specs.Emission.{emit}
 use Rattle.upon_meaning_spec.specs.Engine.{Template, Table, Engine, Calls, Resolver, from_table, calls_of, limit_of, rendering_of}
 use Rattle.upon_meaning_spec.specs.Evaluation.{evaluate}
 use Rattle.upon_meaning_spec.specs.Includes.{StatementIncludes, Includes, ElseIncludes, IsNumbered}
-use Rattle.upon_meaning_spec.specs.Meaning.{RunningTemplate, Inclusion, condition, statement_means, statements_mean, else_means}
+use Rattle.upon_meaning_spec.specs.Meaning.{RunningTemplate, Inclusion, turns, statement_means, statements_mean, else_means}
 use Rattle.upon_meaning_spec.specs.Outcome.{too_deep, Outcome, States, states}
 use Rattle.upon_meaning_spec.specs.Sources.{HandsOnFrom}
-use Rattle.upon_meaning_spec.proofs.NotTooDeep.{NotTooDeep, is_not_too_deep, ends_not_too_deep, then_not_too_deep, each_or_not_too_deep, choose_not_too_deep, value_not_too_deep, emit_not_too_deep}
+use Rattle.upon_meaning_spec.proofs.NotTooDeep.{NotTooDeep, is_not_too_deep, ends_not_too_deep, then_not_too_deep, each_or_not_too_deep, value_not_too_deep, emit_not_too_deep}
 use Rattle.upon_meaning_spec.proofs.Reached.{table_hands_on}
 
 -- statements whose includes do not are too deep
@@ -28,17 +28,16 @@ module _ {V T : Type 0} (calls : Calls V) (i : Inclusion V T) (run : RunningTemp
     statement_goes (inline_expr e span) h env s = ends_not_too_deep run (emit calls e env s.values).end (emit_not_too_deep calls e env s.values)
     statement_goes (include word None) h env s = h word refl env s
     statement_goes (include word (Some e)) h env s = value_not_too_deep run (evaluate calls e env s.values).answer _ _ (λ v s'. h word refl (alone_over v) s')
-    statement_goes (if_else n e a b) h env s = value_not_too_deep run (evaluate calls e env s.values).answer _ _ (λ v s'. choose_not_too_deep (condition n v) _ _ (statements_go a (λ word is. h word (inl is)) env) (else_goes b (λ word is. h word (inr is)) env) s')
-    statement_goes (for_loop names e body other) h env s = value_not_too_deep run (evaluate calls e env s.values).answer _ _ (λ v s'. each_or_not_too_deep (statements_mean calls i run body) (else_means calls i run other) (statements_go body (λ word is. h word (inl is))) (else_goes other (λ word is. h word (inr is))) run (items_of names v (expression_span e)) env s')
-    statement_goes (with e word body) h env s = value_not_too_deep run (evaluate calls e env s.values).answer _ _ (λ v s'. statements_go body h (with_name word v env) s')
+    statement_goes (block opening e body other) h env s = value_not_too_deep run (evaluate calls e env s.values).answer _ _ (λ v s'. each_or_not_too_deep (statements_mean calls i run body) (else_means calls i run other (may_have_else (opened_kind opening))) (statements_go body (λ word is. h word (inl is))) (else_goes other (may_have_else (opened_kind opening)) (λ word is. h word (inr is))) run (turns opening (expression_span e) v) env s')
 
     pub statements_go : (ts : Statements) → ((word : Ident) → Includes word.text ts → Goes word) → (env : Environment) (s : States V T) → NotTooDeep (statements_mean calls i run ts env s).end
     statements_go no_statements h env s = tt
     statements_go (statement_then t ts) h env s = then_not_too_deep (statement_means calls i run t env s) _ (statement_goes t (λ word is. h word (inl is)) env s) (statements_go ts (λ word is. h word (inr is)) env)
 
-    else_goes : (t : Else) → ((word : Ident) → ElseIncludes word.text t → Goes word) → (env : Environment) (s : States V T) → NotTooDeep (else_means calls i run t env s).end
-    else_goes no_else h env s = tt
-    else_goes (otherwise body) h env s = statements_go body h env s
+    else_goes : (t : Else) (may : Bool) → ((word : Ident) → ElseIncludes word.text t may → Goes word) → (env : Environment) (s : States V T) → NotTooDeep (else_means calls i run t may env s).end
+    else_goes no_else may h env s = tt
+    else_goes (otherwise body) false h env s = tt
+    else_goes (otherwise body) true h env s = statements_go body h env s
 
 -- a template that a numbered tree includes is numbered
 numbered_inside : (table : Table) (number : List ℕ → ℕ) (tree : Statements) (k : ℕ) (name : List ℕ) (t : Template) → IsNumbered table number tree k → Includes name tree → table name ≡ Some t → IsNumbered table number t.tree (number name)

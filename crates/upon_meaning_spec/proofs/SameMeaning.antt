@@ -1,21 +1,21 @@
 -- What a tree means stays the same where the names that it reads are found alike, and its includes mean the same.
-use Rattle.std.proofs.Common.{◌≡◌, ℕ, ◌+◌, List, [], ◌∷◌, length, Some, None, inl, inr, refl, codes}
+use Rattle.std.proofs.Common.{◌≡◌, ℕ, List, [], ◌∷◌, Some, None, inl, inr, refl, Bool, true, false}
 use Rattle.upon_types.specs.Expression.{Expression, base, filtered, Base, var, literal, list, mapping, paren, call, Bases, no_bases, base_then, Items, no_items, item_then, Arguments, no_arguments, arguments, expression_span}
 use Rattle.upon_types.specs.Path.{Ident, Access, by_index, by_key, path_span}
-use Rattle.upon_types.specs.Tree.{Statement, raw, inline_expr, include, if_else, for_loop, with, Statements, no_statements, statement_then, Else, no_else, otherwise}
+use Rattle.upon_types.specs.BlockKinds.{opened_kind, may_have_else}
+use Rattle.upon_types.specs.Tree.{Statement, raw, inline_expr, include, block, Statements, no_statements, statement_then, Else, no_else, otherwise}
 use Rattle.upon_types.specs.Val.{Entries, no_entries}
-use Rattle.upon_lookup.specs.Environment.{Binding, binding, plain, Environment, bind_all, with_name, alone_over, iteration, loop_state}
+use Rattle.upon_lookup.specs.Environment.{Binding, Environment, bind_all, alone_over}
 use Rattle.upon_lookup.specs.Finding.{Finding, found, at_fault, with_found}
-use Rattle.upon_lookup.specs.Items.{items_of}
 use Rattle.upon_meaning_spec.specs.Emission.{emit, emit_base, emit_call, emit_value}
 use Rattle.upon_meaning_spec.specs.Engine.{Calls}
 use Rattle.upon_meaning_spec.specs.Entries.{with_entry}
 use Rattle.upon_meaning_spec.specs.Evaluation.{append_operand, with_span, as_list, as_map, application, evaluate, evaluate_base, evaluate_bases, evaluate_items, evaluate_arguments}
 use Rattle.upon_meaning_spec.specs.Includes.{StatementIncludes, Includes, ElseIncludes}
-use Rattle.upon_meaning_spec.specs.Meaning.{RunningTemplate, Inclusion, in_template, with_value, choose, condition, each, each_of, each_or, statement_means, statements_mean, else_means}
+use Rattle.upon_meaning_spec.specs.Meaning.{RunningTemplate, Inclusion, in_template, with_value, turns, each, each_or, statement_means, statements_mean, else_means}
 use Rattle.upon_meaning_spec.specs.Names.{IsName, ExpressionReads, BaseReads, BasesRead, ItemsRead, ArgumentsRead, StatementReads, StatementsRead, ElseReads}
 use Rattle.upon_meaning_spec.specs.Outcome.{Outcome, States, then_do}
-use Rattle.upon_meaning_spec.proofs.SameLookups.{Known, FoundAlike, alike_bind, alike_bind_all}
+use Rattle.upon_meaning_spec.proofs.SameLookups.{Known, FoundAlike, alike_bind_all}
 
 -- each name that the first has is one of the second
 abbrev pub Within : (List ℕ → Type 0) → (List ℕ → Type 0) → Type 0
@@ -77,21 +77,13 @@ module _ {V T : Type 0} (calls : Calls V) (running : RunningTemplate) (names inc
   SameBody body body' = (env env' : Environment) → Alike env env' → (s : States V T) → body env s ≡ body' env' s
 
   module _ (body body' : Environment → States V T → Outcome (States V T)) (same : SameBody body body') (from : RunningTemplate) (env env' : Environment) (alike : Alike env env') where
-    same_each : (count index : ℕ) (items : List (List Binding)) (s : States V T) → each body count index items env s ≡ each body' count index items env' s
-    same_each count index [] s = refl
-    same_each count index (bs ∷ items) s =
-        λ i. then_do
-        (same (iteration index count bs env) (iteration index count bs env')
-        (alike_bind calls.ask names (binding (codes "loop") (loop_state index count)) (bind_all bs env) (bind_all bs env') (alike_bind_all calls.ask names bs env env' alike)) s i)
-        (λ s'. same_each count (index + 1) items s' i)
+    same_each : (turns : List (List Binding)) (s : States V T) → each body turns env s ≡ each body' turns env' s
+    same_each [] s = refl
+    same_each (bs ∷ turns) s = λ i. then_do (same (bind_all bs env) (bind_all bs env') (alike_bind_all calls.ask names bs env env' alike) s i) (λ s'. same_each turns s' i)
 
-    same_each_of : (items : Finding (List (List Binding))) (s : States V T) → each_of body from items env s ≡ each_of body' from items env' s
-    same_each_of (found items) s = same_each (length items) 0 items s
-    same_each_of (at_fault f) s = refl
-
-    same_each_or : (other other' : Environment → States V T → Outcome (States V T)) → SameBody other other' → (items : Finding (List (List Binding))) (s : States V T) → each_or body other from items env s ≡ each_or body' other' from items env' s
+    same_each_or : (other other' : Environment → States V T → Outcome (States V T)) → SameBody other other' → (x : Finding (List (List Binding))) (s : States V T) → each_or body other from x env s ≡ each_or body' other' from x env' s
     same_each_or other other' k (found []) s = k env env' alike s
-    same_each_or other other' k (found (bs ∷ items)) s = same_each_of (found (bs ∷ items)) s
+    same_each_or other other' k (found (bs ∷ turns)) s = same_each (bs ∷ turns) s
     same_each_or other other' k (at_fault f) s = refl
 
   module _ (same_include : (from : RunningTemplate) (word : Ident) → included_names word.text → SameBody (inc from word) (inc' from word)) where
@@ -103,21 +95,16 @@ module _ {V T : Type 0} (calls : Calls V) (running : RunningTemplate) (names inc
       same_statement (include word (Some e)) h k env env' alike s =
           λ i. with_value running s.templates (same_value calls names env env' alike e h s.values i)
           (λ v s'. same_include running word (k word.text refl) (alone_over v) (alone_over v) (λ first rest q known. refl) s' i)
-      same_statement (if_else negated e body other) h k env env' alike s =
+      same_statement (block opening e body other) h k env env' alike s =
           λ i. with_value running s.templates (same_value calls names env env' alike e (λ n r. h n (inl r)) s.values i)
-          (λ v s'. choose {A = States V T → Outcome (States V T)} (condition negated v) (λ z. same_statements body (λ n r. h n (inr (inl r))) (λ n r. k n (inl r)) env env' alike z i) (λ z. same_else other (λ n r. h n (inr (inr r))) (λ n r. k n (inr r)) env env' alike z i) s')
-      same_statement (for_loop loop_names e body other) h k env env' alike s =
-          λ i. with_value running s.templates (same_value calls names env env' alike e (λ n r. h n (inl r)) s.values i)
-          (λ v s'. same_each_or (statements_mean calls inc running body) (statements_mean calls inc' running body) (same_statements body (λ n r. h n (inr (inl r))) (λ n r. k n (inl r))) running env env' alike (else_means calls inc running other) (else_means calls inc' running other) (same_else other (λ n r. h n (inr (inr r))) (λ n r. k n (inr r))) (items_of loop_names v (expression_span e)) s' i)
-      same_statement (with e word body) h k env env' alike s =
-          λ i. with_value running s.templates (same_value calls names env env' alike e (λ n r. h n (inl r)) s.values i)
-          (λ v s'. same_statements body (λ n r. h n (inr r)) k (with_name word v env) (with_name word v env') (alike_bind calls.ask names (binding word.text (plain v)) env env' alike) s' i)
+          (λ v s'. same_each_or (statements_mean calls inc running body) (statements_mean calls inc' running body) (same_statements body (λ n r. h n (inr (inl r))) (λ n r. k n (inl r))) running env env' alike (else_means calls inc running other (may_have_else (opened_kind opening))) (else_means calls inc' running other (may_have_else (opened_kind opening))) (same_else other (may_have_else (opened_kind opening)) (λ n r. h n (inr (inr r))) (λ n r. k n (inr r))) (turns opening (expression_span e) v) s' i)
 
       pub same_statements : (ts : Statements) → Within (λ name. StatementsRead name ts) names → Within (λ name. Includes name ts) included_names → SameBody (statements_mean calls inc running ts) (statements_mean calls inc' running ts)
       same_statements no_statements h k env env' alike s = refl
       same_statements (statement_then t ts) h k env env' alike s =
           λ i. then_do (same_statement t (λ n r. h n (inl r)) (λ n r. k n (inl r)) env env' alike s i) (λ s'. same_statements ts (λ n r. h n (inr r)) (λ n r. k n (inr r)) env env' alike s' i)
 
-      same_else : (other : Else) → Within (λ name. ElseReads name other) names → Within (λ name. ElseIncludes name other) included_names → SameBody (else_means calls inc running other) (else_means calls inc' running other)
-      same_else no_else h k env env' alike s = refl
-      same_else (otherwise body) h k env env' alike s = same_statements body h k env env' alike s
+      same_else : (other : Else) (may : Bool) → Within (λ name. ElseReads name other may) names → Within (λ name. ElseIncludes name other may) included_names → SameBody (else_means calls inc running other may) (else_means calls inc' running other may)
+      same_else no_else may h k env env' alike s = refl
+      same_else (otherwise body) false h k env env' alike s = refl
+      same_else (otherwise body) true h k env env' alike s = same_statements body h k env env' alike s

@@ -1,17 +1,17 @@
 -- Over a context a template means what it means where there is no value source, and the source's state stays.
-use Rattle.std.proofs.Common.{◌≡◌, ℕ, zero, suc, ◌+◌, List, [], ◌∷◌, ◌++◌, length, Option, Some, None, Bool, true, false, refl, sym, ap, ◌∙◌, codes}
+use Rattle.std.proofs.Common.{◌≡◌, ℕ, zero, suc, List, [], ◌∷◌, ◌++◌, Option, Some, None, refl, sym, ap, ◌∙◌, Bool, true, false}
 use Rattle.upon_types.specs.Expression.{expression_span}
 use Rattle.upon_types.specs.Path.{Ident}
-use Rattle.upon_types.specs.Tree.{Statement, raw, inline_expr, include, if_else, for_loop, with, Statements, no_statements, statement_then, Else, no_else, otherwise}
+use Rattle.upon_types.specs.BlockKinds.{opened_kind, may_have_else}
+use Rattle.upon_types.specs.Tree.{Statement, raw, inline_expr, include, block, Statements, no_statements, statement_then, Else, no_else, otherwise}
 use Rattle.upon_types.specs.Val.{Val}
-use Rattle.upon_lookup.specs.Environment.{Binding, binding, plain, loop_state, context}
+use Rattle.upon_lookup.specs.Environment.{Binding, context}
 use Rattle.upon_lookup.specs.Finding.{Finding, found, at_fault, Reply}
-use Rattle.upon_lookup.specs.Items.{items_of}
 use Rattle.upon_lookup.specs.Source.{SourceAnswer, says, refuses, Source}
 use Rattle.upon_meaning_spec.specs.Alone.{running, on_template, included, alone_within}
 use Rattle.upon_meaning_spec.specs.Engine.{Template, Calls, Resolver}
 use Rattle.upon_meaning_spec.specs.Evaluation.{Operand}
-use Rattle.upon_meaning_spec.specs.Meaning.{RunningTemplate, Inclusion, Body, choose, condition, each, each_of, each_or, in_template, on_value, with_value, statement_means, statements_mean, else_means}
+use Rattle.upon_meaning_spec.specs.Meaning.{RunningTemplate, Inclusion, Body, turns, each, each_or, in_template, on_value, with_value, statement_means, statements_mean, else_means}
 use Rattle.upon_meaning_spec.specs.Outcome.{End, good, fails, too_deep, Outcome, States, states, with_text_before, go_on, then_do}
 use Rattle.upon_meaning_spec.specs.ValueSource.{with_source, SameBesideValues}
 use Rattle.upon_meaning_spec.proofs.UnaskedExpressions.{above, sourceless, keep, evaluate_keeps, emit_keeps}
@@ -37,10 +37,6 @@ module _ {V T : Type 0} (q : V) where
   then_keeps : (a : Outcome (States V T)) (b : Outcome (Sourceless T)) (f : States V T → Outcome (States V T)) (pure : Sourceless T → Outcome (Sourceless T)) → a ≡ keep_values q b → Keeps f pure → then_do a f ≡ keep_values q (then_do b pure)
   then_keeps a b f pure e h = ap (λ a. then_do a f) e ∙ by_go_on b.text b.end b.next f pure h
 
-  choose_keeps : (test : Bool) (f g : States V T → Outcome (States V T)) (pure other : Sourceless T → Outcome (Sourceless T)) → Keeps f pure → Keeps g other → Keeps (choose test f g) (choose test pure other)
-  choose_keeps true f g pure other h k s = h s
-  choose_keeps false f g pure other h k s = k s
-
   by_value : (from : RunningTemplate) (x : Finding Operand) (s : Sourceless T) (f : Val → States V T → Outcome (States V T)) (pure : Val → Sourceless T → Outcome (Sourceless T)) → ((w : Val) → Keeps (f w) (pure w)) → on_value from x (states q s.templates) f ≡ keep_values q (on_value from x s pure)
   by_value from (found o) s f pure h = h o.value s
   by_value from (at_fault x) s f pure h = refl
@@ -57,18 +53,14 @@ module _ {V T : Type 0} (q : V) where
     abbrev pub BodyKeeps : Body (States V T) → Body (Sourceless T) → Type 0
     BodyKeeps body pure = (bindings : List Binding) → Keeps (body (above bindings v)) (pure (above bindings v))
 
-    each_keeps : (body : Body (States V T)) (pure : Body (Sourceless T)) → BodyKeeps body pure → (count index : ℕ) (items : List (List Binding)) (bindings : List Binding) → Keeps (each body count index items (above bindings v)) (each pure count index items (above bindings v))
-    each_keeps body pure h count index [] bindings s = refl
-    each_keeps body pure h count index (bs ∷ items) bindings s =
-        let inner : List Binding = binding (codes "loop") (loop_state index count) ∷ (bs ++ bindings) in then_keeps (body (above inner v) (states q s.templates)) (pure (above inner v) s) _ _ (h inner s) (each_keeps body pure h count (index + 1) items bindings)
-
-    each_of_keeps : (body : Body (States V T)) (pure : Body (Sourceless T)) → BodyKeeps body pure → (from : RunningTemplate) (x : Finding (List (List Binding))) (bindings : List Binding) → Keeps (each_of body from x (above bindings v)) (each_of pure from x (above bindings v))
-    each_of_keeps body pure h from (found items) bindings s = each_keeps body pure h (length items) 0 items bindings s
-    each_of_keeps body pure h from (at_fault x) bindings s = refl
+    each_keeps : (body : Body (States V T)) (pure : Body (Sourceless T)) → BodyKeeps body pure → (turns : List (List Binding)) (bindings : List Binding) → Keeps (each body turns (above bindings v)) (each pure turns (above bindings v))
+    each_keeps body pure h [] bindings s = refl
+    each_keeps body pure h (bs ∷ turns) bindings s =
+        let inner : List Binding = bs ++ bindings in then_keeps (body (above inner v) (states q s.templates)) (pure (above inner v) s) _ _ (h inner s) (each_keeps body pure h turns bindings)
 
     each_or_keeps : (body other : Body (States V T)) (pure another : Body (Sourceless T)) → BodyKeeps body pure → BodyKeeps other another → (from : RunningTemplate) (x : Finding (List (List Binding))) (bindings : List Binding) → Keeps (each_or body other from x (above bindings v)) (each_or pure another from x (above bindings v))
     each_or_keeps body other pure another h k from (found []) bindings s = k bindings s
-    each_or_keeps body other pure another h k from (found (bs ∷ items)) bindings s = each_of_keeps body pure h from (found (bs ∷ items)) bindings s
+    each_or_keeps body other pure another h k from (found (bs ∷ turns)) bindings s = each_keeps body pure h (bs ∷ turns) bindings s
     each_or_keeps body other pure another h k from (at_fault x) bindings s = refl
 
 -- includes that give the same over any context
@@ -82,18 +74,17 @@ module _ {V T : Type 0} (calls : Calls V) (i : Inclusion V T) (pure : Inclusion 
     statement_keeps (inline_expr e span) bindings s = ap (in_template run s.templates) (emit_keeps calls bindings v q e s.values)
     statement_keeps (include word None) bindings s = same run word v bindings s
     statement_keeps (include word (Some e)) bindings s = value_keeps q run s.templates _ _ _ _ (evaluate_keeps calls bindings v q e s.values) (λ w. same run word w [])
-    statement_keeps (if_else n e a b) bindings s = value_keeps q run s.templates _ _ _ _ (evaluate_keeps calls bindings v q e s.values) (λ w. choose_keeps q (condition n w) _ _ _ _ (statements_keep a bindings) (else_keeps b bindings))
-    statement_keeps (for_loop names e body other) bindings s =
-        value_keeps q run s.templates _ _ _ _ (evaluate_keeps calls bindings v q e s.values) (λ w. each_or_keeps q v (statements_mean calls i run body) (else_means calls i run other) (statements_mean (sourceless calls) pure run body) (else_means (sourceless calls) pure run other) (statements_keep body) (else_keeps other) run (items_of names w (expression_span e)) bindings)
-    statement_keeps (with e word body) bindings s = value_keeps q run s.templates _ _ _ _ (evaluate_keeps calls bindings v q e s.values) (λ w. statements_keep body (binding word.text (plain w) ∷ bindings))
+    statement_keeps (block opening e body other) bindings s =
+        value_keeps q run s.templates _ _ _ _ (evaluate_keeps calls bindings v q e s.values) (λ w. each_or_keeps q v (statements_mean calls i run body) (else_means calls i run other (may_have_else (opened_kind opening))) (statements_mean (sourceless calls) pure run body) (else_means (sourceless calls) pure run other (may_have_else (opened_kind opening))) (statements_keep body) (else_keeps other (may_have_else (opened_kind opening))) run (turns opening (expression_span e) w) bindings)
 
     statements_keep : (ts : Statements) (bindings : List Binding) (s : Sourceless T) → statements_mean calls i run ts (above bindings v) (states q s.templates) ≡ keep_values q (statements_mean (sourceless calls) pure run ts (above bindings v) s)
     statements_keep no_statements bindings s = refl
     statements_keep (statement_then t ts) bindings s = then_keeps q _ _ _ _ (statement_keeps t bindings s) (statements_keep ts bindings)
 
-    else_keeps : (t : Else) (bindings : List Binding) (s : Sourceless T) → else_means calls i run t (above bindings v) (states q s.templates) ≡ keep_values q (else_means (sourceless calls) pure run t (above bindings v) s)
-    else_keeps no_else bindings s = refl
-    else_keeps (otherwise body) bindings s = statements_keep body bindings s
+    else_keeps : (t : Else) (may : Bool) (bindings : List Binding) (s : Sourceless T) → else_means calls i run t may (above bindings v) (states q s.templates) ≡ keep_values q (else_means (sourceless calls) pure run t may (above bindings v) s)
+    else_keeps no_else may bindings s = refl
+    else_keeps (otherwise body) false bindings s = refl
+    else_keeps (otherwise body) true bindings s = statements_keep body bindings s
 
 module _ {V T : Type 0} (calls : Calls V) (resolve : Resolver T) where
   included_keeps : (left : ℕ) (q : V) → InclusionKeeps q (included calls resolve left) (included (sourceless calls) resolve left)

@@ -1,6 +1,5 @@
 pub mod FoundAlike
 pub mod SameExpressions
-pub mod LoopsHide
 pub mod SameNeeded
 pub mod Templates
 pub mod LessThanRead

@@ -5,7 +5,8 @@ use Rattle.upon_types.specs.Expression.{Expression, base, filtered, Base, var, l
 use Rattle.upon_types.specs.Fault.{Fault}
 use Rattle.upon_types.specs.Path.{Ident, Access, by_index, by_key, Member, LoopVars, item, key_value}
 use Rattle.upon_types.specs.Span.{slice}
-use Rattle.upon_types.specs.Tree.{Statement, raw, inline_expr, include, if_else, for_loop, with, Statements, no_statements, statement_then, Else, no_else, otherwise}
+use Rattle.upon_types.specs.BlockKinds.{Opening, if_tag, for_tag, with_tag}
+use Rattle.upon_types.specs.Tree.{Statement, raw, inline_expr, include, block, Statements, no_statements, statement_then, Else, no_else, otherwise}
 use Rattle.upon_meaning_spec.specs.Outcome.{End, good, fails, too_deep, Outcome}
 
 -- names and paths
@@ -79,39 +80,43 @@ abbrev pub IsEmpty : Statements → Type 0
 IsEmpty no_statements = Unit {0}
 IsEmpty (statement_then t ts) = ⊥
 
--- Statements of two texts. Raw parts show the same. Of an `if` either the branches are alike, or the condition is
--- negated in one of the two alone, and the branches are alike the other way round. No other case is like one without
--- statements.
+-- two openings of blocks with the same `not` and names
+abbrev pub OpeningsAlike : Opening → Opening → Type 0
+OpeningsAlike (if_tag a) (if_tag b) = a ≡ b
+OpeningsAlike (for_tag names) (for_tag names') = NamesAlike names names'
+OpeningsAlike (with_tag a) (with_tag b) = WordsAlike a b
+OpeningsAlike _ _ = ⊥
+
+-- two of an `if`, of which one is negated
+abbrev pub IsTurned : Opening → Opening → Type 0
+IsTurned (if_tag a) (if_tag b) = a ≡ not b
+IsTurned _ _ = ⊥
+
+-- Statements of two texts. Raw parts show the same. Of two blocks the branches are alike; or they are two `if`, one
+-- negated, and the branches are alike the other way round. No other case is like one without statements.
 abbrev mutual
   -- two statements, each under its own text
   pub StatementAlike : List ℕ → List ℕ → Statement → Statement → Type 0
   StatementAlike s s' (raw span) (raw span') = slice s span ≡ slice s' span'
   StatementAlike s s' (inline_expr e span) (inline_expr e' span') = ExpressionsAlike e e'
   StatementAlike s s' (include word given) (include word' given') = WordsAlike word word' × GivenAlike given given'
-  StatementAlike s s' (if_else n e a (otherwise b)) (if_else n' e' a' (otherwise b')) =
+  StatementAlike s s' (block opening e a (otherwise b)) (block opening' e' a' (otherwise b')) =
       ExpressionsAlike e e'
-      × (((n ≡ n') × StatementsAlike s s' a a' × StatementsAlike s s' b b')
-      ⊎ ((n ≡ not n') × StatementsAlike s s' a b' × StatementsAlike s s' b a'))
-  StatementAlike s s' (if_else n e a no_else) (if_else n' e' a' (otherwise b')) =
+      × ((OpeningsAlike opening opening' × StatementsAlike s s' a a' × StatementsAlike s s' b b')
+      ⊎ (IsTurned opening opening' × StatementsAlike s s' a b' × StatementsAlike s s' b a'))
+  StatementAlike s s' (block opening e a no_else) (block opening' e' a' (otherwise b')) =
       ExpressionsAlike e e'
-      × (((n ≡ n') × StatementsAlike s s' a a' × IsEmpty b') ⊎ ((n ≡ not n') × StatementsAlike s s' a b' × IsEmpty a'))
-  StatementAlike s s' (if_else n e a (otherwise b)) (if_else n' e' a' no_else) =
+      × ((OpeningsAlike opening opening' × StatementsAlike s s' a a' × IsEmpty b')
+      ⊎ (IsTurned opening opening' × StatementsAlike s s' a b' × IsEmpty a'))
+  StatementAlike s s' (block opening e a (otherwise b)) (block opening' e' a' no_else) =
       ExpressionsAlike e e'
-      × (((n ≡ n') × StatementsAlike s s' a a' × IsEmpty b) ⊎ ((n ≡ not n') × IsEmpty a × StatementsAlike s s' b a'))
-  StatementAlike s s' (if_else n e a no_else) (if_else n' e' a' no_else) =
-      ExpressionsAlike e e' × (((n ≡ n') × StatementsAlike s s' a a') ⊎ ((n ≡ not n') × IsEmpty a × IsEmpty a'))
-  StatementAlike s s' (for_loop names e body other) (for_loop names' e' body' other') =
-      NamesAlike names names' × ExpressionsAlike e e' × StatementsAlike s s' body body' × OthersAlike s s' other other'
-  StatementAlike s s' (with e word body) (with e' word' body') =
-      ExpressionsAlike e e' × WordsAlike word word' × StatementsAlike s s' body body'
+      × ((OpeningsAlike opening opening' × StatementsAlike s s' a a' × IsEmpty b)
+      ⊎ (IsTurned opening opening' × IsEmpty a × StatementsAlike s s' b a'))
+  StatementAlike s s' (block opening e a no_else) (block opening' e' a' no_else) =
+      ExpressionsAlike e e'
+      × ((OpeningsAlike opening opening' × StatementsAlike s s' a a')
+      ⊎ (IsTurned opening opening' × IsEmpty a × IsEmpty a'))
   StatementAlike s s' _ _ = ⊥
-
-  -- the other branches of two loops
-  pub OthersAlike : List ℕ → List ℕ → Else → Else → Type 0
-  OthersAlike s s' no_else no_else = Unit {0}
-  OthersAlike s s' no_else (otherwise b) = IsEmpty b
-  OthersAlike s s' (otherwise a) no_else = IsEmpty a
-  OthersAlike s s' (otherwise a) (otherwise b) = StatementsAlike s s' a b
 
   -- two sequences of statements, each under its own text
   pub StatementsAlike : List ℕ → List ℕ → Statements → Statements → Type 0

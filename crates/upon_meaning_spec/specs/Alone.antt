@@ -48,8 +48,8 @@ includes_left limit = max limit 1 - 1
 -- a template by itself over a root, under a name or none
 abbrev pub alone : {V T : Type 0} → Rendering V T → Template → Option (List ℕ) → Root → States V T → Outcome
     (States V T)
-alone rendering t name root s = alone_within rendering.calls rendering.resolve
-    (includes_left rendering.limit) t name root s
+alone rendering t name root s =
+    alone_within rendering.calls rendering.resolve (includes_left rendering.limit) t name root s
 
 -- the fault that is reported for an end; of includes that are too deep the depth is reported as it was set
 abbrev pub fault_of_end : ℕ → End → Option Fault

@@ -1,7 +1,7 @@
 -- What is written for a value if no formatter is named.
 use Rattle.std.specs.Prelude.{ℕ, List, [], ◌++◌, Option, Some, None, Bool, true, false, codes}
 use Rattle.std.specs.Fmt.{signed_decimal}
-use Rattle.upon_types.specs.Val.{Val, none_val, bool_val, int_val, text_val, list_val, map_val, kind_word}
+use Rattle.upon_types.specs.Val.{Val, none_val, bool_val, int_val, text_val, kind_word}
 use Rattle.upon_types.specs.Answers.{well, refused, Formatted, Formatter}
 
 -- the word of a truth value
@@ -15,20 +15,16 @@ format_text text = record { text = text; end = well }
 
 -- lists and maps have no text
 abbrev pub no_format : Val → Formatted
-no_format v = record {
-  text = [];
-  end = refused
-      (Some (codes "expression evaluated to unformattable type " ++ kind_word v));
-}
+no_format v =
+    record { text = []; end = refused (Some (codes "expression evaluated to unformattable type " ++ kind_word v)) }
 
--- nothing for no value, the word of a truth value, an integer in decimal, a text as it is
+-- nothing for no value, the word of a truth value, an integer in decimal, a text as it is; no list and no map
 abbrev pub default_format : Formatter
 default_format none_val = format_text []
 default_format (bool_val b) = format_text (bool_text b)
 default_format (int_val z) = format_text (signed_decimal z)
 default_format (text_val s) = format_text s
-default_format (list_val vs) = no_format (list_val vs)
-default_format (map_val es) = no_format (map_val es)
+default_format v = no_format v
 
 -- the default formatter: the one that was set, or this one
 abbrev pub formatter_or_default : Option Formatter → Formatter

@@ -1,6 +1,7 @@
 -- Which templates a template reaches: those that it includes, and those that they include.
-use Rattle.std.specs.Prelude.{◌≡◌, ◌<◌, ◌⊎◌, ℕ, List, [], ◌∷◌, Some}
-use Rattle.upon_types.specs.Tree.{Statement, raw, inline_expr, include, if_else, for_loop, with, Statements, no_statements, statement_then, Else, no_else, otherwise}
+use Rattle.std.specs.Prelude.{◌≡◌, ◌<◌, ◌⊎◌, ℕ, List, [], ◌∷◌, Some, Bool, true, false}
+use Rattle.upon_types.specs.BlockKinds.{opened_kind, may_have_else}
+use Rattle.upon_types.specs.Tree.{Statement, raw, inline_expr, include, block, Statements, no_statements, statement_then, Else, no_else, otherwise}
 use Rattle.upon_meaning_spec.specs.Engine.{Template, Table}
 
 -- an include of this name occurs in the tree
@@ -10,19 +11,19 @@ abbrev mutual
   StatementIncludes name (raw span) = ⊥
   StatementIncludes name (inline_expr e span) = ⊥
   StatementIncludes name (include word value) = word.text ≡ name
-  StatementIncludes name (if_else negated e body other) = Includes name body ⊎ ElseIncludes name other
-  StatementIncludes name (for_loop names e body other) = Includes name body ⊎ ElseIncludes name other
-  StatementIncludes name (with e word body) = Includes name body
+  StatementIncludes name (block opening e body other) =
+      Includes name body ⊎ ElseIncludes name other (may_have_else (opened_kind opening))
 
   -- in statements
   pub Includes : List ℕ → Statements → Type 0
   Includes name no_statements = ⊥
   Includes name (statement_then t ts) = StatementIncludes name t ⊎ Includes name ts
 
-  -- in the other branch of an `if` or a `for`
-  pub ElseIncludes : List ℕ → Else → Type 0
-  ElseIncludes name no_else = ⊥
-  ElseIncludes name (otherwise body) = Includes name body
+  -- in the other branch of a block, if it may have one
+  pub ElseIncludes : List ℕ → Else → Bool → Type 0
+  ElseIncludes name no_else may = ⊥
+  ElseIncludes name (otherwise body) false = ⊥
+  ElseIncludes name (otherwise body) true = Includes name body
 
 -- the tree includes the first of the names, which the table holds; its tree includes the next, and so on to the last,
 -- and this name

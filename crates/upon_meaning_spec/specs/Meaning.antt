@@ -1,13 +1,14 @@
 -- What statements mean: the text that they give, and how it ends, by recursion on the tree.
-use Rattle.std.specs.Prelude.{ℕ, ◌+◌, List, [], ◌∷◌, length, not, Option, Some, None, Bool, true, false}
+use Rattle.std.specs.Prelude.{ℕ, ◌+◌, List, [], ◌∷◌, length, not, Option, Some, None, Bool, true, false, codes}
 use Rattle.upon_types.specs.declared.types.Span.{Span}
 use Rattle.upon_types.specs.Expression.{expression_span}
 use Rattle.upon_types.specs.Fault.{Fault, fault_with_picture}
-use Rattle.upon_types.specs.Path.{Ident, LoopVars}
+use Rattle.upon_types.specs.Path.{Ident}
 use Rattle.upon_types.specs.Span.{slice}
-use Rattle.upon_types.specs.Tree.{Statement, raw, inline_expr, include, if_else, for_loop, with, Statements, no_statements, statement_then, Else, no_else, otherwise}
+use Rattle.upon_types.specs.BlockKinds.{Opening, if_tag, for_tag, with_tag, opened_kind, may_have_else}
+use Rattle.upon_types.specs.Tree.{Statement, raw, inline_expr, include, block, Statements, no_statements, statement_then, Else, no_else, otherwise}
 use Rattle.upon_types.specs.Val.{Val}
-use Rattle.upon_lookup.specs.Environment.{Binding, Environment, alone_over, with_name, iteration}
+use Rattle.upon_lookup.specs.Environment.{Binding, binding, plain, loop_state, Environment, alone_over, bind_all}
 use Rattle.upon_lookup.specs.Finding.{Finding, found, at_fault, Reply}
 use Rattle.upon_lookup.specs.Items.{items_of}
 use Rattle.upon_types.specs.Truth.{truth}
@@ -63,28 +64,34 @@ choose false a b = b
 abbrev pub condition : Bool → Val → Bool
 condition negated v = choose negated (not (truth v)) (truth v)
 
--- the body for each item from this index on, of so many in all, joined up to the first fault
-abbrev pub each : {Q : Type 0} → Body Q → ℕ → ℕ → List (List Binding) → Environment → Q → Outcome Q
-each body count index [] env q = text_outcome [] q
-each body count index (bs ∷ items) env q = then_do (body (iteration index count bs env) q)
-    (λ q'. each body count (index + 1) items env q')
+-- what a loop binds in its turns, one for each item from this index on, of so many in all: its state under `loop`,
+-- ahead of what the item binds
+abbrev pub loop_turns : ℕ → ℕ → List (List Binding) → List (List Binding)
+loop_turns n i [] = []
+loop_turns n i (bs ∷ more) = (binding (codes "loop") (loop_state i n) ∷ bs) ∷ loop_turns n (i + 1) more
 
--- the body for each item that a loop goes over, or its fault
-abbrev pub each_of : {Q : Type 0} → Body Q → RunningTemplate → Finding (List (List Binding)) → Environment → Q
-    → Outcome Q
-each_of body running (found items) env q = each body (length items) 0 items env q
-each_of body running (at_fault f) env q = fault_outcome (fault_in running f) q
+-- the same for the items that are found
+abbrev pub turns_over : Finding (List (List Binding)) → Finding (List (List Binding))
+turns_over (found items) = found (loop_turns (length items) 0 items)
+turns_over (at_fault f) = at_fault f
 
--- the same, or what the other branch gives if there is no item
-abbrev pub each_or : {Q : Type 0} → Body Q → Body Q → RunningTemplate → Finding (List (List Binding)) → Environment → Q
-    → Outcome Q
+-- The turns of a block's body, each as what it binds, for the value of its expression, which is here: an `if` that
+-- holds has one that binds nothing, a `for` one for each item, a `with` one that binds its name.
+abbrev pub turns : Opening → Span → Val → Finding (List (List Binding))
+turns (if_tag negated) at v = found (choose (condition negated v) ([] ∷ []) [])
+turns (for_tag names) at v = turns_over (items_of names v at)
+turns (with_tag word) at v = found ((binding word.text (plain v) ∷ []) ∷ [])
+
+-- the body in each turn, joined up to the first fault
+abbrev pub each : {Q : Type 0} → Body Q → List (List Binding) → Body Q
+each body [] env q = text_outcome [] q
+each body (bs ∷ more) env q = then_do (body (bind_all bs env) q) (λ q'. each body more env q')
+
+-- the same, or what the other branch gives if there is no turn
+abbrev pub each_or : {Q : Type 0} → Body Q → Body Q → RunningTemplate → Finding (List (List Binding)) → Body Q
 each_or body other running (found []) env q = other env q
-each_or body other running (found (bs ∷ items)) env q = each_of body running (found (bs ∷ items)) env q
-each_or body other running (at_fault f) env q = each_of body running (at_fault f) env q
-
--- a loop over a value, whose expression is here
-abbrev pub over : {Q : Type 0} → Body Q → Body Q → RunningTemplate → LoopVars → Span → Environment → Val → Q → Outcome Q
-over body other running names at env v q = each_or body other running (items_of names v at) env q
+each_or body other running (found (bs ∷ more)) env q = each body (bs ∷ more) env q
+each_or body other running (at_fault f) env q = fault_outcome (fault_in running f) q
 
 module _ {V T : Type 0} (calls : Calls V) (include_means : Inclusion V T) (running : RunningTemplate) where
   abbrev mutual
@@ -95,21 +102,17 @@ module _ {V T : Type 0} (calls : Calls V) (include_means : Inclusion V T) (runni
     statement_means (include word (Some e)) env s =
         with_value running s.templates (evaluate calls e env s.values)
         (λ v s'. include_means running word (alone_over v) s')
-    statement_means (if_else negated e body other) env s =
+    statement_means (block opening e body other) env s =
         with_value running s.templates (evaluate calls e env s.values)
-        (λ v s'. choose (condition negated v) (statements_mean body env) (else_means other env) s')
-    statement_means (for_loop names e body other) env s =
-        with_value running s.templates (evaluate calls e env s.values)
-        (λ v s'. over (statements_mean body) (else_means other) running names (expression_span e) env v s')
-    statement_means (with e word body) env s =
-        with_value running s.templates (evaluate calls e env s.values)
-        (λ v s'. statements_mean body (with_name word v env) s')
+        (λ v s'. each_or (statements_mean body) (else_means other (may_have_else (opened_kind opening))) running
+        (turns opening (expression_span e) v) env s')
 
     -- joined up to the first fault
     pub statements_mean : Statements → Body (States V T)
     statements_mean no_statements env s = text_outcome [] s
     statements_mean (statement_then t ts) env s = then_do (statement_means t env s) (λ s'. statements_mean ts env s')
 
-    pub else_means : Else → Body (States V T)
-    else_means no_else env s = text_outcome [] s
-    else_means (otherwise body) env s = statements_mean body env s
+    -- the other branch of a block, if it may have one
+    pub else_means : Else → Bool → Body (States V T)
+    else_means (otherwise body) true env s = statements_mean body env s
+    else_means other may env s = text_outcome [] s

@@ -1,8 +1,9 @@
 -- Which names a template reads: those that begin a path in it, or in a template that it reaches.
-use Rattle.std.specs.Prelude.{◌≡◌, ◌⊎◌, ℕ, List, Option, Some, None}
+use Rattle.std.specs.Prelude.{◌≡◌, ◌⊎◌, ℕ, List, Option, Some, None, Bool, true, false}
 use Rattle.upon_types.specs.Expression.{Expression, base, filtered, Base, var, literal, list, mapping, paren, call, Bases, no_bases, base_then, Items, no_items, item_then, Arguments, no_arguments, arguments}
 use Rattle.upon_types.specs.Path.{Access, by_index, by_key}
-use Rattle.upon_types.specs.Tree.{Statement, raw, inline_expr, include, if_else, for_loop, with, Statements, no_statements, statement_then, Else, no_else, otherwise}
+use Rattle.upon_types.specs.BlockKinds.{opened_kind, may_have_else}
+use Rattle.upon_types.specs.Tree.{Statement, raw, inline_expr, include, block, Statements, no_statements, statement_then, Else, no_else, otherwise}
 use Rattle.upon_meaning_spec.specs.Engine.{Template, Table}
 use Rattle.upon_meaning_spec.specs.Includes.{Reaches}
 
@@ -54,21 +55,19 @@ abbrev mutual
   StatementReads name (raw span) = ⊥
   StatementReads name (inline_expr e span) = ExpressionReads name e
   StatementReads name (include word value) = GivenReads name value
-  StatementReads name (if_else negated e body other) = ExpressionReads name e ⊎
-      (StatementsRead name body ⊎ ElseReads name other)
-  StatementReads name (for_loop names e body other) = ExpressionReads name e ⊎
-      (StatementsRead name body ⊎ ElseReads name other)
-  StatementReads name (with e word body) = ExpressionReads name e ⊎ StatementsRead name body
+  StatementReads name (block opening e body other) = ExpressionReads name e ⊎
+      (StatementsRead name body ⊎ ElseReads name other (may_have_else (opened_kind opening)))
 
   -- in statements
   pub StatementsRead : List ℕ → Statements → Type 0
   StatementsRead name no_statements = ⊥
   StatementsRead name (statement_then t ts) = StatementReads name t ⊎ StatementsRead name ts
 
-  -- in the other branch of an `if` or a `for`
-  pub ElseReads : List ℕ → Else → Type 0
-  ElseReads name no_else = ⊥
-  ElseReads name (otherwise body) = StatementsRead name body
+  -- in the other branch of a block, if it may have one
+  pub ElseReads : List ℕ → Else → Bool → Type 0
+  ElseReads name no_else may = ⊥
+  ElseReads name (otherwise body) false = ⊥
+  ElseReads name (otherwise body) true = StatementsRead name body
 
 -- a template that the table holds under a name that is reached
 pub record ReachedTemplate (table : Table) (tree : Statements) (t : Template) : Type 0 where

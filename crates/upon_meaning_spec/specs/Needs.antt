@@ -1,9 +1,10 @@
 -- What a template needs of its context: the names that begin a path outside of each `with` and `for` that binds them,
 -- in it, or in what it includes there without a value; and the whole context where an index begins a path.
-use Rattle.std.specs.Prelude.{◌≡◌, ◌⊎◌, ℕ, List, [], ◌∷◌, Option, Some, None, codes}
+use Rattle.std.specs.Prelude.{◌≡◌, ◌⊎◌, ℕ, List, [], ◌∷◌, Option, Some, None, Bool, true, false}
 use Rattle.upon_types.specs.Expression.{Expression, base, filtered, Base, var, literal, list, mapping, paren, call, Bases, no_bases, base_then, Items, no_items, item_then, Arguments, no_arguments, arguments}
-use Rattle.upon_types.specs.Path.{Access, by_index, by_key, LoopVars, item, key_value}
-use Rattle.upon_types.specs.Tree.{Statement, raw, inline_expr, include, if_else, for_loop, with, Statements, no_statements, statement_then, Else, no_else, otherwise}
+use Rattle.upon_types.specs.Path.{Access, by_index, by_key}
+use Rattle.upon_types.specs.BlockKinds.{block_names, opened_kind, may_have_else}
+use Rattle.upon_types.specs.Tree.{Statement, raw, inline_expr, include, block, Statements, no_statements, statement_then, Else, no_else, otherwise}
 use Rattle.upon_types.specs.Val.{Val, map_val, entry_at}
 use Rattle.upon_meaning_spec.specs.Engine.{Template, Table}
 
@@ -24,11 +25,10 @@ abbrev pub Hides : List ℕ → Start → Type 0
 Hides word (a_name name) = word ≡ name
 Hides word an_index = ⊥
 
--- in a loop's body it is bound, by a variable or as the loop's state
-abbrev pub LoopHides : LoopVars → Start → Type 0
-LoopHides (item word) start = Hides (codes "loop") start ⊎ Hides word.text start
-LoopHides (key_value key value both) start =
-    Hides (codes "loop") start ⊎ (Hides key.text start ⊎ Hides value.text start)
+-- a binding of one of the words does
+abbrev pub OneHides : List (List ℕ) → Start → Type 0
+OneHides [] start = ⊥
+OneHides (word ∷ words) start = Hides word start ⊎ OneHides words start
 
 -- it begins a path in an expression
 abbrev mutual
@@ -73,22 +73,20 @@ abbrev mutual
   StatementBegins start (raw span) = ⊥
   StatementBegins start (inline_expr e span) = ExpressionBegins start e
   StatementBegins start (include word value) = GivenBegins start value
-  StatementBegins start (if_else negated e body other) = ExpressionBegins start e ⊎
-      (StatementsBegin start body ⊎ ElseBegins start other)
-  StatementBegins start (for_loop names e body other) = ExpressionBegins start e ⊎
-      (((LoopHides names start → ⊥) × StatementsBegin start body) ⊎ ElseBegins start other)
-  StatementBegins start (with e word body) = ExpressionBegins start e ⊎
-      ((Hides word.text start → ⊥) × StatementsBegin start body)
+  StatementBegins start (block opening e body other) = ExpressionBegins start e ⊎
+      (((OneHides (block_names opening) start → ⊥) × StatementsBegin start body)
+      ⊎ ElseBegins start other (may_have_else (opened_kind opening)))
 
   -- in statements
   pub StatementsBegin : Start → Statements → Type 0
   StatementsBegin start no_statements = ⊥
   StatementsBegin start (statement_then t ts) = StatementBegins start t ⊎ StatementsBegin start ts
 
-  -- in the other branch of an `if` or a `for`, which is outside of the loop's names
-  pub ElseBegins : Start → Else → Type 0
-  ElseBegins start no_else = ⊥
-  ElseBegins start (otherwise body) = StatementsBegin start body
+  -- in the other branch of a block, if it may have one, which is outside of what the block binds
+  pub ElseBegins : Start → Else → Bool → Type 0
+  ElseBegins start no_else may = ⊥
+  ElseBegins start (otherwise body) false = ⊥
+  ElseBegins start (otherwise body) true = StatementsBegin start body
 
 -- an include of this name, without a value, is in the tree, outside of what binds it
 abbrev mutual
@@ -98,20 +96,20 @@ abbrev mutual
   StatementPasses start via (inline_expr e span) = ⊥
   StatementPasses start via (include word None) = word.text ≡ via
   StatementPasses start via (include word (Some e)) = ⊥
-  StatementPasses start via (if_else negated e body other) = StatementsPass start via body ⊎ ElsePasses start via other
-  StatementPasses start via (for_loop names e body other) =
-      ((LoopHides names start → ⊥) × StatementsPass start via body) ⊎ ElsePasses start via other
-  StatementPasses start via (with e word body) = (Hides word.text start → ⊥) × StatementsPass start via body
+  StatementPasses start via (block opening e body other) =
+      ((OneHides (block_names opening) start → ⊥) × StatementsPass start via body)
+      ⊎ ElsePasses start via other (may_have_else (opened_kind opening))
 
   -- in statements
   pub StatementsPass : Start → List ℕ → Statements → Type 0
   StatementsPass start via no_statements = ⊥
   StatementsPass start via (statement_then t ts) = StatementPasses start via t ⊎ StatementsPass start via ts
 
-  -- in the other branch of an `if` or a `for`, which is outside of the loop's names
-  pub ElsePasses : Start → List ℕ → Else → Type 0
-  ElsePasses start via no_else = ⊥
-  ElsePasses start via (otherwise body) = StatementsPass start via body
+  -- in the other branch of a block, if it may have one, which is outside of what the block binds
+  pub ElsePasses : Start → List ℕ → Else → Bool → Type 0
+  ElsePasses start via no_else may = ⊥
+  ElsePasses start via (otherwise body) false = ⊥
+  ElsePasses start via (otherwise body) true = StatementsPass start via body
 
 -- the tree passes it to the first of these templates, which the table holds, that one to the next, and so on to the
 -- last, where it begins a path

@@ -2,14 +2,16 @@
 use Rattle.std.proofs.Common.{◌≡◌, ◌⊎◌, ◌↔◌, ℕ, ◌+◌, List, [], ◌∷◌, ◌++◌, length, Some, None, true, false, ◌||◌, inl, inr, refl, sym, ◌∙◌, bytes_eq}
 use Rattle.std.specs.List.{list_any}
 use Rattle.upon_types.specs.Expression.{Expression, base, filtered, Base, var, literal, list, mapping, paren, call, Bases, no_bases, base_then, Items, no_items, item_then, Arguments, no_arguments, arguments, expression_span}
-use Rattle.upon_types.specs.Path.{Access, by_index, by_key, LoopVars, item, key_value}
-use Rattle.upon_types.specs.Tree.{Statement, raw, inline_expr, include, if_else, for_loop, with, Statements, no_statements, statement_then, Else, no_else, otherwise}
-use Rattle.upon_meaning_spec.specs.Needs.{an_index, IsStart, LoopHides, ExpressionBegins, BaseBegins, BasesBegin, ItemsBegin, ArgumentsBegin, StatementBegins, StatementsBegin, ElseBegins, StatementPasses, StatementsPass, ElsePasses}
-use Rattle.upon_machine_spec.specs.Code.{expression_code, base_code, bases_code, arguments_code, list_code, map_code, emission_code, base_emission_code, else_start, else_part, if_code, for_code, statement_code, statements_code, else_code, program_of}
-use Rattle.upon_machine_spec.specs.Instr.{Instr, jump, emit, with_start, with_end, expr_list_push, expr_map_insert}
-use Rattle.upon_machine_spec.specs.Instr.{include_with as enter_with}
+use Rattle.upon_types.specs.Path.{Access, by_index, by_key}
+use Rattle.upon_types.specs.BlockKinds.{block_names}
+use Rattle.upon_types.specs.Tree.{Statement, raw, inline_expr, include, block, Statements, no_statements, statement_then, Else, no_else, otherwise}
+use Rattle.upon_meaning_spec.specs.Needs.{an_index, IsStart, OneHides, ExpressionBegins, BaseBegins, BasesBegin, ItemsBegin, ArgumentsBegin, StatementBegins, StatementsBegin, ElseBegins, StatementPasses, StatementsPass, ElsePasses}
+use Rattle.upon_machine_spec.specs.Code.{expression_code, base_code, bases_code, arguments_code, list_code, map_code, emission_code, base_emission_code, body_start, block_code, statement_code, statements_code, else_code, program_of}
+use Rattle.upon_machine_spec.specs.Instr.{Instr, emit, expr_start_var, expr_list_push, expr_map_insert}
+use Rattle.upon_machine_spec.specs.Instr.{include as enter, include_with as enter_with}
 use Rattle.upon_machine_spec.specs.ProgramNames.{is_this, plain_include, IsListed}
 use Rattle.upon_machine_spec.proofs.Walks.{either}
+use Rattle.upon_machine_spec.proofs.BlockCode.{IsOfBlock, past_body, block_any}
 use Rattle.upon_machine_spec.proofs.NamesOfExpressions.{of_expression, of_emission, none, this_name, joined, with_last, after_none, g, nothing_passes}
 use Rattle.upon_machine_spec.proofs.NamesOfTree.{listed}
 use Rattle.upon_needs.specs.IndexStarts.{is_index, has_index, begins_by_index, plain_includes}
@@ -18,13 +20,18 @@ or_none : {P : Type 0} → P ⊎ ⊥ → P
 or_none (inl p) = p
 or_none (inr h) = absurd h
 
--- no loop binds an index
-unhidden : (names : LoopVars) → LoopHides names an_index → ⊥
-unhidden (item word) (inl h) = h
-unhidden (item word) (inr h) = h
-unhidden (key_value key value both) (inl h) = h
-unhidden (key_value key value both) (inr (inl h)) = h
-unhidden (key_value key value both) (inr (inr h)) = h
+none_begins : (branch : Else) → ElseBegins an_index branch false → ⊥
+none_begins no_else h = h
+none_begins (otherwise body) h = h
+
+-- no block binds an index
+none_hides : (names : List (List ℕ)) → OneHides names an_index → ⊥
+none_hides [] h = h
+none_hides (name ∷ names) (inl h) = h
+none_hides (name ∷ names) (inr h) = none_hides names h
+
+unhidden : (names : List (List ℕ)) {E P : Type 0} → (E ↔ P) → E ↔ ((OneHides names an_index → ⊥) × P)
+unhidden names w = (λ h. (none_hides names, w.0 h), λ h. w.1 h.1)
 
 -- where indexes begin paths
 access_begins : (access : Access) → ((is_index access || false) ≡ true) ↔ IsStart an_index access
@@ -73,40 +80,23 @@ mutual
   base_emission_begins (list bases span) = with_last has_index (base_code (list bases span)) emit refl (base_begins (list bases span))
   base_emission_begins (mapping items span) = with_last has_index (base_code (mapping items span)) emit refl (base_begins (mapping items span))
 
+starts_no_path : (i : Instr) → IsOfBlock i → has_index i ≡ false
+starts_no_path (expr_start_var first rest) own = absurd own
+starts_no_path _ own = refl
+
 mutual
   statement_begins : (at : ℕ) (t : Statement) → (list_any has_index (statement_code at t) ≡ true) ↔ StatementBegins an_index t
   statement_begins at (raw span) = none
   statement_begins at (inline_expr e span) = emission_begins e
   statement_begins at (include word None) = none
   statement_begins at (include word (Some e)) = with_last has_index (expression_code e) (enter_with word) refl (expression_begins e)
-  statement_begins at (if_else true e body branch) =
+  statement_begins at (block opening e body branch) =
       let from : ℕ = at + length (expression_code e) in
-      let inner : List Instr = statements_code (from + 1) body in
-      let other : List Instr = else_code (else_start branch (from + 1 + length inner)) branch in
-      joined has_index (expression_code e) (if_code true branch from inner other) (expression_begins e) (joined has_index inner (else_part branch (from + 1 + length inner) other) (statements_begin (from + 1) body) (else_begins (from + 1 + length inner) branch))
-  statement_begins at (if_else false e body branch) =
-      let from : ℕ = at + length (expression_code e) in
-      let inner : List Instr = statements_code (from + 1) body in
-      let other : List Instr = else_code (else_start branch (from + 1 + length inner)) branch in
-      joined has_index (expression_code e) (if_code false branch from inner other) (expression_begins e) (joined has_index inner (else_part branch (from + 1 + length inner) other) (statements_begin (from + 1) body) (else_begins (from + 1 + length inner) branch))
-  statement_begins at (for_loop names e body no_else) =
-      let from : ℕ = at + length (expression_code e) in
-      let inner : List Instr = statements_code (from + 1 + 1) body in
-      let whole = with_last has_index inner (jump (from + 1)) refl (statements_begin (from + 1 + 1) body) in
-      joined has_index (expression_code e) (for_code no_else names (expression_span e) from inner []) (expression_begins e) (λ h. inl (unhidden names, whole.0 h), λ h. whole.1 (or_none h).1)
-  statement_begins at (for_loop names e body (otherwise branch)) =
-      let from : ℕ = at + length (expression_code e) in
-      let inner : List Instr = statements_code (from + 1 + 1) body in
-      let to : ℕ = from + 1 + 1 + length inner + 1 in
-      let other : List Instr = statements_code to branch in
-      let whole = statements_begin (from + 1 + 1) body in
-      joined has_index (expression_code e) (for_code (otherwise branch) names (expression_span e) from inner other) (expression_begins e)
-      (joined has_index inner (jump (from + 1) ∷ other) (λ h. (unhidden names, whole.0 h), λ h. whole.1 h.1) (statements_begin to branch))
-  statement_begins at (with e word body) =
-      let from : ℕ = at + length (expression_code e) in
-      let inner : List Instr = statements_code (from + 1) body in
-      let whole = with_last has_index inner with_end refl (statements_begin (from + 1) body) in
-      joined has_index (expression_code e) (with_start word ∷ (inner ++ with_end ∷ [])) (expression_begins e) (λ h. (λ k. k, whole.0 h), λ h. whole.1 h.1)
+      let inner : List Instr = statements_code (body_start opening from) body in
+      let to : ℕ = past_body opening branch from inner in
+      joined has_index (expression_code e) (block_code opening branch (expression_span e) from inner (else_code to branch)) (expression_begins e)
+      (block_any has_index starts_no_path opening branch (expression_span e) from inner ((OneHides (block_names opening) an_index → ⊥) × StatementsBegin an_index body) (ElseBegins an_index branch) (none_begins branch)
+      (unhidden (block_names opening) (statements_begin (body_start opening from) body)) (else_begins to branch))
 
   statements_begin : (at : ℕ) (ts : Statements) → (list_any has_index (statements_code at ts) ≡ true) ↔ StatementsBegin an_index ts
   statements_begin at no_statements = none
@@ -114,9 +104,9 @@ mutual
       let first : List Instr = statement_code at t in
       joined has_index first (statements_code (at + length first) ts) (statement_begins at t) (statements_begin (at + length first) ts)
 
-  else_begins : (at : ℕ) (branch : Else) → (list_any has_index (else_part branch at (else_code (else_start branch at) branch)) ≡ true) ↔ ElseBegins an_index branch
+  else_begins : (at : ℕ) (branch : Else) → (list_any has_index (else_code at branch) ≡ true) ↔ ElseBegins an_index branch true
   else_begins at no_else = none
-  else_begins at (otherwise body) = statements_begin (at + 1) body
+  else_begins at (otherwise body) = statements_begin at body
 
 pub tree_begins_by_index : (tree : Statements) → (begins_by_index (program_of tree) ≡ true) ↔ StatementsBegin an_index tree
 tree_begins_by_index tree = statements_begin 0 tree
@@ -125,6 +115,14 @@ tree_begins_by_index tree = statements_begin 0 tree
 module _ (via : List ℕ) where
   after_expression : (e : Expression) (c : List Instr) {P : Type 0} → ((list_any (g via) c ≡ true) ↔ P) → (list_any (g via) (expression_code e ++ c) ≡ true) ↔ P
   after_expression e c = after_none (g via) (expression_code e) c (nothing_passes via (expression_code e) (of_expression e))
+
+  none_passes : (branch : Else) → ElsePasses an_index via branch false → ⊥
+  none_passes no_else h = h
+  none_passes (otherwise body) h = h
+
+  includes_nothing : (i : Instr) → IsOfBlock i → g via i ≡ false
+  includes_nothing (enter word) own = absurd own
+  includes_nothing _ own = refl
 
   one_include : (word : List ℕ) → ((is_this via (Some word) || false) ≡ true) ↔ (word ≡ via)
   one_include word = let last = either (bytes_eq via word) false (this_name via word) none in (λ e. or_none (last.0 e), λ h. last.1 (inl h))
@@ -135,34 +133,13 @@ module _ (via : List ℕ) where
     statement_passes at (inline_expr e span) = (λ h. none.0 (sym (nothing_passes via (emission_code e) (of_emission e)) ∙ h), λ h. absurd h)
     statement_passes at (include word None) = one_include word.text
     statement_passes at (include word (Some e)) = after_expression e (enter_with word ∷ []) none
-    statement_passes at (if_else true e body branch) =
+    statement_passes at (block opening e body branch) =
         let from : ℕ = at + length (expression_code e) in
-        let inner : List Instr = statements_code (from + 1) body in
-        let other : List Instr = else_code (else_start branch (from + 1 + length inner)) branch in
-        after_expression e (if_code true branch from inner other) (joined (g via) inner (else_part branch (from + 1 + length inner) other) (statements_pass (from + 1) body) (else_passes (from + 1 + length inner) branch))
-    statement_passes at (if_else false e body branch) =
-        let from : ℕ = at + length (expression_code e) in
-        let inner : List Instr = statements_code (from + 1) body in
-        let other : List Instr = else_code (else_start branch (from + 1 + length inner)) branch in
-        after_expression e (if_code false branch from inner other) (joined (g via) inner (else_part branch (from + 1 + length inner) other) (statements_pass (from + 1) body) (else_passes (from + 1 + length inner) branch))
-    statement_passes at (for_loop names e body no_else) =
-        let from : ℕ = at + length (expression_code e) in
-        let inner : List Instr = statements_code (from + 1 + 1) body in
-        let whole = with_last (g via) inner (jump (from + 1)) refl (statements_pass (from + 1 + 1) body) in
-        after_expression e (for_code no_else names (expression_span e) from inner []) (λ h. inl (unhidden names, whole.0 h), λ h. whole.1 (or_none h).1)
-    statement_passes at (for_loop names e body (otherwise branch)) =
-        let from : ℕ = at + length (expression_code e) in
-        let inner : List Instr = statements_code (from + 1 + 1) body in
-        let to : ℕ = from + 1 + 1 + length inner + 1 in
-        let other : List Instr = statements_code to branch in
-        let whole = statements_pass (from + 1 + 1) body in
-        after_expression e (for_code (otherwise branch) names (expression_span e) from inner other)
-        (joined (g via) inner (jump (from + 1) ∷ other) (λ h. (unhidden names, whole.0 h), λ h. whole.1 h.1) (statements_pass to branch))
-    statement_passes at (with e word body) =
-        let from : ℕ = at + length (expression_code e) in
-        let inner : List Instr = statements_code (from + 1) body in
-        let whole = with_last (g via) inner with_end refl (statements_pass (from + 1) body) in
-        after_expression e (with_start word ∷ (inner ++ with_end ∷ [])) (λ h. (λ k. k, whole.0 h), λ h. whole.1 h.1)
+        let inner : List Instr = statements_code (body_start opening from) body in
+        let to : ℕ = past_body opening branch from inner in
+        after_expression e (block_code opening branch (expression_span e) from inner (else_code to branch))
+        (block_any (g via) includes_nothing opening branch (expression_span e) from inner ((OneHides (block_names opening) an_index → ⊥) × StatementsPass an_index via body) (ElsePasses an_index via branch) (none_passes branch)
+        (unhidden (block_names opening) (statements_pass (body_start opening from) body)) (else_passes to branch))
 
     statements_pass : (at : ℕ) (ts : Statements) → (list_any (g via) (statements_code at ts) ≡ true) ↔ StatementsPass an_index via ts
     statements_pass at no_statements = none
@@ -170,9 +147,9 @@ module _ (via : List ℕ) where
         let first : List Instr = statement_code at t in
         joined (g via) first (statements_code (at + length first) ts) (statement_passes at t) (statements_pass (at + length first) ts)
 
-    else_passes : (at : ℕ) (branch : Else) → (list_any (g via) (else_part branch at (else_code (else_start branch at) branch)) ≡ true) ↔ ElsePasses an_index via branch
+    else_passes : (at : ℕ) (branch : Else) → (list_any (g via) (else_code at branch) ≡ true) ↔ ElsePasses an_index via branch true
     else_passes at no_else = none
-    else_passes at (otherwise body) = statements_pass (at + 1) body
+    else_passes at (otherwise body) = statements_pass at body
 
   pub tree_passes_index : (tree : Statements) → IsListed (plain_includes (program_of tree)) via ↔ StatementsPass an_index via tree
   tree_passes_index tree = let w = statements_pass 0 tree in let same = listed plain_include via (program_of tree) in (λ e. w.0 (sym same ∙ e), λ h. same ∙ w.1 h)

@@ -1,10 +1,11 @@
 -- Searches along links from template to template: what is seen in the end, and what is needed by that.
 use Rattle.std.proofs.Common.{◌≡◌, ◌⊎◌, ◌↔◌, ℕ, List, [], ◌∷◌, ◌++◌, Option, Some, None, Bool, true, false, ◌||◌, is_some, Bor, bytes_eq, inl, inr, refl, sym, ap, ◌∙◌, subst}
 use Rattle.std.specs.List.{list_any}
-use Rattle.upon_types.specs.Tree.{Statement, raw, inline_expr, include, if_else, for_loop, with, Statements, no_statements, statement_then, Else, no_else, otherwise}
+use Rattle.upon_types.specs.Tree.{Statements}
 use Rattle.upon_meaning_spec.specs.Engine.{Table, Template}
-use Rattle.upon_meaning_spec.specs.Includes.{StatementIncludes, Includes, ElseIncludes, ReachesBy, Reaches}
-use Rattle.upon_meaning_spec.specs.Needs.{Start, a_name, StatementsBegin, StatementPasses, StatementsPass, ElsePasses, NeedsBy, Needs, NeedsName}
+use Rattle.upon_meaning_spec.specs.Includes.{ReachesBy, Reaches}
+use Rattle.upon_meaning_spec.specs.Needs.{a_name, StatementsBegin, StatementsPass, NeedsBy, Needs, NeedsName}
+use Rattle.upon_meaning_spec.proofs.WhatIsNeeded.LessThanRead.{statements_include}
 use Rattle.upon_machine_spec.specs.ProgramNames.{IsListed}
 use Rattle.upon_needs.specs.EngineNeeds.{start_of, link, LinkedBy, Linked, HeldBegins, OneBegins, Searched, Marked}
 use Rattle.upon_needs.specs.declared.needs.Links.{Links}
@@ -144,29 +145,6 @@ module _ (table : Table) where
 
   pub linked_reached : (tree : Statements) (name : List ℕ) → Linked table All tree name ↔ Reaches table tree name
   linked_reached tree name = (λ h. (h.0, to_reached tree h.0 name h.1), λ h. (h.0, from_reached tree h.0 name h.1))
-
--- what is passed on is included
-module _ (start : Start) (via : List ℕ) where
-  mutual
-    statement_includes : (t : Statement) → StatementPasses start via t → StatementIncludes via t
-    statement_includes (raw span) h = h
-    statement_includes (inline_expr e span) h = h
-    statement_includes (include word None) h = h
-    statement_includes (include word (Some e)) h = absurd h
-    statement_includes (if_else negated e body other) (inl h) = inl (statements_include body h)
-    statement_includes (if_else negated e body other) (inr h) = inr (else_includes other h)
-    statement_includes (for_loop names e body other) (inl h) = inl (statements_include body h.1)
-    statement_includes (for_loop names e body other) (inr h) = inr (else_includes other h)
-    statement_includes (with e word body) h = statements_include body h.1
-
-    statements_include : (ts : Statements) → StatementsPass start via ts → Includes via ts
-    statements_include no_statements h = h
-    statements_include (statement_then t ts) (inl h) = inl (statement_includes t h)
-    statements_include (statement_then t ts) (inr h) = inr (statements_include ts h)
-
-    else_includes : (other : Else) → ElsePasses start via other → ElseIncludes via other
-    else_includes no_else h = h
-    else_includes (otherwise body) h = statements_include body h
 
 module _ (table : Table) (start : PathStart) where
   all_linked : (tree : Statements) (names : List (List ℕ)) (name : List ℕ) → LinkedBy table (Passing start) tree names name → ReachesBy table tree names name

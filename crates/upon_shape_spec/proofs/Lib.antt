@@ -11,6 +11,7 @@ pub mod ExpressionsFit
 pub mod ShownWell
 pub mod NarrowedFit
 pub mod ScopesFit
+pub mod BranchesFit
 pub mod TemplatesFit
 pub mod IncludesFit
 pub mod NoDoubts

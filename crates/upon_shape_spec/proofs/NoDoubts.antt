@@ -1,16 +1,16 @@
 -- What is accepted is in no doubt, and what is in no doubt is accepted.
-use Rattle.std.proofs.Common.{◌≡◌, ℕ, List, [], ◌∷◌, ◌++◌, Bool, true, false, not, ◌↔◌, Option, Some, None, option_map, option_and_then, refl}
+use Rattle.std.proofs.Common.{◌≡◌, ℕ, List, [], ◌∷◌, ◌++◌, Bool, true, false, ◌↔◌, Option, Some, None, option_map, option_and_then, refl}
 use Rattle.upon_types.specs.declared.types.Span.{Span}
 use Rattle.upon_types.specs.Expression.{Expression, base, filtered, Base, var, literal, list, mapping, paren, call, Bases, no_bases, base_then, Items, no_items, item_then, Arguments, no_arguments, arguments, expression_span}
 use Rattle.upon_types.specs.Path.{Member}
-use Rattle.upon_types.specs.Tree.{Statement, raw, inline_expr, include, if_else, for_loop, with, Statements, no_statements, statement_then, Else, no_else, otherwise}
-use Rattle.upon_shape_spec.specs.Accepted.{OnSome, loop_names, iteration_names, StatementAccepted, StatementsAccepted, ElseAccepted}
+use Rattle.upon_types.specs.BlockKinds.{opened_kind, may_have_else}
+use Rattle.upon_types.specs.Tree.{Statement, raw, inline_expr, include, block, Statements, no_statements, statement_then, Else, no_else, otherwise}
+use Rattle.upon_shape_spec.specs.Accepted.{OnSome, Branches, branches, StatementAccepted, StatementsAccepted, ElseAccepted}
 use Rattle.upon_shape_spec.specs.Declared.{DeclaredCallable, gives_by, formats, Declared}
-use Rattle.upon_shape_spec.specs.Doubts.{Unsure, Doubt, doubt, has_items, unless, if_none, if_some, after_found, walk_doubts, bound_doubts, bound_or_root_doubts, given_doubts, expression_doubts, base_doubts, bases_doubts, items_doubts, arguments_doubts, shown_value_doubts, shown_call_doubts, text_doubts, shown_doubts, base_shown_doubts, items_in_doubt, or_never, or_names, bound_names, statement_doubts, statements_doubts, else_doubts}
+use Rattle.upon_shape_spec.specs.Doubts.{Unsure, Doubt, doubt, has_items, unless, if_none, if_some, after_found, walk_doubts, bound_doubts, bound_or_root_doubts, given_doubts, expression_doubts, base_doubts, bases_doubts, items_doubts, arguments_doubts, shown_value_doubts, shown_call_doubts, text_doubts, shown_doubts, base_shown_doubts, or_never, or_names, statement_doubts, statements_doubts, else_doubts}
 use Rattle.upon_shape_spec.specs.ExpressionShapes.{join_all, value_given, call_shape, is_taken, is_formatted, shows_given, shows_call, shape_then, expression_shape, base_shape, arguments_shapes, bases_shapes, items_keys, is_shown, base_is_shown}
-use Rattle.upon_shape_spec.specs.Narrowed.{tested_scope}
 use Rattle.upon_shape_spec.specs.Paths.{MemberShape, may_fail, finds, may_miss, member_shape, after_member_shape, walk_shape}
-use Rattle.upon_shape_spec.specs.Scope.{BoundShape, value_of, loop_key, a_loop, NameShape, Scope, name_shape, scope_over, with_names, bound_shape_of, state_shape, bound_walk_shape, bound_or_root_shape}
+use Rattle.upon_shape_spec.specs.Scope.{BoundShape, value_of, loop_key, a_loop, NameShape, Scope, scope_over, bound_shape_of, state_shape, bound_walk_shape, bound_or_root_shape}
 use Rattle.upon_shape_spec.specs.Shape.{Shape, never, Keys, key_then, optional, list_of, map_of, no_others, keys_without}
 use Rattle.upon_shape_spec.specs.Wider.{wider}
 
@@ -178,9 +178,9 @@ module _ (declared : Declared) (scope : Scope) where
     base_shown_same (mapping items span) = text_same span (base_doubts declared scope (mapping items span)) (base_shape declared scope (mapping items span)) (base_same (mapping items span))
 
 -- ---- statements
-loop_same : {Q : Type 0} (at : Span) (s : Shape) (o others : Option (List NameShape)) (go : List NameShape → List Doubt) (es : List Doubt) (P : List NameShape → Type 0) → ((bs : List NameShape) → Sure (go bs) ↔ P bs) → (Sure es ↔ Q) → Sure (if_none o (doubt at (has_items s)) ++ (go (or_names o others) ++ es)) ↔ (OnSome o P × Q)
-loop_same at s None others go es P f q = (λ h. absurd h, λ h. absurd h.0)
-loop_same at s (Some bs) others go es P f q = both_same (go bs) es (f bs) q
+turns_same : {Q : Type 0} (at : Span) (s : Shape) (o others : Option (List NameShape)) (go : List NameShape → List Doubt) (es : List Doubt) (P : List NameShape → Type 0) → ((bs : List NameShape) → Sure (go bs) ↔ P bs) → (Sure es ↔ Q) → Sure (if_none o (doubt at (has_items s)) ++ (go (or_names o others) ++ es)) ↔ (OnSome o P × Q)
+turns_same at s None others go es P f q = (λ h. absurd h, λ h. absurd h.0)
+turns_same at s (Some bs) others go es P f q = both_same (go bs) es (f bs) q
 
 module _ (declared : Declared) (included : List ℕ → Scope → Bool) where
   abbrev Included : List ℕ → Scope → Type 0
@@ -194,31 +194,24 @@ module _ (declared : Declared) (included : List ℕ → Scope → Bool) where
     statement_same scope (include word (Some e)) =
         some_same (expression_doubts declared scope e) (expression_shape declared scope e) _ (λ s. Included word.text (scope_over s)) (expression_same declared scope e)
         (λ s. unless_same (included word.text (scope_over s)) word.span _)
-    statement_same scope (if_else negated e body other) =
+    statement_same scope (block opening e body other) =
+        let b : Branches = branches opening e scope in
+        let may : Bool = may_have_else (opened_kind opening) in
+        let inner = λ (bs : List NameShape). statements_doubts declared included (b.body bs) body in
+        let es : List Doubt = else_doubts declared included b.other may other in
         told_same (expression_doubts declared scope e) (expression_shape declared scope e)
-        (λ o. statements_doubts declared included (tested_scope (not negated) e scope) body ++ else_doubts declared included (tested_scope negated e scope) other)
-        (λ s. StatementsAccepted declared Included (tested_scope (not negated) e scope) body × ElseAccepted declared Included (tested_scope negated e scope) other) (expression_same declared scope e)
-        (λ s. both_same (statements_doubts declared included (tested_scope (not negated) e scope) body) (else_doubts declared included (tested_scope negated e scope) other) (statements_same (tested_scope (not negated) e scope) body) (else_same (tested_scope negated e scope) other))
-    statement_same scope (for_loop names e body other) =
-        let inner = λ (bs : List NameShape). statements_doubts declared included (with_names (iteration_names bs) scope) body in
-        let loop = λ (s : Shape). items_in_doubt (expression_span e) names s ++ (inner (bound_names names s) ++ else_doubts declared included scope other) in
-        told_same (expression_doubts declared scope e) (expression_shape declared scope e) (λ o. loop (or_never o))
-        (λ s. OnSome (loop_names names s) (λ bs. StatementsAccepted declared Included (with_names (iteration_names bs) scope) body) × ElseAccepted declared Included scope other) (expression_same declared scope e)
-        (λ s. loop_same (expression_span e) s (loop_names names s) (loop_names names never) inner (else_doubts declared included scope other) (λ bs. StatementsAccepted declared Included (with_names (iteration_names bs) scope) body)
-        (λ bs. statements_same (with_names (iteration_names bs) scope) body) (else_same scope other))
-    statement_same scope (with e word body) =
-        told_same (expression_doubts declared scope e) (expression_shape declared scope e)
-        (λ o. statements_doubts declared included (with_names (name_shape word.text (value_of (or_never o)) ∷ []) scope) body)
-        (λ s. StatementsAccepted declared Included (with_names (name_shape word.text (value_of s) ∷ []) scope) body) (expression_same declared scope e)
-        (λ s. statements_same (with_names (name_shape word.text (value_of s) ∷ []) scope) body)
+        (λ o. if_none (b.names (or_never o)) (doubt (expression_span e) (has_items (or_never o))) ++ (inner (or_names (b.names (or_never o)) (b.names never)) ++ es))
+        (λ s. OnSome (b.names s) (λ bs. StatementsAccepted declared Included (b.body bs) body) × ElseAccepted declared Included b.other may other) (expression_same declared scope e)
+        (λ s. turns_same (expression_span e) s (b.names s) (b.names never) inner es (λ bs. StatementsAccepted declared Included (b.body bs) body) (λ bs. statements_same (b.body bs) body) (else_same b.other may other))
 
     pub statements_same : (scope : Scope) (ts : Statements) → Sure (statements_doubts declared included scope ts) ↔ StatementsAccepted declared Included scope ts
     statements_same scope no_statements = same
     statements_same scope (statement_then t ts) = both_same (statement_doubts declared included scope t) (statements_doubts declared included scope ts) (statement_same scope t) (statements_same scope ts)
 
-    else_same : (scope : Scope) (t : Else) → Sure (else_doubts declared included scope t) ↔ ElseAccepted declared Included scope t
-    else_same scope no_else = same
-    else_same scope (otherwise body) = statements_same scope body
+    else_same : (scope : Scope) (may : Bool) (t : Else) → Sure (else_doubts declared included scope may t) ↔ ElseAccepted declared Included scope may t
+    else_same scope false t = same
+    else_same scope true no_else = same
+    else_same scope true (otherwise body) = statements_same scope body
 
 -- ---- no doubt, as an equation
 none_is_sure : (ds : List Doubt) → (ds ≡ []) ↔ Sure ds

@@ -1,30 +1,30 @@
 -- What is accepted ends well where includes end well.
-use Rattle.std.proofs.Common.{◌≡◌, ℕ, ◌+◌, List, [], ◌∷◌, length, Bool, true, false, not, Option, Some, None, refl, sym, subst, codes}
+use Rattle.std.proofs.Common.{◌≡◌, ℕ, List, [], ◌∷◌, Bool, true, false, Option, Some, None, IfSome, refl, sym, subst}
 use Rattle.upon_types.specs.Expression.{Expression, expression_span}
 use Rattle.upon_types.specs.Path.{Ident}
-use Rattle.upon_types.specs.Tree.{Statement, raw, inline_expr, include, if_else, for_loop, with, Statements, no_statements, statement_then, Else, no_else, otherwise}
+use Rattle.upon_types.specs.BlockKinds.{opened_kind, may_have_else}
+use Rattle.upon_types.specs.Tree.{Statement, raw, inline_expr, include, block, Statements, no_statements, statement_then, Else, no_else, otherwise}
 use Rattle.upon_types.specs.Truth.{truth}
 use Rattle.upon_types.specs.Val.{Val}
-use Rattle.upon_lookup.specs.Environment.{Binding, Environment, binding, alone_over, with_name, iteration, loop_state, plain}
+use Rattle.upon_lookup.specs.Environment.{Binding, Environment, bind_all, alone_over}
 use Rattle.upon_lookup.specs.Finding.{Finding, found, at_fault}
-use Rattle.upon_lookup.specs.Items.{items_of}
 use Rattle.upon_meaning_spec.specs.Emission.{emit}
 use Rattle.upon_meaning_spec.specs.Engine.{Calls}
 use Rattle.upon_meaning_spec.specs.Evaluation.{Operand, evaluate}
-use Rattle.upon_meaning_spec.specs.Meaning.{RunningTemplate, ends_in, Inclusion, Body, on_value, choose, each, each_or, statement_means, statements_mean, else_means}
+use Rattle.upon_meaning_spec.specs.Meaning.{RunningTemplate, ends_in, Inclusion, Body, on_value, turns, each, each_or, statement_means, statements_mean, else_means}
 use Rattle.upon_meaning_spec.specs.Outcome.{End, good, fails, too_deep, Outcome, States, states, go_on, then_do}
-use Rattle.upon_shape_spec.specs.Accepted.{OnSome, loop_names, iteration_names, StatementAccepted, StatementsAccepted, ElseAccepted}
+use Rattle.upon_shape_spec.specs.Accepted.{OnSome, Branches, branches, StatementAccepted, StatementsAccepted, ElseAccepted}
 use Rattle.upon_shape_spec.specs.Declared.{Declared, KeepsDeclared}
 use Rattle.upon_shape_spec.specs.Ends.{EndsWell}
 use Rattle.upon_shape_spec.specs.ExpressionShapes.{expression_shape}
 use Rattle.upon_shape_spec.specs.Fits.{Fits}
 use Rattle.upon_shape_spec.specs.Found.{Finds, ComesTo}
-use Rattle.upon_shape_spec.specs.Narrowed.{true_scope, tested_scope}
-use Rattle.upon_shape_spec.specs.Scope.{value_of, NameShape, Scope, name_shape, scope_over, with_names, ScopeFits}
+use Rattle.upon_shape_spec.specs.Narrowed.{true_scope}
+use Rattle.upon_shape_spec.specs.Scope.{NameShape, Scope, scope_over, ScopeFits}
 use Rattle.upon_shape_spec.specs.Shape.{Shape}
 use Rattle.upon_shape_spec.proofs.ExpressionsFit.{expression_comes}
 use Rattle.upon_shape_spec.proofs.NarrowedFit.{true_fits}
-use Rattle.upon_shape_spec.proofs.ScopesFit.{more_names, ItemsFit, LoopFits, loop_fits}
+use Rattle.upon_shape_spec.proofs.BranchesFit.{EachTurnFits, TurnsFit, turns_fit}
 use Rattle.upon_shape_spec.proofs.ShownWell.{emission_well}
 
 -- where ends may be so, of which a good one is
@@ -48,26 +48,16 @@ module _ (Fine : End → Type 0) (fine : Fine good) where
   on_value_fine from (Some t) P (found a) s go h p k = k t a p h refl
   on_value_fine from (Some t) P (at_fault f) s go h p k = absurd h
 
-  -- one of two branches, in each of which the scope says what the test found
-  branches_fine : {Q : Type 0} (negated t : Bool) (e : Expression) (scope : Scope) (env : Environment) (f g : Q → Outcome Q) (q : Q) → ScopeFits scope env → (t ≡ true → ScopeFits (true_scope e scope) env) → (ScopeFits (tested_scope (not negated) e scope) env → Fine (f q).end) → (ScopeFits (tested_scope negated e scope) env → Fine (g q).end) → Fine (choose (choose negated (not t) t) f g q).end
-  branches_fine true true e scope env f g q h k a b = b (k refl)
-  branches_fine true false e scope env f g q h k a b = a h
-  branches_fine false true e scope env f g q h k a b = a (k refl)
-  branches_fine false false e scope env f g q h k a b = b h
+  -- the body in turns that fit its scope, or the other branch in its own
+  each_fine : {Q : Type 0} (body : Body Q) (inside : Scope) (env : Environment) → ((env : Environment) (q : Q) → ScopeFits inside env → Fine (body env q).end) → (turns : List (List Binding)) (q : Q) → EachTurnFits inside env turns → Fine (each body turns env q).end
+  each_fine body inside env k [] q h = fine
+  each_fine body inside env k (bs ∷ turns) q h = then_fine (body (bind_all bs env) q) _ (k (bind_all bs env) q h.0) (λ q'. each_fine body inside env k turns q' h.1)
 
-  module _ (scope : Scope) (env : Environment) (fits : ScopeFits scope env) where
-    each_fine : {Q : Type 0} (body : Body Q) (bs : List NameShape) → ((env : Environment) (q : Q) → ScopeFits (with_names (iteration_names bs) scope) env → Fine (body env q).end) → (count index : ℕ) (items : List (List Binding)) → ItemsFit bs items → (q : Q) → Fine (each body count index items env q).end
-    each_fine body bs k count index [] h q = fine
-    each_fine body bs k count index (item ∷ items) h q =
-        then_fine (body (iteration index count item env) q) _
-        (k (iteration index count item env) q (more_names (iteration_names bs) scope.names (binding (codes "loop") (loop_state index count) ∷ item) env.bindings (refl, (tt, h.0)) fits.0, fits.1))
-        (each_fine body bs k count (index + 1) items h.1)
-
-    loop_fine : {Q : Type 0} (from : RunningTemplate) (body other : Body Q) (o : Option (List NameShape)) (P : List NameShape → Type 0) (x : Finding (List (List Binding))) (q : Q) → LoopFits o x → OnSome o P → ((bs : List NameShape) → P bs → (env : Environment) (q : Q) → ScopeFits (with_names (iteration_names bs) scope) env → Fine (body env q).end) → ((q : Q) → Fine (other env q).end) → Fine (each_or body other from x env q).end
-    loop_fine from body other None P x q h p k l = absurd p
-    loop_fine from body other (Some bs) P (found []) q h p k l = l q
-    loop_fine from body other (Some bs) P (found (item ∷ items)) q h p k l = each_fine body bs (k bs p) (length (item ∷ items)) 0 (item ∷ items) h q
-    loop_fine from body other (Some bs) P (at_fault f) q h p k l = absurd h
+  turns_fine : {Q : Type 0} (from : RunningTemplate) (body other : Body Q) (o : Option (List NameShape)) (P : List NameShape → Type 0) (inside : List NameShape → Scope) (outside : Scope) (env : Environment) (x : Finding (List (List Binding))) (q : Q) → OnSome o P → IfSome o (λ bs. TurnsFit (inside bs) outside env x) → ((bs : List NameShape) → P bs → (env : Environment) (q : Q) → ScopeFits (inside bs) env → Fine (body env q).end) → (ScopeFits outside env → Fine (other env q).end) → Fine (each_or body other from x env q).end
+  turns_fine from body other None P inside outside env x q p h k l = absurd p
+  turns_fine from body other (Some bs) P inside outside env (found []) q p h k l = l h
+  turns_fine from body other (Some bs) P inside outside env (found (one ∷ turns)) q p h k l = each_fine body (inside bs) env (k bs p) (one ∷ turns) q h
+  turns_fine from body other (Some bs) P inside outside env (at_fault f) q p h k l = absurd h
 
   -- statements, where includes that are accepted end so
   module _ {V T : Type 0} (calls : Calls V) (declared : Declared) (keeps : KeepsDeclared declared calls.callables calls.default_formatter) (Included : List ℕ → Scope → Type 0) (i : Inclusion V T) (from : RunningTemplate) (includes : (word : Ident) (scope : Scope) (env : Environment) (s : States V T) → Included word.text scope → ScopeFits scope env → Fine (i from word env s).end) where
@@ -87,23 +77,19 @@ module _ (Fine : End → Type 0) (fine : Fine good) where
       statement_fine (include word None) scope env s h fits = includes word scope env s h fits
       statement_fine (include word (Some e)) scope env s h fits =
           in_expression e (λ t. Included word.text (scope_over t)) scope env s _ fits h (λ t a s' x y z. includes word (scope_over t) (alone_over a.value) s' x (λ name. tt, y))
-      statement_fine (if_else negated e body other) scope env s h fits =
-          in_expression e (λ t. StatementsAccepted declared Included (tested_scope (not negated) e scope) body × ElseAccepted declared Included (tested_scope negated e scope) other) scope env s _ fits h
-          (λ t a s' x y z. branches_fine negated (truth a.value) e scope env (statements_mean calls i from body env) (else_means calls i from other env) s' fits (found_true e scope env s.values a fits z)
-          (statements_fine body (tested_scope (not negated) e scope) env s' x.0) (else_fine other (tested_scope negated e scope) env s' x.1))
-      statement_fine (for_loop names e body other) scope env s h fits =
-          in_expression e (λ t. OnSome (loop_names names t) (λ bs. StatementsAccepted declared Included (with_names (iteration_names bs) scope) body) × ElseAccepted declared Included scope other) scope env s _ fits h
-          (λ t a s' x y z. loop_fine scope env fits from (statements_mean calls i from body) (else_means calls i from other) (loop_names names t) (λ bs. StatementsAccepted declared Included (with_names (iteration_names bs) scope) body) (items_of names a.value (expression_span e)) s' (loop_fits names t a.value (expression_span e) y) x.0
-          (λ bs b env' q k. statements_fine body (with_names (iteration_names bs) scope) env' q b k) (λ q. else_fine other scope env q x.1 fits))
-      statement_fine (with e word body) scope env s h fits =
-          in_expression e (λ t. StatementsAccepted declared Included (with_names (name_shape word.text (value_of t) ∷ []) scope) body) scope env s _ fits h
-          (λ t a s' x y z. statements_fine body (with_names (name_shape word.text (value_of t) ∷ []) scope) (with_name word a.value env) s' x
-          (more_names (name_shape word.text (value_of t) ∷ []) scope.names (binding word.text (plain a.value) ∷ []) env.bindings (refl, (y, tt)) fits.0, fits.1))
+      statement_fine (block opening e body other) scope env s h fits =
+          let b : Branches = branches opening e scope in
+          let may : Bool = may_have_else (opened_kind opening) in
+          in_expression e (λ t. OnSome (b.names t) (λ bs. StatementsAccepted declared Included (b.body bs) body) × ElseAccepted declared Included b.other may other) scope env s _ fits h
+          (λ t a s' x y z. turns_fine from (statements_mean calls i from body) (else_means calls i from other may) (b.names t) (λ bs. StatementsAccepted declared Included (b.body bs) body) b.body b.other env (turns opening (expression_span e) a.value) s' x.0
+          (turns_fit scope env fits opening e t a.value (expression_span e) y (found_true e scope env s.values a fits z))
+          (λ bs p env' q k. statements_fine body (b.body bs) env' q p k) (λ k. else_fine other may b.other env s' x.1 k))
 
       pub statements_fine : (ts : Statements) (scope : Scope) (env : Environment) (s : States V T) → StatementsAccepted declared Included scope ts → ScopeFits scope env → Fine (statements_mean calls i from ts env s).end
       statements_fine no_statements scope env s h fits = fine
       statements_fine (statement_then t ts) scope env s h fits = then_fine (statement_means calls i from t env s) _ (statement_fine t scope env s h.0 fits) (λ s'. statements_fine ts scope env s' h.1 fits)
 
-      else_fine : (t : Else) (scope : Scope) (env : Environment) (s : States V T) → ElseAccepted declared Included scope t → ScopeFits scope env → Fine (else_means calls i from t env s).end
-      else_fine no_else scope env s h fits = fine
-      else_fine (otherwise body) scope env s h fits = statements_fine body scope env s h fits
+      else_fine : (t : Else) (may : Bool) (scope : Scope) (env : Environment) (s : States V T) → ElseAccepted declared Included scope may t → ScopeFits scope env → Fine (else_means calls i from t may env s).end
+      else_fine no_else may scope env s h fits = fine
+      else_fine (otherwise body) false scope env s h fits = fine
+      else_fine (otherwise body) true scope env s h fits = statements_fine body scope env s h fits

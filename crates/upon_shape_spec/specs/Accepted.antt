@@ -1,7 +1,9 @@
 -- Templates that are accepted on a scope: nothing in them fails where the scope says what is known.
-use Rattle.std.specs.Prelude.{ℕ, zero, suc, List, [], ◌∷◌, Bool, false, not, ◌&&◌, ◌||◌, Option, Some, None, IsTrue, bytes_eq, codes, if◌then◌else◌}
+use Rattle.std.specs.Prelude.{ℕ, zero, suc, List, [], ◌∷◌, Bool, true, false, not, ◌&&◌, ◌||◌, Option, Some, None, IsTrue, bytes_eq, codes, if◌then◌else◌}
+use Rattle.upon_types.specs.Expression.{Expression}
 use Rattle.upon_types.specs.Path.{LoopVars, item, key_value}
-use Rattle.upon_types.specs.Tree.{Statement, raw, inline_expr, include, if_else, for_loop, with, Statements, no_statements, statement_then, Else, no_else, otherwise}
+use Rattle.upon_types.specs.BlockKinds.{Opening, if_tag, for_tag, with_tag, opened_kind, may_have_else}
+use Rattle.upon_types.specs.Tree.{Statement, raw, inline_expr, include, block, Statements, no_statements, statement_then, Else, no_else, otherwise}
 use Rattle.upon_meaning_spec.specs.Engine.{Template, Table}
 use Rattle.upon_shape_spec.specs.Declared.{Declared}
 use Rattle.upon_shape_spec.specs.ExpressionShapes.{expression_shape, is_shown}
@@ -44,6 +46,28 @@ loop_names (key_value key value both) (one_of p l m) =
 abbrev pub iteration_names : List NameShape → List NameShape
 iteration_names names = name_shape (codes "loop") a_loop ∷ names
 
+-- What is known in the branches of a block: what its body's turns bind, over a value of this shape, if they are sure to
+-- be found; the scope of the body, with what they bind; and the scope of the other branch.
+pub record Branches : Type 0 where
+  pub names : Shape → Option (List NameShape)
+  pub body : List NameShape → Scope
+  pub other : Scope
+
+-- the same, a row for each kind, over an expression and a scope: the branches of an `if` see what its test found
+abbrev pub branches : Opening → Expression → Scope → Branches
+branches (if_tag negated) e scope = record {
+  names = λ s. Some [];
+  body = λ bs. tested_scope (not negated) e scope;
+  other = tested_scope negated e scope;
+}
+branches (for_tag names) e scope =
+    record { names = loop_names names; body = λ bs. with_names (iteration_names bs) scope; other = scope }
+branches (with_tag word) e scope = record {
+  names = λ s. Some (name_shape word.text (value_of s) ∷ []);
+  body = λ bs. with_names bs scope;
+  other = scope;
+}
+
 -- where it is known which includes, on which scopes, do not fail
 module _ (declared : Declared) (Included : List ℕ → Scope → Type 0) where
   abbrev mutual
@@ -54,27 +78,22 @@ module _ (declared : Declared) (Included : List ℕ → Scope → Type 0) where
     StatementAccepted scope (include word None) = Included word.text scope
     StatementAccepted scope (include word (Some e)) =
         OnSome (expression_shape declared scope e) (λ s. Included word.text (scope_over s))
-    StatementAccepted scope (if_else negated e body other) =
+    StatementAccepted scope (block opening e body other) =
+        let b : Branches = branches opening e scope in
         OnSome (expression_shape declared scope e)
-        (λ s. StatementsAccepted (tested_scope (not negated) e scope) body
-        × ElseAccepted (tested_scope negated e scope) other)
-    StatementAccepted scope (for_loop names e body other) =
-        OnSome (expression_shape declared scope e)
-        (λ s. OnSome (loop_names names s) (λ bs. StatementsAccepted (with_names (iteration_names bs) scope) body)
-        × ElseAccepted scope other)
-    StatementAccepted scope (with e word body) =
-        OnSome (expression_shape declared scope e)
-        (λ s. StatementsAccepted (with_names (name_shape word.text (value_of s) ∷ []) scope) body)
+        (λ s. OnSome (b.names s) (λ bs. StatementsAccepted (b.body bs) body)
+        × ElseAccepted b.other (may_have_else (opened_kind opening)) other)
 
     -- each of them
     pub StatementsAccepted : Scope → Statements → Type 0
     StatementsAccepted scope no_statements = Unit {0}
     StatementsAccepted scope (statement_then t ts) = StatementAccepted scope t × StatementsAccepted scope ts
 
-    -- the other branch, if there is one
-    pub ElseAccepted : Scope → Else → Type 0
-    ElseAccepted scope no_else = Unit {0}
-    ElseAccepted scope (otherwise body) = StatementsAccepted scope body
+    -- the other branch, if there may be one and is
+    pub ElseAccepted : Scope → Bool → Else → Type 0
+    ElseAccepted scope false other = Unit {0}
+    ElseAccepted scope true no_else = Unit {0}
+    ElseAccepted scope true (otherwise body) = StatementsAccepted scope body
 
 -- a template under this name is accepted on the scope, with at most so many includes one inside another
 abbrev pub IncludedWithin : Declared → Table → ℕ → List ℕ → Scope → Type 0

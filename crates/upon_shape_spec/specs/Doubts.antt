@@ -1,15 +1,15 @@
 -- Where a template that is not accepted is in doubt, in the order of its text: each place, and what is not sure there.
-use Rattle.std.specs.Prelude.{ℕ, List, [], ◌∷◌, ◌++◌, Bool, true, false, not, Option, Some, None}
+use Rattle.std.specs.Prelude.{ℕ, List, [], ◌∷◌, ◌++◌, Bool, true, false, Option, Some, None}
 use Rattle.upon_types.specs.declared.types.Span.{Span}
 use Rattle.upon_types.specs.Expression.{Expression, base, filtered, Base, var, literal, list, mapping, paren, call, Bases, no_bases, base_then, Items, no_items, item_then, Arguments, no_arguments, arguments, expression_span}
 use Rattle.upon_types.specs.Path.{Member, LoopVars}
-use Rattle.upon_types.specs.Tree.{Statement, raw, inline_expr, include, if_else, for_loop, with, Statements, no_statements, statement_then, Else, no_else, otherwise}
-use Rattle.upon_shape_spec.specs.Accepted.{loop_names, iteration_names}
+use Rattle.upon_types.specs.BlockKinds.{opened_kind, may_have_else}
+use Rattle.upon_types.specs.Tree.{Statement, raw, inline_expr, include, block, Statements, no_statements, statement_then, Else, no_else, otherwise}
+use Rattle.upon_shape_spec.specs.Accepted.{loop_names, Branches, branches}
 use Rattle.upon_shape_spec.specs.Declared.{DeclaredCallable, gives_by, formats, Declared}
 use Rattle.upon_shape_spec.specs.ExpressionShapes.{value_given, is_formatted, shape_then, expression_shape, base_shape, arguments_shapes}
-use Rattle.upon_shape_spec.specs.Narrowed.{tested_scope}
 use Rattle.upon_shape_spec.specs.Paths.{MemberShape, may_fail, finds, may_miss, member_shape}
-use Rattle.upon_shape_spec.specs.Scope.{BoundShape, value_of, loop_key, a_loop, NameShape, Scope, name_shape, scope_over, with_names, bound_shape_of, state_shape}
+use Rattle.upon_shape_spec.specs.Scope.{BoundShape, value_of, loop_key, a_loop, NameShape, Scope, scope_over, bound_shape_of, state_shape}
 use Rattle.upon_shape_spec.specs.Shape.{Shape, never}
 use Rattle.upon_shape_spec.specs.Wider.{wider}
 
@@ -194,27 +194,21 @@ module _ (declared : Declared) (included : List ℕ → Scope → Bool) where
         expression_doubts declared scope e
         ++ if_some (expression_shape declared scope e)
         (λ s. unless (included word.text (scope_over s)) (doubt word.span (is_included (scope_over s))))
-    statement_doubts scope (if_else negated e body other) =
-        expression_doubts declared scope e
-        ++ (statements_doubts (tested_scope (not negated) e scope) body
-        ++ else_doubts (tested_scope negated e scope) other)
-    statement_doubts scope (for_loop names e body other) =
+    statement_doubts scope (block opening e body other) =
         let s : Shape = or_never (expression_shape declared scope e) in
+        let b : Branches = branches opening e scope in
         expression_doubts declared scope e
-        ++ (items_in_doubt (expression_span e) names s
-        ++ (statements_doubts (with_names (iteration_names (bound_names names s)) scope) body
-        ++ else_doubts scope other))
-    statement_doubts scope (with e word body) =
-        let s : Shape = or_never (expression_shape declared scope e) in
-        expression_doubts declared scope e
-        ++ statements_doubts (with_names (name_shape word.text (value_of s) ∷ []) scope) body
+        ++ (if_none (b.names s) (doubt (expression_span e) (has_items s))
+        ++ (statements_doubts (b.body (or_names (b.names s) (b.names never))) body
+        ++ else_doubts b.other (may_have_else (opened_kind opening)) other))
 
     -- of each of them
     pub statements_doubts : Scope → Statements → List Doubt
     statements_doubts scope no_statements = []
     statements_doubts scope (statement_then t ts) = statement_doubts scope t ++ statements_doubts scope ts
 
-    -- of the other branch
-    pub else_doubts : Scope → Else → List Doubt
-    else_doubts scope no_else = []
-    else_doubts scope (otherwise body) = statements_doubts scope body
+    -- of the other branch, if there may be one
+    pub else_doubts : Scope → Bool → Else → List Doubt
+    else_doubts scope false other = []
+    else_doubts scope true no_else = []
+    else_doubts scope true (otherwise body) = statements_doubts scope body

@@ -6,7 +6,8 @@ use Rattle.upon_types.specs.Span.{LiesIn}
 use Rattle.upon_language_spec.specs.Search.{DelimiterText, HasTexts}
 use Rattle.upon_language_spec.specs.LiesIn.{HasUtf8}
 use Rattle.upon_language_spec.specs.Cut.{Lexeme, outside}
-use Rattle.upon_language_spec.specs.Blocks.{OpenBlock, outermost, block_word}
+use Rattle.upon_types.specs.BlockKinds.{block_word}
+use Rattle.upon_language_spec.specs.Blocks.{OpenBlock, outermost}
 use Rattle.upon_language_spec.specs.FirstFault.{IsFirstFault}
 use Rattle.upon_language_spec.specs.Lexing.{LexerState}
 use Rattle.upon_language_spec.specs.Wanted.{in_quotes}

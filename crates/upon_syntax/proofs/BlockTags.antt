@@ -6,14 +6,15 @@ use Rattle.upon_types.specs.declared.types.token.Token.TheVariants.{EndBlock, Ke
 use Rattle.upon_language_spec.specs.Cut.{Lexeme}
 use Rattle.upon_language_spec.specs.Tokens.{from_to}
 use Rattle.upon_language_spec.specs.Grammar.{BeginsBlock}
-use Rattle.upon_language_spec.specs.Blocks.{Block, if_block, for_block, with_block, OpenBlock, Closer, else_if, plain_else, end_if, end_for, end_with, else_by, closer_by, closer_of, end_from, by_word, takes, after_closer}
+use Rattle.upon_types.specs.BlockKinds.{Block, opened_kind, block_word, end_word}
+use Rattle.upon_language_spec.specs.Blocks.{OpenBlock, Closer, else_if, plain_else, end_of, else_by, closer_by, closer_of, end_from, by_word, takes, after_closer}
 use Rattle.upon_language_spec.specs.InTags.{is_inside, EachInside}
 use Rattle.upon_language_spec.specs.ClosingTags.{Closing}
-use Rattle.upon_language_spec.proofs.NoTreeWithFault.TagBlocks.{begins_block, Walks, walks_then, walks_plain, walks_begin, else_at}
+use Rattle.upon_language_spec.proofs.NoTreeWithFault.TagBlocks.{end_closer, end_closes, block_closes_none, block_opens, begins_block, Walks, walks_then, walks_plain, walks_begin, else_at}
 use Rattle.upon_language_spec.proofs.NoTreeWithFault.ReadBefore.{inside_begins_nothing}
 use Rattle.upon_language_spec.proofs.Totality.OpenBlocks.{closer_is}
 use Rattle.upon_syntax.specs.OpenBlocks.{new_block, closed_by, after_tag, IsTaken}
-use Rattle.upon_tag_parser.specs.BlockTags.{BlockTag, if_tag, else_if_tag, else_tag, endif_tag, for_tag, endfor_tag, with_tag, endwith_tag, include_tag, IsBlockTag}
+use Rattle.upon_tag_parser.specs.BlockTags.{BlockTag, opening_tag, else_if_tag, else_tag, end_tag, include_tag, IsBlockTag}
 
 inside_no_end : (t : Token) (a b : Span) → is_inside t ≡ true → (elim t as (λ _. Span) [ EndBlock ↦ a | _ ↦ b ]) ≡ b
 inside_no_end EndBlock a b h = absurd cc
@@ -66,28 +67,20 @@ module _ (s : List ℕ) (l end : Lexeme) (w : List Lexeme) (each : EachInside w)
 
   -- what a tag that is taken does
   pub tag_walks : (tag : BlockTag) (a : List OpenBlock) → IsBlockTag s tag all [] → IsTaken tag a → Walks s a all (after_tag tag (from_to l.span end.span) a) []
-  tag_walks (if_tag negated e) a g taken = opens (codes "if") g.0 g.2 if_block a refl refl
+  tag_walks (opening_tag opening e) a g taken = let kind = opened_kind opening in opens (block_word kind) g.0 g.2 kind a (block_closes_none s kind g.0) (block_opens s kind l.span g.0 a)
   tag_walks (else_if_tag negated e) a g taken =
       let is : else_by s g.0 ≡ else_if = else_at s Keyword g.4.0 g.0 g.1 g.4.1.0 in
       closes (codes "else") g.0 g.3 else_if a (ap Some is) (taken else_if refl) (ap (λ (x : Closer). after_closer x a) is)
   tag_walks else_tag a g taken =
       let is : else_by s g.0 ≡ plain_else = else_at s EndBlock g.2.0 g.0 [] g.2.1 in
       closes (codes "else") g.0 g.1 plain_else a (ap Some is) (taken plain_else refl) (ap (λ (x : Closer). after_closer x a) is)
-  tag_walks endif_tag a g taken = closes (codes "endif") g.0 g.1 end_if a refl (taken end_if refl) refl
-  tag_walks (for_tag names e) a g taken = opens (codes "for") g.0 g.4 for_block a refl refl
-  tag_walks endfor_tag a g taken = closes (codes "endfor") g.0 g.1 end_for a refl (taken end_for refl) refl
-  tag_walks (with_tag e name) a g taken = opens (codes "with") g.0 g.4 with_block a refl refl
-  tag_walks endwith_tag a g taken = closes (codes "endwith") g.0 g.1 end_with a refl (taken end_with refl) refl
+  tag_walks (end_tag kind) a g taken = closes (end_word kind) g.0 g.1 (end_of kind) a (end_closer s kind g.0) (taken (end_of kind) refl) (end_closes s kind l.span g.0 a)
   tag_walks (include_tag name globals) a g taken = word_walks (codes "include") g.0 g.3 a a None refl tt refl
 
   -- which closing tag it is
   pub tag_closer : (tag : BlockTag) → IsBlockTag s tag all [] → closer_of s all ≡ closed_by tag
-  tag_closer (if_tag negated e) g = closer_is s (codes "if") all g.0 g.2
+  tag_closer (opening_tag opening e) g = closer_is s (block_word (opened_kind opening)) all g.0 g.2 ∙ block_closes_none s (opened_kind opening) g.0
   tag_closer (else_if_tag negated e) g = closer_is s (codes "else") all g.0 g.3 ∙ ap Some (else_at s Keyword g.4.0 g.0 g.1 g.4.1.0)
   tag_closer else_tag g = closer_is s (codes "else") all g.0 g.1 ∙ ap Some (else_at s EndBlock g.2.0 g.0 [] g.2.1)
-  tag_closer endif_tag g = closer_is s (codes "endif") all g.0 g.1
-  tag_closer (for_tag names e) g = closer_is s (codes "for") all g.0 g.4
-  tag_closer endfor_tag g = closer_is s (codes "endfor") all g.0 g.1
-  tag_closer (with_tag e name) g = closer_is s (codes "with") all g.0 g.4
-  tag_closer endwith_tag g = closer_is s (codes "endwith") all g.0 g.1
+  tag_closer (end_tag kind) g = closer_is s (end_word kind) all g.0 g.1 ∙ end_closer s kind g.0
   tag_closer (include_tag name globals) g = closer_is s (codes "include") all g.0 g.3

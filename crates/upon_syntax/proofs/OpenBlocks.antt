@@ -1,19 +1,20 @@
 -- The open blocks in the code's list: the last is the innermost, and tags open and close at that end.
-use Rattle.std.proofs.Common.{◌≡◌, ℕ, ◌-◌, List, [], ◌∷◌, ◌++◌, length, Bool, true, false, Option, Some, None, option_map, MatchOption, ◌<◌, get_or, refl, sym, ap, ◌∙◌, subst, arith}
+use Rattle.std.proofs.Common.{◌≡◌, ℕ, ◌-◌, List, [], ◌∷◌, ◌++◌, length, Bool, true, false, Option, Some, None, option_map, MatchOption, ◌<◌, get_or, refl, sym, ap, ◌∙◌, subst, arith, if◌then◌else◌}
 use Rattle.std.specs.List.{slice_get}
 use Rattle.std.specs.Option.{option_to_list}
 use Rattle.std.proofs.lemmas.List.{append-nil}
 use Rattle.std.proofs.Math.ListN.{set}
 use Rattle.std.proofs.Math.Seq.{set-append_seam, get_or-append_seam}
 use Rattle.upon_types.specs.declared.types.Span.{Span}
-use Rattle.upon_language_spec.specs.Blocks.{Block, if_block, for_block, with_block, OpenBlock, Closer, else_if, plain_else, end_if, end_for, end_with, block_takes, takes, after_closer, by_closer, outermost}
+use Rattle.upon_types.specs.BlockKinds.{Block}
+use Rattle.upon_language_spec.specs.Blocks.{OpenBlock, Closer, else_if, plain_else, end_of, block_takes, takes, after_closer, by_closer, outermost}
 use Rattle.upon_syntax.specs.declared.compile.parse.open_blocks.OpenBlock.{OpenBlock as CodeBlock}
-use Rattle.upon_tag_parser.specs.BlockTags.{BlockTag, if_tag, else_if_tag, else_tag, endif_tag, for_tag, endfor_tag, with_tag, endwith_tag, include_tag}
-use Rattle.upon_syntax.specs.Pieces.{BlockKind, else_after, else_if_after, closed_after, blocks_after_tag}
-use Rattle.upon_syntax.specs.declared.compile.parse.open_blocks.Kind.{Kind}
+use Rattle.upon_tag_parser.specs.BlockTags.{BlockTag, opening_tag, else_if_tag, else_tag, end_tag, include_tag, block_kind}
+use Rattle.upon_syntax.specs.Pieces.{kinds_left, after_closing, blocks_after_tag}
+use Rattle.upon_tag_parser.specs.declared.compile.parse.kind.Kind.{Kind}
 use Rattle.upon_syntax.specs.declared.compile.parse.open_blocks.Closing.{Closing}
 use Rattle.upon_syntax.specs.declared.compile.parse.open_blocks.Effect.TheVariants.{Opens, Closes, Nothing}
-use Rattle.upon_syntax.specs.OpenBlocks.{block_kind, closer_view, block_of, stack_from, innermost_block, kinds_of, new_block, with_block_opened, after_tag, HasEffect, IsTaken, IsUntaken}
+use Rattle.upon_syntax.specs.OpenBlocks.{closer_view, block_of, stack_from, innermost_block, kinds_of, new_block, with_block_opened, after_tag, HasEffect, IsTaken, IsUntaken}
 
 pub stack_more : (stack : List OpenBlock) (bs cs : List CodeBlock) → stack_from stack (bs ++ cs) ≡ stack_from (stack_from stack bs) cs
 stack_more stack [] cs = refl
@@ -43,12 +44,12 @@ outermost_first [] = refl
 outermost_first (b ∷ bs) = sym (outermost_from (block_of b) bs)
 
 -- the blocks without the innermost, where there is one
-pub popped : (bs rest : List CodeBlock) (last : Option CodeBlock) → bs ≡ rest ++ option_to_list last → (last ≡ None → rest ≡ []) → stack_from [] rest ≡ after_closer end_if (stack_from [] bs)
-popped bs rest None e none =
+pub popped : (kind : Block) (bs rest : List CodeBlock) (last : Option CodeBlock) → bs ≡ rest ++ option_to_list last → (last ≡ None → rest ≡ []) → stack_from [] rest ≡ after_closer (end_of kind) (stack_from [] bs)
+popped kind bs rest None e none =
     let empty : rest ≡ [] = none refl in
     let all : bs ≡ [] = e ∙ append-nil rest ∙ empty in
-    ap (stack_from []) empty ∙ ap (λ (x : List CodeBlock). after_closer end_if (stack_from [] x)) (sym all)
-popped bs rest (Some b) e none = sym (ap (λ (x : List CodeBlock). after_closer end_if (stack_from [] x)) e ∙ ap (after_closer end_if) (stack_more [] rest (b ∷ [])))
+    ap (stack_from []) empty ∙ ap (λ (x : List CodeBlock). after_closer (end_of kind) (stack_from [] x)) (sym all)
+popped kind bs rest (Some b) e none = sym (ap (λ (x : List CodeBlock). after_closer (end_of kind) (stack_from [] x)) e ∙ ap (after_closer (end_of kind)) (stack_more [] rest (b ∷ [])))
 
 -- a list that is not empty, by its last
 pub by_last : (b : CodeBlock) (bs : List CodeBlock) → (front : List CodeBlock) × (last : CodeBlock) × (b ∷ bs ≡ front ++ last ∷ []) × (length front ≡ length bs)
@@ -86,56 +87,29 @@ takes_innermost bs xs b closer e last =
     takes_first (stack_from [] bs) (block_of b) closer (sym (innermost_last bs) ∙ ap (option_map block_of) (sym (subst F e last)))
 
 -- ---- the kinds of the open blocks
-abbrev pub kinds_after : Closer → List BlockKind → Option (List BlockKind)
-kinds_after else_if kinds = else_if_after kinds
-kinds_after plain_else kinds = else_after kinds
-kinds_after end_if kinds = closed_after if_block kinds
-kinds_after end_for kinds = closed_after for_block kinds
-kinds_after end_with kinds = closed_after with_block kinds
-
 abbrev opened : Block → Bool → Span → OpenBlock
 opened kind has_else span = record { kind = kind; has_else = has_else; span = span }
 
-one_closed : (closer : Closer) (kind : Block) (has_else : Bool) (span : Span) (stack : List OpenBlock) → block_takes kind has_else closer ≡ true
-    → kinds_after closer (kinds_of (opened kind has_else span ∷ stack)) ≡ Some (kinds_of (after_closer closer (opened kind has_else span ∷ stack)))
-one_closed else_if if_block true span stack h = absurd cc
-one_closed else_if if_block false span stack h = refl
-one_closed else_if for_block true span stack h = absurd cc
-one_closed else_if for_block false span stack h = absurd cc
-one_closed else_if with_block has_else span stack h = absurd cc
-one_closed plain_else if_block true span stack h = absurd cc
-one_closed plain_else if_block false span stack h = refl
-one_closed plain_else for_block true span stack h = absurd cc
-one_closed plain_else for_block false span stack h = refl
-one_closed plain_else with_block has_else span stack h = absurd cc
-one_closed end_if if_block has_else span stack h = refl
-one_closed end_if for_block true span stack h = absurd cc
-one_closed end_if for_block false span stack h = absurd cc
-one_closed end_if with_block has_else span stack h = absurd cc
-one_closed end_for if_block true span stack h = absurd cc
-one_closed end_for if_block false span stack h = absurd cc
-one_closed end_for for_block has_else span stack h = refl
-one_closed end_for with_block has_else span stack h = absurd cc
-one_closed end_with if_block true span stack h = absurd cc
-one_closed end_with if_block false span stack h = absurd cc
-one_closed end_with for_block true span stack h = absurd cc
-one_closed end_with for_block false span stack h = absurd cc
-one_closed end_with with_block has_else span stack h = refl
+same_left : (closer : Closer) (kind : Block) (has_else : Bool) (span : Span) (stack : List OpenBlock) → kinds_left closer (kind, has_else) (kinds_of stack) ≡ kinds_of (after_closer closer (opened kind has_else span ∷ stack))
+same_left else_if kind has_else span stack = refl
+same_left plain_else kind has_else span stack = refl
+same_left (end_of ended) kind has_else span stack = refl
 
-closed : (closer : Closer) (stack : List OpenBlock) → takes stack closer ≡ true → kinds_after closer (kinds_of stack) ≡ Some (kinds_of (after_closer closer stack))
+one_closed : (closer : Closer) (kind : Block) (has_else : Bool) (span : Span) (stack : List OpenBlock) → block_takes kind has_else closer ≡ true
+    → after_closing closer (kinds_of (opened kind has_else span ∷ stack)) ≡ Some (kinds_of (after_closer closer (opened kind has_else span ∷ stack)))
+one_closed closer kind has_else span stack h =
+    ap (λ (b : Bool). if b then Some (kinds_left closer (kind, has_else) (kinds_of stack)) else None) h ∙ ap Some (same_left closer kind has_else span stack)
+
+closed : (closer : Closer) (stack : List OpenBlock) → takes stack closer ≡ true → after_closing closer (kinds_of stack) ≡ Some (kinds_of (after_closer closer stack))
 closed closer [] h = absurd cc
 closed closer (o ∷ stack) h = one_closed closer o.kind o.has_else o.span stack h
 
 -- a tag that is taken leads the kinds of the open blocks on as the blocks
 pub kinds_on : (tag : BlockTag) (span : Span) (stack : List OpenBlock) → IsTaken tag stack → blocks_after_tag tag (kinds_of stack) ≡ Some (kinds_of (after_tag tag span stack))
-kinds_on (if_tag negated e) span stack taken = refl
+kinds_on (opening_tag opening e) span stack taken = refl
 kinds_on (else_if_tag negated e) span stack taken = closed else_if stack (taken else_if refl)
 kinds_on else_tag span stack taken = closed plain_else stack (taken plain_else refl)
-kinds_on endif_tag span stack taken = closed end_if stack (taken end_if refl)
-kinds_on (for_tag names e) span stack taken = refl
-kinds_on endfor_tag span stack taken = closed end_for stack (taken end_for refl)
-kinds_on (with_tag e name) span stack taken = refl
-kinds_on endwith_tag span stack taken = closed end_with stack (taken end_with refl)
+kinds_on (end_tag kind) span stack taken = closed (end_of kind) stack (taken (end_of kind) refl)
 kinds_on (include_tag name globals) span stack taken = refl
 
 -- ---- what the code does for a tag

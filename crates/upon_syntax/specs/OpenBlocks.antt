@@ -1,13 +1,10 @@
 -- The blocks that the code keeps open, and what a tag does to them.
 use Rattle.std.specs.Prelude.{◌≡◌, List, [], ◌∷◌, map, true, false, Option, Some, None}
 use Rattle.upon_types.specs.declared.types.Span.{Span}
-use Rattle.upon_language_spec.specs.Blocks.{Block, if_block, for_block, with_block, OpenBlock, Closer, else_if, plain_else}
-use Rattle.upon_language_spec.specs.Blocks.{end_if, end_for, end_with, takes, by_closer}
-use Rattle.upon_tag_parser.specs.BlockTags.{BlockTag, if_tag, else_if_tag, else_tag, endif_tag, for_tag, endfor_tag, with_tag}
-use Rattle.upon_tag_parser.specs.BlockTags.{endwith_tag}
+use Rattle.upon_types.specs.BlockKinds.{Block, opened_kind}
+use Rattle.upon_language_spec.specs.Blocks.{OpenBlock, Closer, else_if, plain_else, end_of, takes, by_closer}
+use Rattle.upon_tag_parser.specs.BlockTags.{BlockTag, opening_tag, else_if_tag, else_tag, end_tag, block_kind}
 use Rattle.upon_syntax.specs.Pieces.{BlockKind}
-use Rattle.upon_syntax.specs.declared.compile.parse.open_blocks.Kind.{Kind}
-use Rattle.upon_syntax.specs.declared.compile.parse.open_blocks.Kind.TheVariants as kind
 use Rattle.upon_syntax.specs.declared.compile.parse.open_blocks.Closing.{Closing}
 use Rattle.upon_syntax.specs.declared.compile.parse.open_blocks.Closing.TheVariants as closing
 use Rattle.upon_syntax.specs.declared.compile.parse.open_blocks.Effect.{Effect}
@@ -15,19 +12,11 @@ use Rattle.upon_syntax.specs.declared.compile.parse.open_blocks.Effect.TheVarian
 use Rattle.upon_syntax.specs.declared.compile.parse.open_blocks.OpenBlock.{OpenBlock as CodeBlock}
 use Rattle.upon_syntax.specs.declared.compile.parse.open_blocks.OpenBlocks.{OpenBlocks}
 
--- the kind of block that the code's kind denotes
-abbrev pub block_kind : Kind → Block
-block_kind kind.If = if_block
-block_kind kind.For = for_block
-block_kind kind.With = with_block
-
 -- the closing tag that the code's denotes
 abbrev pub closer_view : Closing → Closer
 closer_view closing.ElseIf = else_if
 closer_view closing.Else = plain_else
-closer_view closing.EndIf = end_if
-closer_view closing.EndFor = end_for
-closer_view closing.EndWith = end_with
+closer_view (closing.End kind) = end_of (block_kind kind)
 
 -- the open block that the code's denotes
 abbrev pub block_of : CodeBlock → OpenBlock
@@ -57,18 +46,14 @@ new_block kind span = record { kind = kind; has_else = false; span = span }
 
 -- the kind of block that a tag opens
 abbrev pub opened_by : BlockTag → Option Block
-opened_by (if_tag negated e) = Some if_block
-opened_by (for_tag names e) = Some for_block
-opened_by (with_tag e name) = Some with_block
+opened_by (opening_tag opening e) = Some (opened_kind opening)
 opened_by tag = None
 
 -- the closing tag that a tag is
 abbrev pub closed_by : BlockTag → Option Closer
 closed_by (else_if_tag negated e) = Some else_if
 closed_by else_tag = Some plain_else
-closed_by endif_tag = Some end_if
-closed_by endfor_tag = Some end_for
-closed_by endwith_tag = Some end_with
+closed_by (end_tag kind) = Some (end_of kind)
 closed_by tag = None
 
 -- the open blocks with one more, if there is one

@@ -1,13 +1,13 @@
 -- A template as a sequence of pieces: raw parts and whole tags, one after the other.
-use Rattle.std.specs.Prelude.{◌≡◌, ℕ, List, [], ◌∷◌, Bool, true, false, Option, Some, None}
+use Rattle.std.specs.Prelude.{◌≡◌, ℕ, List, [], ◌∷◌, Bool, true, false, Option, Some, None, if◌then◌else◌}
 use Rattle.upon_types.specs.declared.types.Span.{Span}
 use Rattle.upon_types.specs.Expression.{Expression}
 use Rattle.upon_types.specs.Tree.{raw, inline_expr}
 use Rattle.upon_language_spec.specs.Cut.{Lexeme}
-use Rattle.upon_language_spec.specs.Blocks.{Block, if_block, for_block, with_block}
+use Rattle.upon_types.specs.BlockKinds.{Block, opened_kind}
+use Rattle.upon_language_spec.specs.Blocks.{Closer, else_if, plain_else, end_of, block_takes}
 use Rattle.upon_language_spec.specs.Grammar.{IsStatement}
-use Rattle.upon_tag_parser.specs.BlockTags.{BlockTag, if_tag, else_if_tag, else_tag, endif_tag, for_tag, endfor_tag, with_tag}
-use Rattle.upon_tag_parser.specs.BlockTags.{endwith_tag, include_tag, IsBlockTag, tag_code, Keeps}
+use Rattle.upon_tag_parser.specs.BlockTags.{BlockTag, opening_tag, else_if_tag, else_tag, end_tag, include_tag, IsBlockTag, tag_code, Keeps}
 use Rattle.upon_machine_spec.specs.Code.{emission_code}
 use Rattle.upon_machine_spec.specs.Instr.{Instr}
 use Rattle.upon_syntax.specs.declared.compile.parse.piece.Piece.{Piece as CodePiece}
@@ -47,37 +47,24 @@ piece_code (block_piece tag) = tag_code tag
 abbrev pub BlockKind : Type 0
 BlockKind = Block × Bool
 
--- an `if` or a `for` that may go on with an `else`
-abbrev pub else_after : List BlockKind → Option (List BlockKind)
-else_after [] = None
-else_after ((if_block, false) ∷ blocks) = Some ((if_block, true) ∷ blocks)
-else_after ((for_block, false) ∷ blocks) = Some ((for_block, true) ∷ blocks)
-else_after (other ∷ blocks) = None
+-- the open blocks after a closing tag that the innermost of them takes
+abbrev pub kinds_left : Closer → BlockKind → List BlockKind → List BlockKind
+kinds_left else_if block blocks = block ∷ blocks
+kinds_left plain_else block blocks = (block.0, true) ∷ blocks
+kinds_left (end_of kind) block blocks = blocks
 
--- an `if` that may go on with an `else if`
-abbrev pub else_if_after : List BlockKind → Option (List BlockKind)
-else_if_after [] = None
-else_if_after ((if_block, false) ∷ blocks) = Some ((if_block, false) ∷ blocks)
-else_if_after (other ∷ blocks) = None
-
--- the innermost block, of this kind, is closed
-abbrev pub closed_after : Block → List BlockKind → Option (List BlockKind)
-closed_after kind [] = None
-closed_after if_block ((if_block, has_else) ∷ blocks) = Some blocks
-closed_after for_block ((for_block, has_else) ∷ blocks) = Some blocks
-closed_after with_block ((with_block, has_else) ∷ blocks) = Some blocks
-closed_after kind (other ∷ blocks) = None
+-- the open blocks after a closing tag, innermost first; none if the innermost does not take it
+abbrev pub after_closing : Closer → List BlockKind → Option (List BlockKind)
+after_closing closer [] = None
+after_closing closer (block ∷ blocks) =
+    if block_takes block.0 block.1 closer then Some (kinds_left closer block blocks) else None
 
 -- the open blocks after a tag, innermost first; none if the tag closes what is not open
 abbrev pub blocks_after_tag : BlockTag → List BlockKind → Option (List BlockKind)
-blocks_after_tag (if_tag negated e) blocks = Some ((if_block, false) ∷ blocks)
-blocks_after_tag (else_if_tag negated e) blocks = else_if_after blocks
-blocks_after_tag else_tag blocks = else_after blocks
-blocks_after_tag endif_tag blocks = closed_after if_block blocks
-blocks_after_tag (for_tag names e) blocks = Some ((for_block, false) ∷ blocks)
-blocks_after_tag endfor_tag blocks = closed_after for_block blocks
-blocks_after_tag (with_tag e name) blocks = Some ((with_block, false) ∷ blocks)
-blocks_after_tag endwith_tag blocks = closed_after with_block blocks
+blocks_after_tag (opening_tag opening e) blocks = Some ((opened_kind opening, false) ∷ blocks)
+blocks_after_tag (else_if_tag negated e) blocks = after_closing else_if blocks
+blocks_after_tag else_tag blocks = after_closing plain_else blocks
+blocks_after_tag (end_tag kind) blocks = after_closing (end_of kind) blocks
 blocks_after_tag (include_tag name globals) blocks = Some blocks
 
 -- the open blocks after a piece

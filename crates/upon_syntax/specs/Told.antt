@@ -2,21 +2,16 @@
 use Rattle.std.specs.Prelude.{List, map, Some, None}
 use Rattle.upon_types.specs.Expression.{expression_span}
 use Rattle.upon_machine_spec.specs.Code.{expression_code, emission_code}
-use Rattle.upon_tag_parser.specs.BlockTags.{BlockTag, if_tag, else_if_tag, else_tag, endif_tag, for_tag, endfor_tag, with_tag}
-use Rattle.upon_tag_parser.specs.BlockTags.{endwith_tag, include_tag}
-use Rattle.upon_compiler.specs.Events.{Event, raw_event, shown_event, if_event, else_if_event, else_event, endif_event, for_event, endfor_event, with_event, endwith_event, include_event, include_with_event}
+use Rattle.upon_tag_parser.specs.BlockTags.{BlockTag, opening_tag, else_if_tag, else_tag, end_tag, include_tag}
+use Rattle.upon_compiler.specs.Events.{Event, raw_event, shown_event, else_if_event, else_event, include_event, include_with_event, opening_event, end_event}
 use Rattle.upon_syntax.specs.Pieces.{TemplatePiece, raw_piece, inline_piece, block_piece}
 
 -- of a tag of a block
 abbrev pub tag_event : BlockTag → Event
-tag_event (if_tag negated e) = if_event negated (expression_code e)
+tag_event (opening_tag opening e) = opening_event opening (expression_span e) (expression_code e)
 tag_event (else_if_tag negated e) = else_if_event negated (expression_code e)
 tag_event else_tag = else_event
-tag_event endif_tag = endif_event
-tag_event (for_tag names e) = for_event names (expression_span e) (expression_code e)
-tag_event endfor_tag = endfor_event
-tag_event (with_tag e name) = with_event name (expression_code e)
-tag_event endwith_tag = endwith_event
+tag_event (end_tag kind) = end_event kind
 tag_event (include_tag name None) = include_event name
 tag_event (include_tag name (Some e)) = include_with_event name (expression_code e)
 

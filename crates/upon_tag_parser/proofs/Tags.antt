@@ -1,12 +1,15 @@
 -- The tags of blocks: what each reads, where its end may be, and where it is stuck.
-use Rattle.std.proofs.Common.{◌≡◌, ℕ, List, [], ◌∷◌, ◌++◌, Bool, true, false, Some, None, refl, sym, subst, codes}
+use Rattle.std.proofs.Common.{◌≡◌, ℕ, List, [], ◌∷◌, ◌++◌, Bool, true, false, Some, None, refl, sym, ap, ◌∙◌, subst, codes}
 use Rattle.upon_types.specs.declared.types.Span.{Span}
 use Rattle.upon_types.specs.declared.types.token.Token.{Token}
 use Rattle.upon_types.specs.declared.types.token.Token.TheVariants.{BeginBlock, EndBlock, Keyword, Comma, Ident as Identifier, String}
+use Rattle.upon_types.specs.BlockKinds.{Block, if_block, for_block, with_block, if_tag, for_tag, with_tag, opened_kind, end_word, kind_with}
+use Rattle.upon_types.specs.BlockKinds.{block_word as block_word_of}
 use Rattle.upon_types.specs.Path.{Ident, LoopVars, item, key_value}
+use Rattle.upon_types.specs.Span.{slice}
 use Rattle.upon_types.specs.Expression.{Expression}
 use Rattle.upon_language_spec.specs.Cut.{Lexeme}
-use Rattle.upon_language_spec.specs.Tokens.{GoesBy, GoesKeyword, GoesName, GoesText, from_to}
+use Rattle.upon_language_spec.specs.Tokens.{Goes, GoesBy, GoesKeyword, GoesName, GoesText, from_to}
 use Rattle.upon_language_spec.specs.Expressions.{IsExpression}
 use Rattle.upon_language_spec.specs.Grammar.{IsWordTag}
 use Rattle.upon_language_spec.specs.Tags.{symbol_of}
@@ -16,11 +19,12 @@ use Rattle.upon_language_spec.specs.Parts.{Part, a_base, filters, end_block, blo
 use Rattle.upon_language_spec.specs.PartTails.{No}
 use Rattle.upon_language_spec.specs.PartLeads.{Leads}
 use Rattle.upon_language_spec.specs.InTags.{is_inside}
+use Rattle.upon_language_spec.proofs.BlockKinds.{ended_by}
 use Rattle.upon_language_spec.proofs.Totality.ExpressionMore.{expression_more}
-use Rattle.upon_language_spec.proofs.Totality.TagMore.{keyword_more, name_more, condition_more, names_more, context_more, text_more}
+use Rattle.upon_language_spec.proofs.Totality.TagMore.{keyword_more, condition_more, head_more, context_more, text_more}
 use Rattle.upon_language_spec.specs.OpenParts.{ending_parts}
 use Rattle.upon_language_spec.proofs.Wanted.ExpressionsLead.{ending_left, base_takes, condition_takes, leads_then, leads_token, leads_key}
-use Rattle.upon_tag_parser.specs.BlockTags.{BlockTag, if_tag, else_if_tag, else_tag, endif_tag, for_tag, endfor_tag, with_tag, endwith_tag, include_tag, IsBlockTag}
+use Rattle.upon_tag_parser.specs.BlockTags.{BlockTag, opening_tag, else_if_tag, else_tag, end_tag, include_tag, IsBlockTag}
 use Rattle.upon_tag_parser.specs.TagParsing.{Refuses, StuckAt, IsStuck, NoWord, ReadsExpression}
 use Rattle.upon_tag_parser.specs.WholeTags.{LeadsToEnd, IsInlineTag, IsTagInside, IsTagBody, IsEnding, ReadsTag, ReadsCondition, ReadsLoopVars, IsTooLong, NoOpeningWord}
 use Rattle.upon_literals.specs.declared.literal.Lexed.{Lexed}
@@ -46,14 +50,10 @@ module _ (s : List ℕ) (ts : List Lexeme) (begin end : Lexeme) (more : List Lex
   word_whole word g = (rest, (ts ++ rest, begun, keyword_more s rest word ts [] g), ended)
 
   pub whole_tag : (tag : BlockTag) → IsTagBody s tag ts [] → IsBlockTag s tag (begin ∷ (ts ++ rest)) more
-  whole_tag (if_tag negated e) (mid, word, cond) = (mid ++ rest, rest, (ts ++ rest, begun, keyword_more s rest (codes "if") ts mid word), condition_more s rest negated e mid [] cond, ended)
+  whole_tag (opening_tag opening e) (mid, word, head) = (mid ++ rest, rest, (ts ++ rest, begun, keyword_more s rest (block_word_of (opened_kind opening)) ts mid word), head_more s rest opening e mid [] head, ended)
   whole_tag (else_if_tag negated e) (start, mid, word, second, cond) = (start ++ rest, mid ++ rest, rest, (ts ++ rest, begun, keyword_more s rest (codes "else") ts start word), keyword_more s rest (codes "if") start mid second, condition_more s rest negated e mid [] cond, ended)
   whole_tag else_tag g = word_whole (codes "else") g
-  whole_tag endif_tag g = word_whole (codes "endif") g
-  whole_tag (for_tag names e) (start, mid, last, word, vars, second, g) = (start ++ rest, mid ++ rest, last ++ rest, rest, (ts ++ rest, begun, keyword_more s rest (codes "for") ts start word), names_more s rest names start mid vars, keyword_more s rest (codes "in") mid last second, expression_more s rest e last [] g, ended)
-  whole_tag endfor_tag g = word_whole (codes "endfor") g
-  whole_tag (with_tag e name) (start, mid, last, word, g, second, named) = (start ++ rest, mid ++ rest, last ++ rest, rest, (ts ++ rest, begun, keyword_more s rest (codes "with") ts start word), expression_more s rest e start mid g, keyword_more s rest (codes "as") mid last second, name_more s rest name last [] named, ended)
-  whole_tag endwith_tag g = word_whole (codes "endwith") g
+  whole_tag (end_tag kind) g = word_whole (end_word kind) g
   whole_tag (include_tag name globals) (start, mid, word, text, given) = (start ++ rest, mid ++ rest, rest, (ts ++ rest, begun, keyword_more s rest (codes "include") ts start word), text_more s rest name start mid text, context_more s rest globals mid [] given, ended)
 
 pub tag_inside : (s : List ℕ) (tag : BlockTag) (ts : List Lexeme) → IsTagBody s tag ts [] → IsTagInside s tag ts
@@ -106,7 +106,7 @@ not_reads s e ts mid rest (span, g) h = record {
 }
 
 -- ---- the tags, one by one
-pub if_reads : (s : List ℕ) (negated : Bool) (e : Expression) (ts mid rest : List Lexeme) → GoesKeyword s (codes "if") ts mid → ReadsCondition s negated e mid rest → ReadsTag s (if_tag negated e) ts rest
+pub if_reads : (s : List ℕ) (negated : Bool) (e : Expression) (ts mid rest : List Lexeme) → GoesKeyword s (codes "if") ts mid → ReadsCondition s negated e mid rest → ReadsTag s (opening_tag (if_tag negated) e) ts rest
 if_reads s negated e ts mid rest (span, g) h = record {
   reads = (mid, (span, g), h.reads);
   to = ending_parts h.ending ++ filters ∷ end_block ∷ [];
@@ -158,21 +158,20 @@ include_with_reads s name globals ts start mid last rest (span, g) text (second,
   ending = expression_ends_block s h.part.ending rest h.part.quiet h.no_more;
 }
 
+end_leads : (kind : Block) → after (block_word ∷ []) Keyword (keyword_of (end_word kind)) ≡ Some (end_block ∷ [])
+end_leads if_block = refl
+end_leads for_block = refl
+end_leads with_block = refl
+
 pub word_reads : (s : List ℕ) (word : List ℕ) (ts rest : List Lexeme) → GoesKeyword s word ts rest → after (block_word ∷ []) Keyword (keyword_of word) ≡ Some (end_block ∷ []) → Leads s (block_word ∷ []) ts (end_block ∷ []) rest × IsEnding s (end_block ∷ []) EndBlock an_end_block rest
 word_reads s word ts rest (span, g) h = (leads_key s word g h, block_ends s rest)
 
-pub endif_reads : (s : List ℕ) (ts rest : List Lexeme) → GoesKeyword s (codes "endif") ts rest → ReadsTag s endif_tag ts rest
-endif_reads s ts rest g = let x = word_reads s (codes "endif") ts rest g refl in record { reads = g; to = end_block ∷ []; leads = x.0; ending = x.1 }
+pub end_reads : (s : List ℕ) (kind : Block) (ts rest : List Lexeme) → GoesKeyword s (end_word kind) ts rest → ReadsTag s (end_tag kind) ts rest
+end_reads s kind ts rest g = let x = word_reads s (end_word kind) ts rest g (end_leads kind) in record { reads = g; to = end_block ∷ []; leads = x.0; ending = x.1 }
 
-pub endfor_reads : (s : List ℕ) (ts rest : List Lexeme) → GoesKeyword s (codes "endfor") ts rest → ReadsTag s endfor_tag ts rest
-endfor_reads s ts rest g = let x = word_reads s (codes "endfor") ts rest g refl in record { reads = g; to = end_block ∷ []; leads = x.0; ending = x.1 }
-
-pub endwith_reads : (s : List ℕ) (ts rest : List Lexeme) → GoesKeyword s (codes "endwith") ts rest → ReadsTag s endwith_tag ts rest
-endwith_reads s ts rest g = let x = word_reads s (codes "endwith") ts rest g refl in record { reads = g; to = end_block ∷ []; leads = x.0; ending = x.1 }
-
-pub for_reads : (s : List ℕ) (names : LoopVars) (e : Expression) (ts start mid last rest : List Lexeme) → GoesKeyword s (codes "for") ts start → ReadsLoopVars s names start mid → GoesKeyword s (codes "in") mid last → ReadsExpression s e last rest → ReadsTag s (for_tag names e) ts rest
+pub for_reads : (s : List ℕ) (names : LoopVars) (e : Expression) (ts start mid last rest : List Lexeme) → GoesKeyword s (codes "for") ts start → ReadsLoopVars s names start mid → GoesKeyword s (codes "in") mid last → ReadsExpression s e last rest → ReadsTag s (opening_tag (for_tag names) e) ts rest
 for_reads s names e ts start mid last rest (span, g) vars (second, k) h = record {
-  reads = (start, mid, last, (span, g), vars.reads, (second, k), h.part.reads);
+  reads = (start, (span, g), (mid, last, vars.reads, (second, k), h.part.reads));
   to = ending_parts h.part.ending ++ filters ∷ end_block ∷ [];
   leads = leads_then s (leads_key s (codes "for") g refl) (leads_then s (vars.leads (end_block ∷ [])) (leads_then s (leads_key s (codes "in") k (vars.takes_in (end_block ∷ []))) (h.part.leads (a_base ∷ filters ∷ end_block ∷ []) (end_block ∷ []) (base_takes (filters ∷ end_block ∷ [])))));
   ending = expression_ends_block s h.part.ending rest h.part.quiet h.no_more;
@@ -182,9 +181,9 @@ pub as_leads : (s : List ℕ) (e : Expression) (start mid last : List Lexeme) �
 as_leads s e start mid last h (second, k) = leads_then s (h.part.leads (a_base ∷ filters ∷ as_word ∷ end_block ∷ []) (as_word ∷ end_block ∷ []) (base_takes (filters ∷ as_word ∷ end_block ∷ [])))
     (leads_key s (codes "as") k (ending_left h.part.ending (filters ∷ as_word ∷ end_block ∷ []) Keyword key_as refl))
 
-pub with_reads : (s : List ℕ) (e : Expression) (name : Ident) (ts start mid last rest : List Lexeme) → GoesKeyword s (codes "with") ts start → ReadsExpression s e start mid → GoesKeyword s (codes "as") mid last → GoesName s name last rest → ReadsTag s (with_tag e name) ts rest
+pub with_reads : (s : List ℕ) (e : Expression) (name : Ident) (ts start mid last rest : List Lexeme) → GoesKeyword s (codes "with") ts start → ReadsExpression s e start mid → GoesKeyword s (codes "as") mid last → GoesName s name last rest → ReadsTag s (opening_tag (with_tag name) e) ts rest
 with_reads s e name ts start mid last rest (span, g) h k named = record {
-  reads = (start, mid, last, (span, g), h.part.reads, k, named);
+  reads = (start, (span, g), (mid, last, h.part.reads, k, named));
   to = end_block ∷ [];
   leads = leads_then s (leads_key s (codes "with") g refl) (leads_then s (as_leads s e start mid last h k) (leads_token s (name.span, named.0) (λ k. refl)));
   ending = block_ends s rest;
@@ -285,9 +284,18 @@ no_word_token : (t : Token) (k : Key) → (t ≡ Keyword → after (block_word �
 no_word_token Keyword k h = h refl
 no_word_token t k h = refl
 
-pub block_word_refused : (s : List ℕ) (ts : List Lexeme) → NoOpeningWord s ts → NoWord s (codes "endif") ts → NoWord s (codes "endfor") ts → NoWord s (codes "endwith") ts → Refuses s (block_word ∷ []) ts
-block_word_refused s [] a f g h = λ k. (refl, refl)
-block_word_refused s (l ∷ ls) (a, b, c, d, e) f g h = no_word_token l.token (keyword_of (symbol_of s l).word) (λ t. no_block_word (keyword_of (symbol_of s l).word)
+pub block_word_refused : (s : List ℕ) (ts : List Lexeme) → NoOpeningWord s ts → ((kind : Block) → NoWord s (end_word kind) ts) → Refuses s (block_word ∷ []) ts
+block_word_refused s [] a f = λ k. (refl, refl)
+block_word_refused s (l ∷ ls) (a, b, c, d, e) f = no_word_token l.token (keyword_of (symbol_of s l).word) (λ t. no_block_word (keyword_of (symbol_of s l).word)
     (λ k. a l.span ls (goes_key s key_if l ls t k refl)) (λ k. b l.span ls (goes_key s key_else l ls t k refl)) (λ k. c l.span ls (goes_key s key_for l ls t k refl))
-    (λ k. d l.span ls (goes_key s key_with l ls t k refl)) (λ k. e l.span ls (goes_key s key_include l ls t k refl)) (λ k. f l.span ls (goes_key s key_endif l ls t k refl))
-    (λ k. g l.span ls (goes_key s key_endfor l ls t k refl)) (λ k. h l.span ls (goes_key s key_endwith l ls t k refl)))
+    (λ k. d l.span ls (goes_key s key_with l ls t k refl)) (λ k. e l.span ls (goes_key s key_include l ls t k refl)) (λ k. f if_block l.span ls (goes_key s key_endif l ls t k refl))
+    (λ k. f for_block l.span ls (goes_key s key_endfor l ls t k refl)) (λ k. f with_block l.span ls (goes_key s key_endwith l ls t k refl)))
+
+-- where the keyword that is next ends no kind of block, none has it as its last
+pub ends_no_block : (s : List ℕ) (ts rest : List Lexeme) (span : Span) → Goes Keyword span ts rest → kind_with end_word (slice s span) ≡ None → (kind : Block) → NoWord s (end_word kind) ts
+ends_no_block s ts rest span g none kind at more h =
+    let same : g.lexeme ∷ rest ≡ h.0.lexeme ∷ more = sym g.is ∙ h.0.is in
+    let first : g.lexeme ≡ h.0.lexeme = cc in
+    let word : slice s span ≡ end_word kind = ap (slice s) (sym g.at ∙ ap (λ (l : Lexeme). l.span) first ∙ h.0.at) ∙ h.1 in
+    let found : Some kind ≡ None = sym (ended_by kind) ∙ ap (kind_with end_word) (sym word) ∙ none in
+    absurd cc

@@ -6,10 +6,11 @@ use Rattle.upon_types.specs.declared.types.token.Token.TheVariants.{Pipe}
 use Rattle.upon_types.specs.Expression.{Expression}
 use Rattle.upon_types.specs.Tree.{inline_expr}
 use Rattle.upon_language_spec.specs.Cut.{Lexeme}
+use Rattle.upon_types.specs.BlockKinds.{opened_kind, end_word}
+use Rattle.upon_types.specs.BlockKinds.{block_word as block_word_of}
 use Rattle.upon_types.specs.Path.{LoopVars}
-use Rattle.upon_language_spec.specs.Tokens.{from_to, GoesKeyword, GoesName, GoesText}
-use Rattle.upon_language_spec.specs.Expressions.{IsExpression}
-use Rattle.upon_language_spec.specs.Grammar.{IsStatement, IsCondition, AreLoopVars, AreGlobals}
+use Rattle.upon_language_spec.specs.Tokens.{from_to, GoesKeyword, GoesText}
+use Rattle.upon_language_spec.specs.Grammar.{IsStatement, IsCondition, AreLoopVars, IsHead, AreGlobals}
 use Rattle.upon_language_spec.specs.Keys.{Key, key_in}
 use Rattle.upon_language_spec.specs.Tags.{symbol_of}
 use Rattle.upon_language_spec.specs.Wanted.{Wanted, an_end_block, an_in}
@@ -22,8 +23,7 @@ use Rattle.upon_language_spec.specs.OpenParts.{Ending, ending_parts}
 use Rattle.upon_literals.specs.declared.literal.Lexed.{Lexed}
 use Rattle.upon_tag_parser.specs.declared.compile.parse.want.Want.{Want}
 use Rattle.upon_tag_parser.specs.TagParsing.{Refuses, QuietEnding, NoWord}
-use Rattle.upon_tag_parser.specs.BlockTags.{BlockTag, if_tag, else_if_tag, else_tag, endif_tag, for_tag, endfor_tag, with_tag}
-use Rattle.upon_tag_parser.specs.BlockTags.{endwith_tag, include_tag, IsBlockTag, tag_code, Keeps}
+use Rattle.upon_tag_parser.specs.BlockTags.{BlockTag, opening_tag, else_if_tag, else_tag, end_tag, include_tag, IsBlockTag, tag_code, Keeps}
 use Rattle.upon_machine_spec.specs.Code.{emission_code, expression_code}
 use Rattle.upon_instructions.specs.declared.types.program.Instr.{Instr as CodeInstr}
 use Rattle.upon_instructions.specs.Program.{program_view}
@@ -49,18 +49,12 @@ IsTagInside s tag ts = (begin end : Lexeme) (more : List Lexeme) → begin.token
 
 -- from the keyword of a tag on, up to where its end may be
 abbrev pub IsTagBody : List ℕ → BlockTag → List Lexeme → List Lexeme → Type 0
-IsTagBody s (if_tag negated e) before rest = (mid : List Lexeme) × GoesKeyword s (codes "if") before mid
-    × IsCondition s negated e mid rest
+IsTagBody s (opening_tag opening e) before rest = (mid : List Lexeme)
+    × GoesKeyword s (block_word_of (opened_kind opening)) before mid × IsHead s opening e mid rest
 IsTagBody s (else_if_tag negated e) before rest = (start mid : List Lexeme) × GoesKeyword s (codes "else") before start
     × GoesKeyword s (codes "if") start mid × IsCondition s negated e mid rest
 IsTagBody s else_tag before rest = GoesKeyword s (codes "else") before rest
-IsTagBody s endif_tag before rest = GoesKeyword s (codes "endif") before rest
-IsTagBody s (for_tag names e) before rest = (start mid after : List Lexeme) × GoesKeyword s (codes "for") before start
-    × AreLoopVars s names start mid × GoesKeyword s (codes "in") mid after × IsExpression s e after rest
-IsTagBody s endfor_tag before rest = GoesKeyword s (codes "endfor") before rest
-IsTagBody s (with_tag e name) before rest = (start mid after : List Lexeme) × GoesKeyword s (codes "with") before start
-    × IsExpression s e start mid × GoesKeyword s (codes "as") mid after × GoesName s name after rest
-IsTagBody s endwith_tag before rest = GoesKeyword s (codes "endwith") before rest
+IsTagBody s (end_tag kind) before rest = GoesKeyword s (end_word kind) before rest
 IsTagBody s (include_tag name globals) before rest = (start mid : List Lexeme)
     × GoesKeyword s (codes "include") before start × GoesText s name start mid × AreGlobals s globals mid rest
 

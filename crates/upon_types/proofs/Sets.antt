@@ -6,6 +6,7 @@ use Rattle.std.proofs.Math.IntN.{ℤ_set}
 use Rattle.std.proofs.Math.Nat.{ℕ_set}
 use Rattle.upon_types.specs.Expression.{Expression, Expression-set}
 use Rattle.upon_types.specs.Path.{Ident, Access, Access-set, Member, LoopVars, LoopVars-set}
+use Rattle.upon_types.specs.BlockKinds.{Opening, Opening-set}
 use Rattle.upon_types.specs.Tree.{Statements, Statements-set}
 use Rattle.upon_types.specs.Val.{Val, Val-set}
 use Rattle.upon_types.specs.declared.types.Span.{Span}
@@ -43,9 +44,12 @@ LoopVars-one_path = LoopVars-set Ident-set Span-set
 pub Expression-one_path : (a b : Expression) (p q : a ≡ b) → p ≡ q
 Expression-one_path = Expression-set Ident-set Span-set Member-set Members-set Val-one_path
 
+Opening-one_path : (a b : Opening) (p q : a ≡ b) → p ≡ q
+Opening-one_path = Opening-set Bool-set LoopVars-one_path Ident-set
+
 -- trees are equal in one way at most
 Maybe-set : (a b : Option Expression) (p q : a ≡ b) → p ≡ q
 Maybe-set = hlevel (props, Expression-one_path)
 
 pub Statements-one_path : (a b : Statements) (p q : a ≡ b) → p ≡ q
-Statements-one_path = Statements-set Span-set Expression-one_path Ident-set Maybe-set Bool-set LoopVars-one_path
+Statements-one_path = Statements-set Span-set Expression-one_path Ident-set Maybe-set Opening-one_path

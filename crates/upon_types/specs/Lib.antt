@@ -16,6 +16,7 @@ pub mod Cow
 pub mod Token
 pub mod Path
 pub mod Expression
+pub mod BlockKinds
 pub mod Tree
 pub mod TreeSpans
 pub mod Name

@@ -2,9 +2,10 @@
 use Rattle.std.specs.Prelude.{ℕ, List, [], ◌∷◌, Option, Some, None}
 use Rattle.upon_types.specs.declared.types.Span.{Span}
 use Rattle.upon_types.specs.Expression.{Expression, base, filtered, Base, var, literal, list, mapping, paren, call, Bases, no_bases, base_then, Items, no_items, item_then, Arguments, no_arguments, arguments}
-use Rattle.upon_types.specs.Path.{Access, by_index, by_key, Member, LoopVars, item, key_value}
+use Rattle.upon_types.specs.Path.{Access, by_index, by_key, Member}
 use Rattle.upon_types.specs.Span.{LiesIn}
-use Rattle.upon_types.specs.Tree.{Statement, raw, inline_expr, include, if_else, for_loop, with, Statements, no_statements, statement_then, Else, no_else, otherwise}
+use Rattle.upon_types.specs.BlockKinds.{OpeningSpans}
+use Rattle.upon_types.specs.Tree.{Statement, raw, inline_expr, include, block, Statements, no_statements, statement_then, Else, no_else, otherwise}
 
 -- names and paths
 abbrev pub SelectorSpans : (Span → Type 0) → Access → Type 0
@@ -19,11 +20,6 @@ StepSpans P step = P step.span × SelectorSpans P step.access
 abbrev pub StepsSpans : (Span → Type 0) → List Member → Type 0
 StepsSpans P [] = Unit {0}
 StepsSpans P (step ∷ steps) = StepSpans P step × StepsSpans P steps
-
--- those of a loop's names
-abbrev pub LoopNamesSpans : (Span → Type 0) → LoopVars → Type 0
-LoopNamesSpans P (item name) = P name.span
-LoopNamesSpans P (key_value key value both) = P key.span × P value.span × P both
 
 -- expressions
 abbrev mutual
@@ -69,10 +65,8 @@ abbrev mutual
   StatementSpans P (raw span) = P span
   StatementSpans P (inline_expr e span) = ExpressionSpans P e × P span
   StatementSpans P (include word value) = P word.span × GivenSpans P value
-  StatementSpans P (if_else negated e body other) = ExpressionSpans P e × StatementsSpans P body × ElseSpans P other
-  StatementSpans P (for_loop names e body other) =
-      LoopNamesSpans P names × ExpressionSpans P e × StatementsSpans P body × ElseSpans P other
-  StatementSpans P (with e word body) = ExpressionSpans P e × P word.span × StatementsSpans P body
+  StatementSpans P (block opening e body other) =
+      OpeningSpans P opening × ExpressionSpans P e × StatementsSpans P body × ElseSpans P other
 
   -- those of each statement
   pub StatementsSpans : (Span → Type 0) → Statements → Type 0

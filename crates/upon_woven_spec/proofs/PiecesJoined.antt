@@ -1,23 +1,23 @@
 -- What statements mean is the texts of their pieces, joined.
-use Rattle.std.proofs.Common.{◌≡◌, ℕ, zero, suc, ◌+◌, List, [], ◌∷◌, ◌++◌, length, Option, Some, None, Bool, true, false, refl, sym, ap, ◌∙◌, append_assoc, append-nil}
+use Rattle.std.proofs.Common.{◌≡◌, ℕ, zero, suc, List, [], ◌∷◌, ◌++◌, Option, Some, None, Bool, true, false, refl, sym, ap, ◌∙◌, append_assoc, append-nil}
 use Rattle.upon_types.specs.declared.types.Span.{Span}
 use Rattle.upon_types.specs.Answers.{Formatter, Callable, formatter, function}
 use Rattle.upon_types.specs.Expression.{Expression, base, filtered, Base, var, literal, list, mapping, paren, call, expression_span}
 use Rattle.upon_types.specs.Path.{Ident}
 use Rattle.upon_types.specs.Span.{slice}
-use Rattle.upon_types.specs.Tree.{Statement, raw, inline_expr, include, if_else, for_loop, with, Statements, no_statements, statement_then, Else, no_else, otherwise}
+use Rattle.upon_types.specs.BlockKinds.{opened_kind, may_have_else}
+use Rattle.upon_types.specs.Tree.{Statement, raw, inline_expr, include, block, Statements, no_statements, statement_then, Else, no_else, otherwise}
 use Rattle.upon_types.specs.Val.{Val}
-use Rattle.upon_lookup.specs.Environment.{Binding, Environment, Root, root_environment, alone_over, with_name, iteration}
+use Rattle.upon_lookup.specs.Environment.{Binding, Environment, Root, root_environment, alone_over, bind_all}
 use Rattle.upon_lookup.specs.Finding.{Finding, found, at_fault, Reply}
-use Rattle.upon_lookup.specs.Items.{items_of}
 use Rattle.upon_lookup.specs.Source.{SourceAnswer, says, refuses}
 use Rattle.upon_meaning_spec.specs.Alone.{running, on_template, included, alone_within, includes_left, alone}
 use Rattle.upon_meaning_spec.specs.Emission.{Emission, or_fault, formatter_outcome, callable_outcome, emit_call, emit_value, emit, emit_base}
 use Rattle.upon_meaning_spec.specs.Engine.{Template, Calls, Resolver, Rendering}
 use Rattle.upon_meaning_spec.specs.Evaluation.{Operand, values_of, answer_value, append_operand, evaluate, evaluate_base, evaluate_arguments}
-use Rattle.upon_meaning_spec.specs.Meaning.{RunningTemplate, Inclusion, Body, choose, condition, each, each_or, on_value, statement_means, statements_mean, else_means}
+use Rattle.upon_meaning_spec.specs.Meaning.{RunningTemplate, Inclusion, Body, turns, each, each_or, on_value, statement_means, statements_mean, else_means}
 use Rattle.upon_meaning_spec.specs.Outcome.{End, good, fails, too_deep, Outcome, States, states, go_on, then_do}
-use Rattle.upon_woven_spec.specs.Pieces.{TextPiece, written, piece_text, joined, if_found, formatter_pieces, callable_pieces, call_pieces, value_pieces, emit_pieces, emit_base_pieces, pieces_on, then_pieces, BodyPieces, each_pieces, over_pieces, InclusionPieces, statement_pieces, statements_pieces, else_pieces, template_pieces, included_pieces, pieces_within, pieces_of}
+use Rattle.upon_woven_spec.specs.Pieces.{TextPiece, written, piece_text, joined, if_found, formatter_pieces, callable_pieces, call_pieces, value_pieces, emit_pieces, emit_base_pieces, pieces_on, then_pieces, BodyPieces, each_pieces, each_or_pieces, InclusionPieces, statement_pieces, statements_pieces, else_pieces, template_pieces, included_pieces, pieces_within, pieces_of}
 
 joined_append : (ps qs : List TextPiece) → joined (ps ++ qs) ≡ joined ps ++ joined qs
 joined_append [] qs = refl
@@ -44,15 +44,11 @@ then_joined o ps go pieces h k = on_joined o.text ps o.end o.next go pieces h k
 abbrev BodyJoined : {Q : Type 0} → Body Q → BodyPieces Q → Type 0
 BodyJoined {Q} body pieces = (env : Environment) (q : Q) → (body env q).text ≡ joined (pieces env q)
 
-each_joined : {Q : Type 0} (body : Body Q) (pieces : BodyPieces Q) → BodyJoined body pieces → (count index : ℕ) (items : List (List Binding)) (env : Environment) (q : Q) → (each body count index items env q).text ≡ joined (each_pieces body pieces count index items env q)
-each_joined body pieces h count index [] env q = refl
-each_joined body pieces h count index (bs ∷ items) env q =
-    then_joined (body (iteration index count bs env) q) (pieces (iteration index count bs env) q) _ (λ q'. each_pieces body pieces count (index + 1) items env q')
-    (h (iteration index count bs env) q) (each_joined body pieces h count (index + 1) items env)
-
-choose_joined : {Q : Type 0} (test : Bool) (f g : Q → Outcome Q) (ps qs : Q → List TextPiece) → ((q : Q) → (f q).text ≡ joined (ps q)) → ((q : Q) → (g q).text ≡ joined (qs q)) → (q : Q) → (choose test f g q).text ≡ joined (choose test ps qs q)
-choose_joined true f g ps qs h k q = h q
-choose_joined false f g ps qs h k q = k q
+each_joined : {Q : Type 0} (body : Body Q) (pieces : BodyPieces Q) → BodyJoined body pieces → (turns : List (List Binding)) (env : Environment) (q : Q) → (each body turns env q).text ≡ joined (each_pieces body pieces turns env q)
+each_joined body pieces h [] env q = refl
+each_joined body pieces h (bs ∷ turns) env q =
+    then_joined (body (bind_all bs env) q) (pieces (bind_all bs env) q) _ (λ q'. each_pieces body pieces turns env q')
+    (h (bind_all bs env) q) (each_joined body pieces h turns env)
 
 module _ {V : Type 0} (calls : Calls V) where
   called_joined : (name : Ident) (whole : Span) (given : List Operand) (callable : Option Callable) → (callable_outcome calls.default_formatter name whole given callable).text ≡ joined (callable_pieces calls.default_formatter name given callable)
@@ -84,10 +80,10 @@ module _ {V : Type 0} (calls : Calls V) where
     then_value (found o) s go pieces k = k o.value s
     then_value (at_fault f) s go pieces k = refl
 
-    items_joined : (body other : Body (States V T)) (ps qs : BodyPieces (States V T)) → BodyJoined body ps → BodyJoined other qs → (x : Finding (List (List Binding))) (env : Environment) (s : States V T) → (each_or body other from x env s).text ≡ joined (over_pieces body ps qs x env s)
-    items_joined body other ps qs h k (found []) env s = k env s
-    items_joined body other ps qs h k (found (bs ∷ items)) env s = each_joined body ps h (length (bs ∷ items)) 0 (bs ∷ items) env s
-    items_joined body other ps qs h k (at_fault f) env s = refl
+    each_or_joined : (body other : Body (States V T)) (ps qs : BodyPieces (States V T)) → BodyJoined body ps → BodyJoined other qs → (x : Finding (List (List Binding))) (env : Environment) (s : States V T) → (each_or body other from x env s).text ≡ joined (each_or_pieces body ps qs x env s)
+    each_or_joined body other ps qs h k (found []) env s = k env s
+    each_or_joined body other ps qs h k (found (bs ∷ turns)) env s = each_joined body ps h (bs ∷ turns) env s
+    each_or_joined body other ps qs h k (at_fault f) env s = refl
 
     in_expression : (e : Expression) (env : Environment) (s : States V T) (go : Val → States V T → Outcome (States V T)) (pieces : Val → States V T → List TextPiece) → ((v : Val) (s : States V T) → (go v s).text ≡ joined (pieces v s)) → (on_value from (evaluate calls e env s.values).answer (states (evaluate calls e env s.values).next s.templates) go).text ≡ joined (if_found (evaluate calls e env s.values).answer (λ o. pieces o.value (states (evaluate calls e env s.values).next s.templates)))
     in_expression e env s go pieces k = then_value (evaluate calls e env s.values).answer _ go pieces k
@@ -100,14 +96,10 @@ module _ {V : Type 0} (calls : Calls V) where
         statement_joined (inline_expr e span) env s = emission_joined e env s.values
         statement_joined (include word None) env s = c word env s
         statement_joined (include word (Some e)) env s = in_expression e env s _ (λ v s'. j from word (alone_over v) s') (λ v s'. c word (alone_over v) s')
-        statement_joined (if_else n e a b) env s =
-            in_expression e env s _ (λ v s'. choose (condition n v) (statements_pieces calls i j from a env) (else_pieces calls i j from b env) s')
-            (λ v s'. choose_joined (condition n v) _ _ (statements_pieces calls i j from a env) (else_pieces calls i j from b env) (statements_joined a env) (else_joined b env) s')
-        statement_joined (for_loop names e body other) env s =
-            in_expression e env s _ (λ v s'. over_pieces (statements_mean calls i from body) (statements_pieces calls i j from body) (else_pieces calls i j from other) (items_of names v (expression_span e)) env s')
-            (λ v s'. items_joined (statements_mean calls i from body) (else_means calls i from other) (statements_pieces calls i j from body) (else_pieces calls i j from other)
-            (statements_joined body) (else_joined other) (items_of names v (expression_span e)) env s')
-        statement_joined (with e word body) env s = in_expression e env s _ (λ v s'. statements_pieces calls i j from body (with_name word v env) s') (λ v s'. statements_joined body (with_name word v env) s')
+        statement_joined (block opening e body other) env s =
+            in_expression e env s _ (λ v s'. each_or_pieces (statements_mean calls i from body) (statements_pieces calls i j from body) (else_pieces calls i j from other (may_have_else (opened_kind opening))) (turns opening (expression_span e) v) env s')
+            (λ v s'. each_or_joined (statements_mean calls i from body) (else_means calls i from other (may_have_else (opened_kind opening))) (statements_pieces calls i j from body) (else_pieces calls i j from other (may_have_else (opened_kind opening)))
+            (statements_joined body) (else_joined other (may_have_else (opened_kind opening))) (turns opening (expression_span e) v) env s')
 
         pub statements_joined : (ts : Statements) → BodyJoined (statements_mean calls i from ts) (statements_pieces calls i j from ts)
         statements_joined no_statements env s = refl
@@ -115,9 +107,10 @@ module _ {V : Type 0} (calls : Calls V) where
             then_joined (statement_means calls i from t env s) (statement_pieces calls i j from t env s) _ (λ s'. statements_pieces calls i j from ts env s')
             (statement_joined t env s) (statements_joined ts env)
 
-        else_joined : (t : Else) → BodyJoined (else_means calls i from t) (else_pieces calls i j from t)
-        else_joined no_else env s = refl
-        else_joined (otherwise body) env s = statements_joined body env s
+        else_joined : (t : Else) (may : Bool) → BodyJoined (else_means calls i from t may) (else_pieces calls i j from t may)
+        else_joined no_else may env s = refl
+        else_joined (otherwise body) false env s = refl
+        else_joined (otherwise body) true env s = statements_joined body env s
 
 module _ {V T : Type 0} (calls : Calls V) (resolve : Resolver T) where
   template_joined : {Q : Type 0} (from : RunningTemplate) (word : Ident) (x : SourceAnswer Template) (q : Q) (go : Template → Q → Outcome Q) (pieces : Template → Q → List TextPiece) → ((w : Template) → (go w q).text ≡ joined (pieces w q)) → (on_template from word x q go).text ≡ joined (template_pieces x q pieces)

@@ -1,23 +1,23 @@
 -- Each piece is a raw part of a template that is reached, or written by a formatter that can be called.
-use Rattle.std.proofs.Common.{◌≡◌, ℕ, zero, suc, ◌+◌, List, [], ◌∷◌, ◌++◌, length, Option, Some, None, Bool, true, false, inl, inr, refl, sym, subst}
+use Rattle.std.proofs.Common.{◌≡◌, ℕ, zero, suc, List, [], ◌∷◌, ◌++◌, Option, Some, None, Bool, true, false, inl, inr, refl, sym, subst}
 use Rattle.upon_types.specs.declared.types.Span.{Span}
 use Rattle.upon_types.specs.Answers.{Formatter, Callable, formatter, function}
 use Rattle.upon_types.specs.Expression.{Expression, base, filtered, Base, var, literal, list, mapping, paren, call, expression_span}
 use Rattle.upon_types.specs.Path.{Ident}
-use Rattle.upon_types.specs.Tree.{Statement, raw, inline_expr, include, if_else, for_loop, with, Statements, no_statements, statement_then, Else, no_else, otherwise}
+use Rattle.upon_types.specs.BlockKinds.{opened_kind, may_have_else}
+use Rattle.upon_types.specs.Tree.{Statement, raw, inline_expr, include, block, Statements, no_statements, statement_then, Else, no_else, otherwise}
 use Rattle.upon_types.specs.Val.{Val}
-use Rattle.upon_lookup.specs.Environment.{Binding, Environment, Root, root_environment, alone_over, with_name, iteration}
+use Rattle.upon_lookup.specs.Environment.{Binding, Environment, Root, root_environment, alone_over, bind_all}
 use Rattle.upon_lookup.specs.Finding.{Finding, found, at_fault}
-use Rattle.upon_lookup.specs.Items.{items_of}
 use Rattle.upon_lookup.specs.Source.{SourceAnswer, says, refuses}
 use Rattle.upon_meaning_spec.specs.Alone.{running, included, alone_within, includes_left}
 use Rattle.upon_meaning_spec.specs.Engine.{Template, Calls, Resolver, Rendering}
 use Rattle.upon_meaning_spec.specs.Evaluation.{Operand, values_of, answer_value, append_operand, evaluate, evaluate_base, evaluate_arguments}
 use Rattle.upon_meaning_spec.specs.Includes.{StatementIncludes, Includes, ElseIncludes}
-use Rattle.upon_meaning_spec.specs.Meaning.{RunningTemplate, Inclusion, Body, choose, condition, statement_means, statements_mean}
+use Rattle.upon_meaning_spec.specs.Meaning.{RunningTemplate, Inclusion, Body, turns, statement_means, statements_mean}
 use Rattle.upon_meaning_spec.specs.Outcome.{End, good, fails, too_deep, Outcome, States, states}
 use Rattle.upon_woven_spec.specs.Parts.{StatementHasRaw, HasRaw, ElseHasRaw, WritesBy, BaseWritesBy, StatementNames, NamesFormatter, ElseNames, Reached, itself, included_by, by_default, by_name, IsPieceOf, Each, WroteSuch, WritesOnly, WovenOf}
-use Rattle.upon_woven_spec.specs.Pieces.{TextPiece, raw_part, written, if_found, formatter_pieces, callable_pieces, call_pieces, value_pieces, emit_pieces, emit_base_pieces, pieces_on, then_pieces, BodyPieces, each_pieces, over_pieces, InclusionPieces, statement_pieces, statements_pieces, else_pieces, template_pieces, included_pieces, pieces_within, pieces_of}
+use Rattle.upon_woven_spec.specs.Pieces.{TextPiece, raw_part, written, if_found, formatter_pieces, callable_pieces, call_pieces, value_pieces, emit_pieces, emit_base_pieces, pieces_on, then_pieces, BodyPieces, each_pieces, each_or_pieces, InclusionPieces, statement_pieces, statements_pieces, else_pieces, template_pieces, included_pieces, pieces_within, pieces_of}
 use Rattle.upon_woven_spec.proofs.PiecesJoined.{within_joined}
 
 module _ (P : TextPiece → Type 0) where
@@ -75,18 +75,14 @@ module _ (P : TextPiece → Type 0) where
     abbrev BodyEach : {Q : Type 0} → BodyPieces Q → Type 0
     BodyEach {Q} pieces = (env : Environment) (q : Q) → Each P (pieces env q)
 
-    loop_each : {Q : Type 0} (body : Body Q) (pieces : BodyPieces Q) → BodyEach pieces → (count index : ℕ) (items : List (List Binding)) (env : Environment) (q : Q) → Each P (each_pieces body pieces count index items env q)
-    loop_each body pieces h count index [] env q = tt
-    loop_each body pieces h count index (bs ∷ items) env q = then_each (pieces (iteration index count bs env) q) (body (iteration index count bs env) q) _ (h (iteration index count bs env) q) (loop_each body pieces h count (index + 1) items env)
+    turns_each : {Q : Type 0} (body : Body Q) (pieces : BodyPieces Q) → BodyEach pieces → (turns : List (List Binding)) (env : Environment) (q : Q) → Each P (each_pieces body pieces turns env q)
+    turns_each body pieces h [] env q = tt
+    turns_each body pieces h (bs ∷ turns) env q = then_each (pieces (bind_all bs env) q) (body (bind_all bs env) q) _ (h (bind_all bs env) q) (turns_each body pieces h turns env)
 
-    choose_each : {Q : Type 0} (test : Bool) (f g : Q → List TextPiece) → ((q : Q) → Each P (f q)) → ((q : Q) → Each P (g q)) → (q : Q) → Each P (choose test f g q)
-    choose_each true f g h k q = h q
-    choose_each false f g h k q = k q
-
-    items_each : {Q : Type 0} (body : Body Q) (pieces other : BodyPieces Q) → BodyEach pieces → BodyEach other → (x : Finding (List (List Binding))) (env : Environment) (s : Q) → Each P (over_pieces body pieces other x env s)
-    items_each body pieces other h k (found []) env s = k env s
-    items_each body pieces other h k (found (bs ∷ items)) env s = loop_each body pieces h (length (bs ∷ items)) 0 (bs ∷ items) env s
-    items_each body pieces other h k (at_fault f) env s = tt
+    turns_or_each : {Q : Type 0} (body : Body Q) (pieces other : BodyPieces Q) → BodyEach pieces → BodyEach other → (x : Finding (List (List Binding))) (env : Environment) (s : Q) → Each P (each_or_pieces body pieces other x env s)
+    turns_or_each body pieces other h k (found []) env s = k env s
+    turns_or_each body pieces other h k (found (bs ∷ turns)) env s = turns_each body pieces h (bs ∷ turns) env s
+    turns_or_each body pieces other h k (at_fault f) env s = tt
 
     -- where includes of these names give such pieces
     module _ {T : Type 0} (i : Inclusion V T) (j : InclusionPieces V T) (from : RunningTemplate) where
@@ -102,18 +98,12 @@ module _ (P : TextPiece → Type 0) where
         statement_each (inline_expr e span) r w c env s = emission_each e env s.values w
         statement_each (include word None) r w c env s = c word.text refl word refl env s
         statement_each (include word (Some e)) r w c env s = in_expression e env s _ (λ v s'. c word.text refl word refl (alone_over v) s')
-        statement_each (if_else n e a b) r w c env s =
+        statement_each (block opening e body other) r w c env s =
             in_expression e env s _
-            (λ v s'. choose_each (condition n v) _ _
-            (statements_each a (λ at h. r at (inl h)) (λ m h. w m (inl h)) (λ m h. c m (inl h)) env)
-            (else_each b (λ at h. r at (inr h)) (λ m h. w m (inr h)) (λ m h. c m (inr h)) env) s')
-        statement_each (for_loop names e body other) r w c env s =
-            in_expression e env s _
-            (λ v s'. items_each (statements_mean calls i from body) _ _
+            (λ v s'. turns_or_each (statements_mean calls i from body) _ _
             (statements_each body (λ at h. r at (inl h)) (λ m h. w m (inl h)) (λ m h. c m (inl h)))
-            (else_each other (λ at h. r at (inr h)) (λ m h. w m (inr h)) (λ m h. c m (inr h)))
-            (items_of names v (expression_span e)) env s')
-        statement_each (with e word body) r w c env s = in_expression e env s _ (λ v s'. statements_each body r w c (with_name word v env) s')
+            (else_each other (may_have_else (opened_kind opening)) (λ at h. r at (inr h)) (λ m h. w m (inr h)) (λ m h. c m (inr h)))
+            (turns opening (expression_span e) v) env s')
 
         pub statements_each : (ts : Statements) → ((at : Span) → HasRaw at ts → P (raw_part from at)) → ((name : List ℕ) → NamesFormatter name ts → NamedWrites name) → ((name : List ℕ) → Includes name ts → IncludeEach name) → BodyEach (statements_pieces calls i j from ts)
         statements_each no_statements r w c env s = tt
@@ -122,9 +112,10 @@ module _ (P : TextPiece → Type 0) where
             (statement_each t (λ at h. r at (inl h)) (λ m h. w m (inl h)) (λ m h. c m (inl h)) env s)
             (statements_each ts (λ at h. r at (inr h)) (λ m h. w m (inr h)) (λ m h. c m (inr h)) env)
 
-        else_each : (t : Else) → ((at : Span) → ElseHasRaw at t → P (raw_part from at)) → ((name : List ℕ) → ElseNames name t → NamedWrites name) → ((name : List ℕ) → ElseIncludes name t → IncludeEach name) → BodyEach (else_pieces calls i j from t)
-        else_each no_else r w c env s = tt
-        else_each (otherwise body) r w c env s = statements_each body r w c env s
+        else_each : (t : Else) (may : Bool) → ((at : Span) → ElseHasRaw at t may → P (raw_part from at)) → ((name : List ℕ) → ElseNames name t may → NamedWrites name) → ((name : List ℕ) → ElseIncludes name t may → IncludeEach name) → BodyEach (else_pieces calls i j from t may)
+        else_each no_else may r w c env s = tt
+        else_each (otherwise body) false r w c env s = tt
+        else_each (otherwise body) true r w c env s = statements_each body r w c env s
 
 module _ {V T : Type 0} (calls : Calls V) (resolve : Resolver T) (t : Template) where
   abbrev Theirs : List TextPiece → Type 0

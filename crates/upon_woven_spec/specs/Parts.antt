@@ -1,10 +1,11 @@
 -- The raw parts that a template can show, and the formatters that it can call: its own, and those of the templates
 -- that it reaches.
-use Rattle.std.specs.Prelude.{◌≡◌, ℕ, List, [], ◌∷◌, ◌⊎◌, Some}
+use Rattle.std.specs.Prelude.{◌≡◌, ℕ, List, [], ◌∷◌, ◌⊎◌, Some, Bool, true, false}
 use Rattle.upon_types.specs.declared.types.Span.{Span}
 use Rattle.upon_types.specs.Answers.{Formatter, formatter}
 use Rattle.upon_types.specs.Expression.{Expression, base, filtered, Base, var, literal, list, mapping, paren, call}
-use Rattle.upon_types.specs.Tree.{Statement, raw, inline_expr, include, if_else, for_loop, with, Statements, no_statements, statement_then, Else, no_else, otherwise}
+use Rattle.upon_types.specs.BlockKinds.{opened_kind, may_have_else}
+use Rattle.upon_types.specs.Tree.{Statement, raw, inline_expr, include, block, Statements, no_statements, statement_then, Else, no_else, otherwise}
 use Rattle.upon_types.specs.Val.{Val}
 use Rattle.upon_lookup.specs.Source.{says}
 use Rattle.upon_meaning_spec.specs.Engine.{Template, Calls, Resolver}
@@ -19,19 +20,19 @@ abbrev mutual
   StatementHasRaw at (raw span) = span ≡ at
   StatementHasRaw at (inline_expr e span) = ⊥
   StatementHasRaw at (include word value) = ⊥
-  StatementHasRaw at (if_else negated e body other) = HasRaw at body ⊎ ElseHasRaw at other
-  StatementHasRaw at (for_loop names e body other) = HasRaw at body ⊎ ElseHasRaw at other
-  StatementHasRaw at (with e word body) = HasRaw at body
+  StatementHasRaw at (block opening e body other) =
+      HasRaw at body ⊎ ElseHasRaw at other (may_have_else (opened_kind opening))
 
   -- a raw part of statements is at this span
   pub HasRaw : Span → Statements → Type 0
   HasRaw at no_statements = ⊥
   HasRaw at (statement_then t ts) = StatementHasRaw at t ⊎ HasRaw at ts
 
-  -- a raw part of the other branch of an `if` or a `for` is at this span
-  pub ElseHasRaw : Span → Else → Type 0
-  ElseHasRaw at no_else = ⊥
-  ElseHasRaw at (otherwise body) = HasRaw at body
+  -- a raw part of the other branch of a block is at this span
+  pub ElseHasRaw : Span → Else → Bool → Type 0
+  ElseHasRaw at no_else may = ⊥
+  ElseHasRaw at (otherwise body) false = ⊥
+  ElseHasRaw at (otherwise body) true = HasRaw at body
 
 -- what the expression gives is written by the formatter of this name, if the name is a formatter's
 abbrev mutual
@@ -56,19 +57,19 @@ abbrev mutual
   StatementNames name (raw span) = ⊥
   StatementNames name (inline_expr e span) = WritesBy name e
   StatementNames name (include word value) = ⊥
-  StatementNames name (if_else negated e body other) = NamesFormatter name body ⊎ ElseNames name other
-  StatementNames name (for_loop names e body other) = NamesFormatter name body ⊎ ElseNames name other
-  StatementNames name (with e word body) = NamesFormatter name body
+  StatementNames name (block opening e body other) =
+      NamesFormatter name body ⊎ ElseNames name other (may_have_else (opened_kind opening))
 
   -- a tag of statements does
   pub NamesFormatter : List ℕ → Statements → Type 0
   NamesFormatter name no_statements = ⊥
   NamesFormatter name (statement_then t ts) = StatementNames name t ⊎ NamesFormatter name ts
 
-  -- a tag of the other branch of an `if` or a `for` does
-  pub ElseNames : List ℕ → Else → Type 0
-  ElseNames name no_else = ⊥
-  ElseNames name (otherwise body) = NamesFormatter name body
+  -- a tag of the other branch of a block does
+  pub ElseNames : List ℕ → Else → Bool → Type 0
+  ElseNames name no_else may = ⊥
+  ElseNames name (otherwise body) false = ⊥
+  ElseNames name (otherwise body) true = NamesFormatter name body
 
 -- the template itself, and each one that is answered for the name of an include in one of these
 pub data Reached {T : Type 0} (resolve : Resolver T) (t : Template) : Template → Type 0 where

@@ -1,20 +1,20 @@
 -- Of which pieces the text of a rendering is made, in their order: by recursion on the tree, as its meaning is.
-use Rattle.std.specs.Prelude.{ℕ, zero, suc, ◌+◌, List, [], ◌∷◌, ◌++◌, length, Option, Some, None}
+use Rattle.std.specs.Prelude.{ℕ, zero, suc, List, [], ◌∷◌, ◌++◌, Option, Some, None, Bool, true, false}
 use Rattle.upon_types.specs.declared.types.Span.{Span}
 use Rattle.upon_types.specs.Answers.{Formatter, Callable, formatter, function}
 use Rattle.upon_types.specs.Expression.{Expression, base, filtered, Base, var, literal, list, mapping, paren, call, expression_span}
 use Rattle.upon_types.specs.Path.{Ident}
 use Rattle.upon_types.specs.Span.{slice}
-use Rattle.upon_types.specs.Tree.{Statement, raw, inline_expr, include, if_else, for_loop, with, Statements, no_statements, statement_then, Else, no_else, otherwise}
+use Rattle.upon_types.specs.BlockKinds.{opened_kind, may_have_else}
+use Rattle.upon_types.specs.Tree.{Statement, raw, inline_expr, include, block, Statements, no_statements, statement_then, Else, no_else, otherwise}
 use Rattle.upon_types.specs.Val.{Val}
-use Rattle.upon_lookup.specs.Environment.{Binding, Environment, Root, root_environment, alone_over, with_name, iteration}
+use Rattle.upon_lookup.specs.Environment.{Binding, Environment, Root, root_environment, alone_over, bind_all}
 use Rattle.upon_lookup.specs.Finding.{Finding, found, at_fault, Reply}
-use Rattle.upon_lookup.specs.Items.{items_of}
 use Rattle.upon_lookup.specs.Source.{SourceAnswer, says, refuses}
 use Rattle.upon_meaning_spec.specs.Alone.{running, included, includes_left}
 use Rattle.upon_meaning_spec.specs.Engine.{Template, Calls, Resolver, Rendering}
 use Rattle.upon_meaning_spec.specs.Evaluation.{Operand, values_of, answer_value, append_operand, evaluate, evaluate_base, evaluate_arguments}
-use Rattle.upon_meaning_spec.specs.Meaning.{RunningTemplate, Inclusion, Body, choose, condition, statement_means, statements_mean}
+use Rattle.upon_meaning_spec.specs.Meaning.{RunningTemplate, Inclusion, Body, turns, statement_means, statements_mean}
 use Rattle.upon_meaning_spec.specs.Outcome.{End, good, fails, too_deep, Outcome, States, states}
 
 -- a piece of a text: what the template that runs has at the span of a raw part, or what a formatter wrote for a value
@@ -90,20 +90,18 @@ then_pieces ps first go = pieces_on ps first.end first.next go
 abbrev pub BodyPieces : Type 0 → Type 0
 BodyPieces Q = Environment → Q → List TextPiece
 
--- the pieces of the body for each item from this index on, of so many in all, up to the first fault
-abbrev pub each_pieces : {Q : Type 0} → Body Q → BodyPieces Q → ℕ → ℕ → List (List Binding) → BodyPieces Q
-each_pieces body pieces count index [] env q = []
-each_pieces body pieces count index (bs ∷ items) env q =
-    then_pieces (pieces (iteration index count bs env) q) (body (iteration index count bs env) q)
-    (λ q'. each_pieces body pieces count (index + 1) items env q')
+-- the pieces of the body in each turn, up to the first fault
+abbrev pub each_pieces : {Q : Type 0} → Body Q → BodyPieces Q → List (List Binding) → BodyPieces Q
+each_pieces body pieces [] env q = []
+each_pieces body pieces (bs ∷ more) env q =
+    then_pieces (pieces (bind_all bs env) q) (body (bind_all bs env) q) (λ q'. each_pieces body pieces more env q')
 
--- the pieces of the body for each item that a loop goes over, or those of the other branch if there is no item
-abbrev pub over_pieces : {Q : Type 0} → Body Q → BodyPieces Q → BodyPieces Q → Finding (List (List Binding))
+-- the same, or the pieces of the other branch if there is no turn
+abbrev pub each_or_pieces : {Q : Type 0} → Body Q → BodyPieces Q → BodyPieces Q → Finding (List (List Binding))
     → BodyPieces Q
-over_pieces body pieces other (found []) env q = other env q
-over_pieces body pieces other (found (bs ∷ items)) env q =
-    each_pieces body pieces (length (bs ∷ items)) 0 (bs ∷ items) env q
-over_pieces body pieces other (at_fault f) env q = []
+each_or_pieces body pieces other (found []) env q = other env q
+each_or_pieces body pieces other (found (bs ∷ more)) env q = each_pieces body pieces (bs ∷ more) env q
+each_or_pieces body pieces other (at_fault f) env q = []
 
 -- the pieces for the value that an expression gives, with the next state of the value source
 abbrev pub value_then_pieces : {V T : Type 0} → T → Reply V (Finding Operand) → (Val → States V T → List TextPiece)
@@ -126,16 +124,10 @@ module _ {V T : Type 0} (calls : Calls V) (include_means : Inclusion V T) (inclu
     statement_pieces (include word (Some e)) env s =
         value_then_pieces s.templates (evaluate calls e env s.values)
         (λ v s'. include_pieces running word (alone_over v) s')
-    statement_pieces (if_else negated e body other) env s =
+    statement_pieces (block opening e body other) env s =
         value_then_pieces s.templates (evaluate calls e env s.values)
-        (λ v s'. choose (condition negated v) (statements_pieces body env) (else_pieces other env) s')
-    statement_pieces (for_loop names e body other) env s =
-        value_then_pieces s.templates (evaluate calls e env s.values)
-        (λ v s'. over_pieces (statements_mean calls include_means running body) (statements_pieces body)
-        (else_pieces other) (items_of names v (expression_span e)) env s')
-    statement_pieces (with e word body) env s =
-        value_then_pieces s.templates (evaluate calls e env s.values)
-        (λ v s'. statements_pieces body (with_name word v env) s')
+        (λ v s'. each_or_pieces (statements_mean calls include_means running body) (statements_pieces body)
+        (else_pieces other (may_have_else (opened_kind opening))) (turns opening (expression_span e) v) env s')
 
     -- the pieces of statements, up to the first fault
     pub statements_pieces : Statements → BodyPieces (States V T)
@@ -144,10 +136,11 @@ module _ {V T : Type 0} (calls : Calls V) (include_means : Inclusion V T) (inclu
         then_pieces (statement_pieces t env s) (statement_means calls include_means running t env s)
         (λ s'. statements_pieces ts env s')
 
-    -- the pieces of the other branch of an `if` or a `for`
-    pub else_pieces : Else → BodyPieces (States V T)
-    else_pieces no_else env s = []
-    else_pieces (otherwise body) env s = statements_pieces body env s
+    -- the pieces of the other branch of a block
+    pub else_pieces : Else → Bool → BodyPieces (States V T)
+    else_pieces no_else may env s = []
+    else_pieces (otherwise body) false env s = []
+    else_pieces (otherwise body) true env s = statements_pieces body env s
 
 -- the pieces of the template that a source answers, or none
 abbrev pub template_pieces : {Q : Type 0} → SourceAnswer Template → Q → (Template → Q → List TextPiece) → List TextPiece

@@ -1,10 +1,12 @@
 // The branches of an `if` and of a loop.
 ghost use Rattle.std.specs.Prelude.{◌≡◌, [], OnOk, IfOk, length};
 ghost use Rattle.upon_types.specs.AstPath.{loop_vars_of};
+ghost use Rattle.upon_types.specs.BlockKinds.{if_block, for_block, if_tag, for_tag};
+ghost use Rattle.upon_types.specs.declared.types.Span.{Span};
 ghost use Rattle.upon_machine_spec.specs.Code.{jump_unless};
 ghost use Rattle.upon_instructions.specs.Program.{instr_of, program_view};
 ghost use Rattle.upon_compiler.specs.After.{after_event, between_branches, branch_ended, else_if_begun, else_ifs_ended};
-ghost use Rattle.upon_compiler.specs.Events.{if_event, else_if_event, else_event, endif_event, for_event, endfor_event};
+ghost use Rattle.upon_compiler.specs.Events.{opening_event, else_if_event, else_event, end_event};
 
 use super::{Compiler, OpenBlock};
 use std::alloc::AllocError;
@@ -41,8 +43,8 @@ impl Compiler {
     /// Begins an `if`, whose condition has these instructions and may be negated, and leaves none of them behind. It
     /// fails if memory is out.
     pub fn begin_if(&mut self, code: &mut Vec<Instr>, not: bool) -> Result<(), AllocError>
-        ensures state { OnOk result (compiler_state self.new
-            ≡ after_event (if_event not (program_view code.old.items)) (compiler_state self.old)) }
+        ensures state { (at : Span) → OnOk result (compiler_state self.new
+            ≡ after_event (opening_event (if_tag not) at (program_view code.old.items)) (compiler_state self.old)) }
         ensures moved { OnOk result (code.new.items ≡ []) }
     {
         self.append(code)?;
@@ -89,7 +91,7 @@ impl Compiler {
 
     /// Ends the innermost block, which is an `if`, and each `if` that went on with an `else if` that ends so.
     pub fn end_if(&mut self)
-        ensures { compiler_state self.new ≡ after_event endif_event (compiler_state self.old) }
+        ensures { compiler_state self.new ≡ after_event (end_event if_block) (compiler_state self.old) }
     {
         let Some(block) = self.leave() else {
             return;
@@ -107,7 +109,7 @@ impl Compiler {
         span: Span,
     ) -> Result<(), AllocError>
         ensures state { OnOk result (compiler_state self.new
-            ≡ after_event (for_event (loop_vars_of vars.value) span (program_view code.old.items))
+            ≡ after_event (opening_event (for_tag (loop_vars_of vars.value)) span (program_view code.old.items))
             (compiler_state self.old)) }
         ensures moved { OnOk result (code.new.items ≡ []) }
     {
@@ -121,7 +123,7 @@ impl Compiler {
 
     /// Ends the innermost block, which is a loop. It fails if memory is out.
     pub fn end_for(&mut self) -> Result<(), AllocError>
-        ensures { OnOk result (compiler_state self.new ≡ after_event endfor_event (compiler_state self.old)) }
+        ensures { OnOk result (compiler_state self.new ≡ after_event (end_event for_block) (compiler_state self.old)) }
     {
         let Some(block) = self.leave() else {
             return Ok(());

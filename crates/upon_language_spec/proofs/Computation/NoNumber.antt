@@ -9,7 +9,7 @@ use Rattle.upon_types.specs.Span.{slice}
 use Rattle.upon_types.specs.Val.{Val, none_val, bool_val, int_val, text_val, list_val, map_val}
 use Rattle.upon_types.specs.Path.{Member}
 use Rattle.upon_types.specs.Expression.{Expression, base, filtered, Base, var, literal, list, mapping, paren, call}
-use Rattle.upon_types.specs.Tree.{Statement, raw, inline_expr, include, if_else, for_loop, with, no_statements, statement_then}
+use Rattle.upon_types.specs.Tree.{Statement, raw, inline_expr, include, block, no_statements, statement_then}
 use Rattle.upon_language_spec.specs.Cut.{Lexeme}
 use Rattle.upon_language_spec.specs.Literal.{IsInteger}
 use Rattle.upon_language_spec.specs.Tokens.{Goes}
@@ -72,9 +72,7 @@ module _ (s : List ℕ) (begin l : Lexeme) (ls : List Lexeme) (begins : begin.to
       let inside : l ∷ ls ≡ h.2 = (first_goes BeginExpr h.0 begin (l ∷ ls) h.2 h.4).2 in
       number_expression s l ls is e h.3 (subst F (sym inside) h.5)
   statement_number (include name context) rest h = absurd (not_block begin begins (by_block s _ begin (l ∷ ls) h.0 h.3))
-  statement_number (if_else negated e body other) rest h = absurd (not_block begin begins (by_block s _ begin (l ∷ ls) h.2.0 h.2.2))
-  statement_number (for_loop names e body other) rest h = absurd (not_block begin begins (by_block s _ begin (l ∷ ls) h.2.0 h.2.4))
-  statement_number (with e name body) rest h = absurd (not_block begin begins (by_block s _ begin (l ∷ ls) h.2.0 h.2.4))
+  statement_number (block opening e body other) rest h = absurd (not_block begin begins (by_block s _ begin (l ∷ ls) h.2.0 h.2.2))
 
   -- no tree reads from a begin and a number whose text denotes no integer
   pub no_number_reads : (StandsForInteger s l → ⊥) → NothingReads s (begin ∷ l ∷ ls)

@@ -3,7 +3,7 @@ use Rattle.std.proofs.Common.{◌≡◌, ℕ, List, [], ◌∷◌, Bool, true, f
 use Rattle.upon_types.specs.declared.types.Span.{Span}
 use Rattle.upon_types.specs.declared.types.token.Token.{Token}
 use Rattle.upon_types.specs.declared.types.token.Token.TheVariants.{Raw, BeginExpr, BeginBlock}
-use Rattle.upon_types.specs.Tree.{Statement, raw, inline_expr, include, if_else, for_loop, with, Statements, no_statements, statement_then}
+use Rattle.upon_types.specs.Tree.{Statement, raw, inline_expr, include, block, Statements, no_statements, statement_then}
 use Rattle.upon_language_spec.specs.Search.{DelimiterText, HasTexts}
 use Rattle.upon_language_spec.specs.Cut.{Lexeme, outside}
 use Rattle.upon_language_spec.specs.Shown.{shown_lexemes}
@@ -50,9 +50,7 @@ statement_begins : (s : List ℕ) (t : Statement) (l : Lexeme) (ls rest : List L
 statement_begins s (raw span) l ls rest h = by_first Raw span l ls rest refl h
 statement_begins s (inline_expr e span) l ls rest h = by_first BeginExpr h.0 l ls h.2 refl h.4
 statement_begins s (include name context) l ls rest h = ap begins_statement (by_block s _ l ls h.0 h.3)
-statement_begins s (if_else negated e body other) l ls rest h = ap begins_statement (by_block s _ l ls h.2.0 h.2.2)
-statement_begins s (for_loop names e body other) l ls rest h = ap begins_statement (by_block s _ l ls h.2.0 h.2.4)
-statement_begins s (with e name body) l ls rest h = ap begins_statement (by_block s _ l ls h.2.0 h.2.4)
+statement_begins s (block opening e body other) l ls rest h = ap begins_statement (by_block s _ l ls h.2.0 h.2.2)
 
 pub no_statement_begins : (s : List ℕ) (l : Lexeme) (ls : List Lexeme) → begins_statement l.token ≡ false → NothingReads s (l ∷ ls)
 no_statement_begins s l ls h no_statements are = cc are

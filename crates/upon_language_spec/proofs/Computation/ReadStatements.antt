@@ -2,12 +2,14 @@
 use Rattle.std.proofs.Common.{◌≡◌, inl, inr, ℕ, List, Bool, true, false, Option, Some, None, codes}
 use Rattle.upon_types.specs.declared.types.Span.{Span}
 use Rattle.upon_types.specs.declared.types.token.Token.TheVariants.{Raw, BeginExpr, EndExpr, BeginBlock, EndBlock, Comma}
-use Rattle.upon_types.specs.Path.{Ident, LoopVars, item, key_value}
+use Rattle.upon_types.specs.Path.{LoopVars, item, key_value}
 use Rattle.upon_types.specs.Expression.{Expression}
-use Rattle.upon_types.specs.Tree.{Statement, raw, inline_expr, include, if_else, for_loop, with, Statements, no_statements, statement_then, Else, no_else, otherwise}
+use Rattle.upon_types.specs.BlockKinds.{Block, if_block, Opening, if_tag, opened_kind, block_word, end_word, may_have_else, may_have_else_if}
+use Rattle.upon_types.specs.Tree.{Statement, raw, inline_expr, include, block, Statements, no_statements, statement_then, Else, no_else, otherwise}
 use Rattle.upon_language_spec.specs.Cut.{Lexeme}
 use Rattle.upon_language_spec.specs.Tokens.{from_to}
-use Rattle.upon_language_spec.specs.Grammar.{BeginsBlock, IsWordTag, IsCondition, IsIfTag, IsElseIfTag, AreLoopVars, IsForTag, IsWithTag, AreGlobals, IsStatement, AreStatements, IsElse, IsForElse, IsElseIf, IsIfAfterElse}
+use Rattle.upon_language_spec.specs.Grammar.{BeginsBlock, IsWordTag, IsCondition, IsElseIfTag, AreLoopVars, IsHead, IsOpeningTag, AreGlobals, IsStatement, AreStatements, IsBlockEnd, IsElseIf, IsIfAfterElse}
+use Rattle.upon_language_spec.proofs.BlockKinds.{HeadPart, value_part, names_part, Head, last_part, part_then, head_of, IsHeadPart, AreHeadParts, head_of_parts}
 use Rattle.upon_language_spec.proofs.Computation.ReadTokens.{Left, then_read, when, or_read, both_read, read_when, one_read, first_span, same_span, one_span, read_by, read_at, goes_read, by_read, at_read, read_keyword, keyword_read, read_name, read_text, name_read, text_read}
 use Rattle.upon_language_spec.proofs.Computation.ReadExpressions.{read_expression, expression_read}
 
@@ -22,9 +24,6 @@ abbrev pub read_condition : List ℕ → Bool → Expression → List Lexeme →
 read_condition s true e before = then_read (read_keyword s (codes "not") before) (read_expression s e)
 read_condition s false e before = read_expression s e before
 
-abbrev pub read_if_tag : List ℕ → Bool → Expression → List Lexeme → Left
-read_if_tag s negated e before = then_read (then_read (read_begins s (codes "if") before) (read_condition s negated e)) (read_by EndBlock)
-
 abbrev pub read_else_if_tag : List ℕ → Bool → Expression → List Lexeme → Left
 read_else_if_tag s negated e before = then_read (then_read (then_read (read_begins s (codes "else") before) (read_keyword s (codes "if"))) (read_condition s negated e)) (read_by EndBlock)
 
@@ -32,11 +31,19 @@ abbrev pub read_loop_names : List ℕ → LoopVars → List Lexeme → Left
 read_loop_names s (item name) before = read_name s name before
 read_loop_names s (key_value key value span) before = when (same_span span (from_to key.span value.span)) (then_read (then_read (read_name s key before) (read_by Comma)) (read_name s value))
 
-abbrev pub read_for_tag : List ℕ → LoopVars → Expression → List Lexeme → Left
-read_for_tag s names e before = then_read (then_read (then_read (then_read (read_begins s (codes "for") before) (read_loop_names s names)) (read_keyword s (codes "in"))) (read_expression s e)) (read_by EndBlock)
+abbrev pub read_part : List ℕ → HeadPart → List Lexeme → Left
+read_part s (value_part negated e) before = read_condition s negated e before
+read_part s (names_part names) before = read_loop_names s names before
 
-abbrev pub read_with_tag : List ℕ → Expression → Ident → List Lexeme → Left
-read_with_tag s e name before = then_read (then_read (then_read (then_read (read_begins s (codes "with") before) (read_expression s e)) (read_keyword s (codes "as"))) (read_name s name)) (read_by EndBlock)
+abbrev pub read_parts : List ℕ → Head → List Lexeme → Left
+read_parts s (last_part part) before = read_part s part before
+read_parts s (part_then part word head) before = then_read (then_read (read_part s part before) (read_keyword s word)) (read_parts s head)
+
+abbrev pub read_head : List ℕ → Opening → Expression → List Lexeme → Left
+read_head s tag e before = read_parts s (head_of tag e) before
+
+abbrev pub read_opening : List ℕ → Opening → Expression → List Lexeme → Left
+read_opening s tag e before = then_read (then_read (read_begins s (block_word (opened_kind tag)) before) (read_head s tag e)) (read_by EndBlock)
 
 abbrev pub read_context : List ℕ → Option Expression → List Lexeme → Left
 read_context s None before = Some before
@@ -51,12 +58,6 @@ word_tag_read s word before rest h = let a = both_read (read_begins s word befor
 condition_read : (s : List ℕ) (negated : Bool) (e : Expression) (before rest : List Lexeme) → read_condition s negated e before ≡ Some rest → IsCondition s negated e before rest
 condition_read s true e before rest h = let a = both_read (read_keyword s (codes "not") before) (read_expression s e) rest h in (a.0, keyword_read s (codes "not") before a.0 a.1, expression_read s e a.0 rest a.2)
 condition_read s false e before rest h = expression_read s e before rest h
-
-if_tag_read : (s : List ℕ) (negated : Bool) (e : Expression) (before rest : List Lexeme) → read_if_tag s negated e before ≡ Some rest → IsIfTag s negated e before rest
-if_tag_read s negated e before rest h =
-    let b = both_read (then_read (read_begins s (codes "if") before) (read_condition s negated e)) (read_by EndBlock) rest h in
-    let a = both_read (read_begins s (codes "if") before) (read_condition s negated e) b.0 b.1 in
-    (a.0, b.0, begins_read s (codes "if") before a.0 a.1, condition_read s negated e a.0 b.0 a.2, by_read EndBlock b.0 rest b.2)
 
 else_if_tag_read : (s : List ℕ) (negated : Bool) (e : Expression) (before rest : List Lexeme) → read_else_if_tag s negated e before ≡ Some rest → IsElseIfTag s negated e before rest
 else_if_tag_read s negated e before rest h =
@@ -73,21 +74,25 @@ loop_names_read s (key_value key value span) before rest h =
     let a = both_read (read_name s key before) (read_by Comma) b.0 b.1 in
     (a.0, b.0, name_read s key before a.0 a.1, by_read Comma a.0 b.0 a.2, name_read s value b.0 rest b.2, one_span _ _ c.0)
 
-for_tag_read : (s : List ℕ) (names : LoopVars) (e : Expression) (before rest : List Lexeme) → read_for_tag s names e before ≡ Some rest → IsForTag s names e before rest
-for_tag_read s names e before rest h =
-    let d = both_read (then_read (then_read (then_read (read_begins s (codes "for") before) (read_loop_names s names)) (read_keyword s (codes "in"))) (read_expression s e)) (read_by EndBlock) rest h in
-    let c = both_read (then_read (then_read (read_begins s (codes "for") before) (read_loop_names s names)) (read_keyword s (codes "in"))) (read_expression s e) d.0 d.1 in
-    let b = both_read (then_read (read_begins s (codes "for") before) (read_loop_names s names)) (read_keyword s (codes "in")) c.0 c.1 in
-    let a = both_read (read_begins s (codes "for") before) (read_loop_names s names) b.0 b.1 in
-    (a.0, b.0, c.0, d.0, begins_read s (codes "for") before a.0 a.1, loop_names_read s names a.0 b.0 a.2, keyword_read s (codes "in") b.0 c.0 b.2, expression_read s e c.0 d.0 c.2, by_read EndBlock d.0 rest d.2)
+part_read : (s : List ℕ) (part : HeadPart) (before rest : List Lexeme) → read_part s part before ≡ Some rest → IsHeadPart s part before rest
+part_read s (value_part negated e) before rest h = condition_read s negated e before rest h
+part_read s (names_part names) before rest h = loop_names_read s names before rest h
 
-with_tag_read : (s : List ℕ) (e : Expression) (name : Ident) (before rest : List Lexeme) → read_with_tag s e name before ≡ Some rest → IsWithTag s e name before rest
-with_tag_read s e name before rest h =
-    let d = both_read (then_read (then_read (then_read (read_begins s (codes "with") before) (read_expression s e)) (read_keyword s (codes "as"))) (read_name s name)) (read_by EndBlock) rest h in
-    let c = both_read (then_read (then_read (read_begins s (codes "with") before) (read_expression s e)) (read_keyword s (codes "as"))) (read_name s name) d.0 d.1 in
-    let b = both_read (then_read (read_begins s (codes "with") before) (read_expression s e)) (read_keyword s (codes "as")) c.0 c.1 in
-    let a = both_read (read_begins s (codes "with") before) (read_expression s e) b.0 b.1 in
-    (a.0, b.0, c.0, d.0, begins_read s (codes "with") before a.0 a.1, expression_read s e a.0 b.0 a.2, keyword_read s (codes "as") b.0 c.0 b.2, name_read s name c.0 d.0 c.2, by_read EndBlock d.0 rest d.2)
+parts_read : (s : List ℕ) (head : Head) (before rest : List Lexeme) → read_parts s head before ≡ Some rest → AreHeadParts s head before rest
+parts_read s (last_part part) before rest h = part_read s part before rest h
+parts_read s (part_then part word head) before rest h =
+    let b = both_read (then_read (read_part s part before) (read_keyword s word)) (read_parts s head) rest h in
+    let a = both_read (read_part s part before) (read_keyword s word) b.0 b.1 in
+    (a.0, b.0, part_read s part before a.0 a.1, keyword_read s word a.0 b.0 a.2, parts_read s head b.0 rest b.2)
+
+head_read : (s : List ℕ) (tag : Opening) (e : Expression) (before rest : List Lexeme) → read_head s tag e before ≡ Some rest → IsHead s tag e before rest
+head_read s tag e before rest h = head_of_parts s tag e before rest (parts_read s (head_of tag e) before rest h)
+
+opening_read : (s : List ℕ) (tag : Opening) (e : Expression) (before rest : List Lexeme) → read_opening s tag e before ≡ Some rest → IsOpeningTag s tag e before rest
+opening_read s tag e before rest h =
+    let b = both_read (then_read (read_begins s (block_word (opened_kind tag)) before) (read_head s tag e)) (read_by EndBlock) rest h in
+    let a = both_read (read_begins s (block_word (opened_kind tag)) before) (read_head s tag e) b.0 b.1 in
+    (a.0, b.0, begins_read s (block_word (opened_kind tag)) before a.0 a.1, head_read s tag e a.0 b.0 a.2, by_read EndBlock b.0 rest b.2)
 
 context_read : (s : List ℕ) (context : Option Expression) (before rest : List Lexeme) → read_context s context before ≡ Some rest → AreGlobals s context before rest
 context_read s None before rest h = cc
@@ -102,21 +107,17 @@ abbrev mutual
   read_statement s (raw span) before = read_at Raw span before
   read_statement s (inline_expr e span) before = then_read (then_read (read_by BeginExpr before) (read_expression s e)) (read_end_expr span (first_span before))
   read_statement s (include name context) before = then_read (then_read (then_read (read_begins s (codes "include") before) (read_text s name)) (read_context s context)) (read_by EndBlock)
-  read_statement s (if_else negated e body other) before = then_read (then_read (read_if_tag s negated e before) (read_statements s body)) (read_else s other)
-  read_statement s (for_loop names e body other) before = then_read (then_read (read_for_tag s names e before) (read_statements s body)) (read_for_else s other)
-  read_statement s (with e name body) before = then_read (then_read (read_with_tag s e name before) (read_statements s body)) (read_word_tag s (codes "endwith"))
+  read_statement s (block tag e body other) before = then_read (then_read (read_opening s tag e before) (read_statements s body)) (read_block_end s (opened_kind tag) other)
 
   pub read_statements : List ℕ → Statements → List Lexeme → Left
   read_statements s no_statements before = Some before
   read_statements s (statement_then t ts) before = then_read (read_statement s t before) (read_statements s ts)
 
-  pub read_else : List ℕ → Else → List Lexeme → Left
-  read_else s no_else before = read_word_tag s (codes "endif") before
-  read_else s (otherwise body) before = or_read (then_read (then_read (read_word_tag s (codes "else") before) (read_statements s body)) (read_word_tag s (codes "endif"))) (read_else_if s body before)
-
-  pub read_for_else : List ℕ → Else → List Lexeme → Left
-  read_for_else s no_else before = read_word_tag s (codes "endfor") before
-  read_for_else s (otherwise body) before = then_read (then_read (read_word_tag s (codes "else") before) (read_statements s body)) (read_word_tag s (codes "endfor"))
+  pub read_block_end : List ℕ → Block → Else → List Lexeme → Left
+  read_block_end s kind no_else before = read_word_tag s (end_word kind) before
+  read_block_end s kind (otherwise body) before = or_read
+      (when (may_have_else kind) (then_read (then_read (read_word_tag s (codes "else") before) (read_statements s body)) (read_word_tag s (end_word kind))))
+      (when (may_have_else_if kind) (read_else_if s body before))
 
   pub read_else_if : List ℕ → Statements → List Lexeme → Left
   read_else_if s no_statements before = None
@@ -124,7 +125,7 @@ abbrev mutual
   read_else_if s (statement_then t (statement_then u ts)) before = None
 
   pub read_if_after_else : List ℕ → Statement → List Lexeme → Left
-  read_if_after_else s (if_else negated e body other) before = then_read (then_read (read_else_if_tag s negated e before) (read_statements s body)) (read_else s other)
+  read_if_after_else s (block (if_tag negated) e body other) before = then_read (then_read (read_else_if_tag s negated e before) (read_statements s body)) (read_block_end s if_block other)
   read_if_after_else s _ before = None
 
 mutual
@@ -140,41 +141,27 @@ mutual
       let b = both_read (then_read (read_begins s (codes "include") before) (read_text s name)) (read_context s context) c.0 c.1 in
       let a = both_read (read_begins s (codes "include") before) (read_text s name) b.0 b.1 in
       (a.0, b.0, c.0, begins_read s (codes "include") before a.0 a.1, text_read s name a.0 b.0 a.2, context_read s context b.0 c.0 b.2, by_read EndBlock c.0 rest c.2)
-  statement_read s (if_else negated e body other) before rest h =
-      let b = both_read (then_read (read_if_tag s negated e before) (read_statements s body)) (read_else s other) rest h in
-      let a = both_read (read_if_tag s negated e before) (read_statements s body) b.0 b.1 in
-      (a.0, b.0, if_tag_read s negated e before a.0 a.1, statements_read s body a.0 b.0 a.2, else_read s other b.0 rest b.2)
-  statement_read s (for_loop names e body other) before rest h =
-      let b = both_read (then_read (read_for_tag s names e before) (read_statements s body)) (read_for_else s other) rest h in
-      let a = both_read (read_for_tag s names e before) (read_statements s body) b.0 b.1 in
-      (a.0, b.0, for_tag_read s names e before a.0 a.1, statements_read s body a.0 b.0 a.2, for_else_read s other b.0 rest b.2)
-  statement_read s (with e name body) before rest h =
-      let b = both_read (then_read (read_with_tag s e name before) (read_statements s body)) (read_word_tag s (codes "endwith")) rest h in
-      let a = both_read (read_with_tag s e name before) (read_statements s body) b.0 b.1 in
-      (a.0, b.0, with_tag_read s e name before a.0 a.1, statements_read s body a.0 b.0 a.2, word_tag_read s (codes "endwith") b.0 rest b.2)
+  statement_read s (block tag e body other) before rest h =
+      let b = both_read (then_read (read_opening s tag e before) (read_statements s body)) (read_block_end s (opened_kind tag) other) rest h in
+      let a = both_read (read_opening s tag e before) (read_statements s body) b.0 b.1 in
+      (a.0, b.0, opening_read s tag e before a.0 a.1, statements_read s body a.0 b.0 a.2, block_end_read s (opened_kind tag) other b.0 rest b.2)
 
   pub statements_read : (s : List ℕ) (ts : Statements) (before rest : List Lexeme) → read_statements s ts before ≡ Some rest → AreStatements s ts before rest
   statements_read s no_statements before rest h = cc
   statements_read s (statement_then t ts) before rest h = let a = both_read (read_statement s t before) (read_statements s ts) rest h in (a.0, statement_read s t before a.0 a.1, statements_read s ts a.0 rest a.2)
 
-  else_read : (s : List ℕ) (other : Else) (before rest : List Lexeme) → read_else s other before ≡ Some rest → IsElse s other before rest
-  else_read s no_else before rest h = word_tag_read s (codes "endif") before rest h
-  else_read s (otherwise body) before rest h =
-      let tagged : Left = then_read (then_read (read_word_tag s (codes "else") before) (read_statements s body)) (read_word_tag s (codes "endif")) in
-      elim (one_read tagged (read_else_if s body before) rest h) as (λ o. IsElse s (otherwise body) before rest) [
+  block_end_read : (s : List ℕ) (kind : Block) (other : Else) (before rest : List Lexeme) → read_block_end s kind other before ≡ Some rest → IsBlockEnd s kind other before rest
+  block_end_read s kind no_else before rest h = word_tag_read s (end_word kind) before rest h
+  block_end_read s kind (otherwise body) before rest h =
+      let tagged : Left = then_read (then_read (read_word_tag s (codes "else") before) (read_statements s body)) (read_word_tag s (end_word kind)) in
+      elim (one_read (when (may_have_else kind) tagged) (when (may_have_else_if kind) (read_else_if s body before)) rest h) as (λ o. IsBlockEnd s kind (otherwise body) before rest) [
         | inl k ↦
-            let b = both_read (then_read (read_word_tag s (codes "else") before) (read_statements s body)) (read_word_tag s (codes "endif")) rest k in
+            let c = read_when (may_have_else kind) tagged rest k in
+            let b = both_read (then_read (read_word_tag s (codes "else") before) (read_statements s body)) (read_word_tag s (end_word kind)) rest c.1 in
             let a = both_read (read_word_tag s (codes "else") before) (read_statements s body) b.0 b.1 in
-            inl (a.0, b.0, word_tag_read s (codes "else") before a.0 a.1, statements_read s body a.0 b.0 a.2, word_tag_read s (codes "endif") b.0 rest b.2)
-        | inr k ↦ inr (else_if_read s body before rest k)
+            inl (a.0, b.0, c.0, word_tag_read s (codes "else") before a.0 a.1, statements_read s body a.0 b.0 a.2, word_tag_read s (end_word kind) b.0 rest b.2)
+        | inr k ↦ let c = read_when (may_have_else_if kind) (read_else_if s body before) rest k in inr (c.0, else_if_read s body before rest c.1)
       ]
-
-  for_else_read : (s : List ℕ) (other : Else) (before rest : List Lexeme) → read_for_else s other before ≡ Some rest → IsForElse s other before rest
-  for_else_read s no_else before rest h = word_tag_read s (codes "endfor") before rest h
-  for_else_read s (otherwise body) before rest h =
-      let b = both_read (then_read (read_word_tag s (codes "else") before) (read_statements s body)) (read_word_tag s (codes "endfor")) rest h in
-      let a = both_read (read_word_tag s (codes "else") before) (read_statements s body) b.0 b.1 in
-      (a.0, b.0, word_tag_read s (codes "else") before a.0 a.1, statements_read s body a.0 b.0 a.2, word_tag_read s (codes "endfor") b.0 rest b.2)
 
   else_if_read : (s : List ℕ) (ts : Statements) (before rest : List Lexeme) → read_else_if s ts before ≡ Some rest → IsElseIf s ts before rest
   else_if_read s no_statements before rest h = absurd cc
@@ -182,8 +169,8 @@ mutual
   else_if_read s (statement_then t (statement_then u ts)) before rest h = absurd cc
 
   if_after_else_read : (s : List ℕ) (t : Statement) (before rest : List Lexeme) → read_if_after_else s t before ≡ Some rest → IsIfAfterElse s t before rest
-  if_after_else_read s (if_else negated e body other) before rest h =
-      let b = both_read (then_read (read_else_if_tag s negated e before) (read_statements s body)) (read_else s other) rest h in
+  if_after_else_read s (block (if_tag negated) e body other) before rest h =
+      let b = both_read (then_read (read_else_if_tag s negated e before) (read_statements s body)) (read_block_end s if_block other) rest h in
       let a = both_read (read_else_if_tag s negated e before) (read_statements s body) b.0 b.1 in
-      (a.0, b.0, else_if_tag_read s negated e before a.0 a.1, statements_read s body a.0 b.0 a.2, else_read s other b.0 rest b.2)
+      (a.0, b.0, else_if_tag_read s negated e before a.0 a.1, statements_read s body a.0 b.0 a.2, block_end_read s if_block other b.0 rest b.2)
   if_after_else_read s _ before rest h = absurd cc

@@ -13,7 +13,7 @@ use Rattle.upon_types.specs.Tree.{inline_expr}
 use Rattle.upon_language_spec.specs.Cut.{Lexeme}
 use Rattle.upon_language_spec.specs.Tokens.{Goes}
 use Rattle.upon_language_spec.specs.Expressions.{op_token, sign_token, IsBareName, IsMember, IsLiteral, IsBase, IsExpression}
-use Rattle.upon_language_spec.specs.Tags.{IsTag, an_inline, an_include, an_if, an_else_if, an_else, an_endif, a_for, an_endfor, a_with, an_endwith, Symbol, symbol_of, symbols_of, BeginsTag}
+use Rattle.upon_language_spec.specs.Tags.{IsTag, an_inline, an_include, an_opening, an_else_if, an_else, an_end, Symbol, symbol_of, symbols_of, BeginsTag}
 use Rattle.upon_language_spec.specs.Wanted.{plain_symbol}
 use Rattle.upon_language_spec.proofs.Computation.ReadStatements.{read_statements, statements_read}
 use Rattle.upon_language_spec.proofs.Computation.NoTree.{first_goes, first_is, by_block}
@@ -91,14 +91,10 @@ no_tag s begin l ls rest begins is (an_inline e span h) =
     let inside : l ∷ ls ≡ h.2 = (first_goes BeginExpr h.0 begin (l ∷ ls) h.2 h.4).2 in
     no_expression s l ls is e h.3 (subst F (sym inside) h.5)
 no_tag s begin l ls rest begins is (an_include name context g) = not_block begin begins (by_block s _ begin (l ∷ ls) g.0 g.3)
-no_tag s begin l ls rest begins is (an_if negated e g) = not_block begin begins (by_block s _ begin (l ∷ ls) g.0 g.2)
+no_tag s begin l ls rest begins is (an_opening opening e g) = not_block begin begins (by_block s _ begin (l ∷ ls) g.0 g.2)
 no_tag s begin l ls rest begins is (an_else_if negated e g) = not_block begin begins (by_block s _ begin (l ∷ ls) g.0 g.3)
 no_tag s begin l ls rest begins is (an_else g) = not_block begin begins (by_block s _ begin (l ∷ ls) g.0 g.1)
-no_tag s begin l ls rest begins is (an_endif g) = not_block begin begins (by_block s _ begin (l ∷ ls) g.0 g.1)
-no_tag s begin l ls rest begins is (a_for names e g) = not_block begin begins (by_block s _ begin (l ∷ ls) g.0 g.4)
-no_tag s begin l ls rest begins is (an_endfor g) = not_block begin begins (by_block s _ begin (l ∷ ls) g.0 g.1)
-no_tag s begin l ls rest begins is (a_with e name g) = not_block begin begins (by_block s _ begin (l ∷ ls) g.0 g.4)
-no_tag s begin l ls rest begins is (an_endwith g) = not_block begin begins (by_block s _ begin (l ∷ ls) g.0 g.1)
+no_tag s begin l ls rest begins is (an_end kind g) = not_block begin begins (by_block s _ begin (l ∷ ls) g.0 g.1)
 
 by_symbols : (s : List ℕ) (ls rest : List Lexeme) (more : List Symbol) → IsTag s ls rest → symbols_of s ls ≡ plain_symbol BeginExpr ∷ plain_symbol Colon ∷ more → ⊥
 by_symbols s [] rest more tag h = cc h

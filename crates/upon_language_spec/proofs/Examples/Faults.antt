@@ -5,14 +5,15 @@ use Rattle.upon_types.specs.declared.types.token.Token.TheVariants.{Raw, BeginEx
 use Rattle.upon_language_spec.specs.DefaultDelimiters.{default_delimiters}
 use Rattle.upon_language_spec.specs.Delimiters.{expression, block, comment}
 use Rattle.upon_language_spec.specs.Cut.{outside, in_tag}
-use Rattle.upon_language_spec.specs.Blocks.{if_block, end_if}
+use Rattle.upon_types.specs.BlockKinds.{if_block}
+use Rattle.upon_language_spec.specs.Blocks.{end_of}
 use Rattle.upon_language_spec.specs.FirstFault.{Holds, unexpected_end, unclosed_tag, unclosed_bracket, unexpected_close, unexpected_character, empty_comment, comment_eof, unexpected_block, unclosed_block}
 use Rattle.upon_language_spec.proofs.Computation.Tests.{occurs_tested, none_tested}
 use Rattle.upon_language_spec.proofs.Computation.InnerTests.{inner_tested}
 use Rattle.upon_language_spec.proofs.Computation.WholeCut.{begins_tested, ends_tested}
 use Rattle.upon_language_spec.proofs.Computation.NoCut.{reads_to}
 use Rattle.upon_language_spec.proofs.Computation.ReadStatements.{word_tag_read}
-use Rattle.upon_language_spec.specs.Tags.{an_endif}
+use Rattle.upon_language_spec.specs.Tags.{an_end}
 use Rattle.upon_language_spec.specs.ShortTrees.{at}
 use Rattle.upon_language_spec.proofs.Examples.ShortTrees.{lex}
 
@@ -149,8 +150,8 @@ stray_endif = record {
   hyphen = false;
   to = 11;
   ends = ends_tested default_delimiters (codes "{% endif %}") block false 9 11 refl;
-  whole = an_endif (word_tag_read (codes "{% endif %}") (codes "endif") (lex BeginBlock 0 2 ∷ lex Keyword 3 8 ∷ lex EndBlock 9 11 ∷ []) [] refl);
-  closer = end_if;
+  whole = an_end if_block (word_tag_read (codes "{% endif %}") (codes "endif") (lex BeginBlock 0 2 ∷ lex Keyword 3 8 ∷ lex EndBlock 9 11 ∷ []) [] refl);
+  closer = end_of if_block;
   closing = refl;
   refused = refl;
   begin = at 0 2;

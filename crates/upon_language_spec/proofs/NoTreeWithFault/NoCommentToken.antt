@@ -2,12 +2,13 @@
 use Rattle.std.proofs.Common.{◌≡◌, inl, inr, ℕ, ◌<◌, List, [], ◌∷◌, ◌++◌, length, true, false, Option, None, refl, sym, ap, ◌∙◌, subst, arith, length-append}
 use Rattle.upon_types.specs.declared.types.token.Token.{Token}
 use Rattle.upon_types.specs.declared.types.token.Token.TheVariants.{Raw, BeginComment}
-use Rattle.upon_types.specs.Tree.{Statement, raw, inline_expr, include, if_else, for_loop, with, Statements, no_statements, statement_then, Else, no_else, otherwise}
+use Rattle.upon_types.specs.BlockKinds.{Block, if_block, if_tag, opened_kind}
+use Rattle.upon_types.specs.Tree.{Statement, raw, inline_expr, include, block, Statements, no_statements, statement_then, Else, no_else, otherwise}
 use Rattle.upon_language_spec.specs.Cut.{Lexeme}
 use Rattle.upon_language_spec.specs.Reading.{brackets_from}
 use Rattle.upon_language_spec.specs.Tokens.{begins_comment}
-use Rattle.upon_language_spec.specs.Grammar.{IsStatement, AreStatements, IsElse, IsForElse, IsElseIf, IsIfAfterElse}
-use Rattle.upon_language_spec.specs.Tags.{IsTag, an_inline, an_include, an_if, an_else_if, an_else, an_endif, a_for, an_endfor, a_with, an_endwith}
+use Rattle.upon_language_spec.specs.Grammar.{IsStatement, AreStatements, IsBlockEnd, IsElseIf, IsIfAfterElse}
+use Rattle.upon_language_spec.specs.Tags.{IsTag, an_inline, an_include, an_opening, an_else_if, an_else, an_end}
 use Rattle.upon_language_spec.proofs.NoTreeWithFault.Fine.{TokenFine, Fine}
 use Rattle.upon_language_spec.specs.InTags.{last_or, ends_a_tag}
 use Rattle.upon_language_spec.proofs.NoTreeWithFault.FineAt.{fine_at}
@@ -85,22 +86,16 @@ module _ (s : List ℕ) (b : Lexeme) (more : List Lexeme) (comment : b.token ≡
     lacks_statement (raw span) ts rest g = lacks_raw ts rest g.lexeme g.is g.of_token
     lacks_statement (inline_expr e span) ts rest g = lacks_tag ts rest (an_inline e span g)
     lacks_statement (include name context) ts rest g = lacks_tag ts rest (an_include name context g)
-    lacks_statement (if_else negated e body other) ts rest g = tag_then ts g.0 rest (an_if negated e g.2) (lacks_then g.0 g.1 rest (statements_tail s body g.0 g.1 g.3) (lacks_statements body g.0 g.1 g.3) (lacks_else other g.1 rest g.4))
-    lacks_statement (for_loop names e body other) ts rest g = tag_then ts g.0 rest (a_for names e g.2) (lacks_then g.0 g.1 rest (statements_tail s body g.0 g.1 g.3) (lacks_statements body g.0 g.1 g.3) (lacks_for_else other g.1 rest g.4))
-    lacks_statement (with e name body) ts rest g = tag_then ts g.0 rest (a_with e name g.2) (lacks_then g.0 g.1 rest (statements_tail s body g.0 g.1 g.3) (lacks_statements body g.0 g.1 g.3) (lacks_tag g.1 rest (an_endwith g.4)))
+    lacks_statement (block opening e body other) ts rest g = tag_then ts g.0 rest (an_opening opening e g.2) (lacks_then g.0 g.1 rest (statements_tail s body g.0 g.1 g.3) (lacks_statements body g.0 g.1 g.3) (lacks_end (opened_kind opening) other g.1 rest g.4))
 
     lacks_statements : (tree : Statements) (ts rest : List Lexeme) → AreStatements s tree ts rest → Lacks ts rest
     lacks_statements no_statements ts rest g = lacks_nothing ts rest g
     lacks_statements (statement_then t tree) ts rest g = lacks_then ts g.0 rest (statement_tail s t ts g.0 g.1) (lacks_statement t ts g.0 g.1) (lacks_statements tree g.0 rest g.2)
 
-    lacks_else : (other : Else) (ts rest : List Lexeme) → IsElse s other ts rest → Lacks ts rest
-    lacks_else no_else ts rest g = lacks_tag ts rest (an_endif g)
-    lacks_else (otherwise body) ts rest (inl g) = tag_then ts g.0 rest (an_else g.2) (lacks_then g.0 g.1 rest (statements_tail s body g.0 g.1 g.3) (lacks_statements body g.0 g.1 g.3) (lacks_tag g.1 rest (an_endif g.4)))
-    lacks_else (otherwise body) ts rest (inr g) = lacks_else_if body ts rest g
-
-    lacks_for_else : (other : Else) (ts rest : List Lexeme) → IsForElse s other ts rest → Lacks ts rest
-    lacks_for_else no_else ts rest g = lacks_tag ts rest (an_endfor g)
-    lacks_for_else (otherwise body) ts rest g = tag_then ts g.0 rest (an_else g.2) (lacks_then g.0 g.1 rest (statements_tail s body g.0 g.1 g.3) (lacks_statements body g.0 g.1 g.3) (lacks_tag g.1 rest (an_endfor g.4)))
+    lacks_end : (kind : Block) (other : Else) (ts rest : List Lexeme) → IsBlockEnd s kind other ts rest → Lacks ts rest
+    lacks_end kind no_else ts rest g = lacks_tag ts rest (an_end kind g)
+    lacks_end kind (otherwise body) ts rest (inl g) = tag_then ts g.0 rest (an_else g.3) (lacks_then g.0 g.1 rest (statements_tail s body g.0 g.1 g.4) (lacks_statements body g.0 g.1 g.4) (lacks_tag g.1 rest (an_end kind g.5)))
+    lacks_end kind (otherwise body) ts rest (inr g) = lacks_else_if body ts rest g.1
 
     lacks_else_if : (body : Statements) (ts rest : List Lexeme) → IsElseIf s body ts rest → Lacks ts rest
     lacks_else_if no_statements ts rest g = absurd g
@@ -108,12 +103,8 @@ module _ (s : List ℕ) (b : Lexeme) (more : List Lexeme) (comment : b.token ≡
     lacks_else_if (statement_then t (statement_then u us)) ts rest g = absurd g
 
     lacks_if : (t : Statement) (ts rest : List Lexeme) → IsIfAfterElse s t ts rest → Lacks ts rest
-    lacks_if (if_else negated e body other) ts rest g = tag_then ts g.0 rest (an_else_if negated e g.2) (lacks_then g.0 g.1 rest (statements_tail s body g.0 g.1 g.3) (lacks_statements body g.0 g.1 g.3) (lacks_else other g.1 rest g.4))
-    lacks_if (raw span) ts rest g = absurd g
-    lacks_if (inline_expr e span) ts rest g = absurd g
-    lacks_if (include name context) ts rest g = absurd g
-    lacks_if (for_loop names e body other) ts rest g = absurd g
-    lacks_if (with e name body) ts rest g = absurd g
+    lacks_if (block (if_tag negated) e body other) ts rest g = tag_then ts g.0 rest (an_else_if negated e g.2) (lacks_then g.0 g.1 rest (statements_tail s body g.0 g.1 g.3) (lacks_statements body g.0 g.1 g.3) (lacks_end if_block other g.1 rest g.4))
+    lacks_if t ts rest g = absurd g
 
 pub no_comment : (s : List ℕ) (b : Lexeme) (more : List Lexeme) → b.token ≡ BeginComment → (tree : Statements) (ts rest : List Lexeme) → AreStatements s tree ts rest → Tail ts (b ∷ more) → length rest < length (b ∷ more) → ⊥
 no_comment s b more comment tree ts rest g t l = lacks_statements s b more comment tree ts rest g t l

@@ -1,19 +1,22 @@
 -- What one tag does to the open blocks: it leaves them, opens one, goes on with the innermost, or closes it.
-use Rattle.std.proofs.Common.{◌≡◌, ℕ, List, [], ◌∷◌, ◌++◌, Bool, true, false, Option, Some, None, refl, sym, ap, ◌∙◌, subst, codes}
+use Rattle.std.proofs.Common.{◌≡◌, ℕ, List, [], ◌∷◌, ◌++◌, Bool, true, false, Option, Some, None, option_map, refl, sym, ap, ◌∙◌, subst, codes, if◌then◌else◌}
 use Rattle.upon_types.specs.declared.types.Span.{Span}
 use Rattle.upon_types.specs.declared.types.token.Token.{Token}
-use Rattle.upon_types.specs.declared.types.token.Token.TheVariants.{BeginExpr, EndExpr, BeginBlock, EndBlock, Comma, Keyword, Ident as Identifier, String}
+use Rattle.upon_types.specs.declared.types.token.Token.TheVariants.{BeginExpr, EndExpr, BeginBlock, EndBlock, Keyword, String}
 use Rattle.upon_types.specs.Span.{slice}
-use Rattle.upon_types.specs.Path.{Ident, LoopVars, item, key_value}
+use Rattle.upon_types.specs.Path.{Ident}
 use Rattle.upon_types.specs.Expression.{Expression}
+use Rattle.upon_types.specs.BlockKinds.{Block, if_block, Opening, opened_kind, block_word, end_word, may_have_else, kind_with}
 use Rattle.upon_types.specs.Tree.{inline_expr, include}
 use Rattle.upon_language_spec.specs.Cut.{Lexeme}
 use Rattle.upon_language_spec.specs.Tokens.{Goes, GoesBy, GoesKeyword, from_to}
 use Rattle.upon_language_spec.specs.Expressions.{IsExpression}
-use Rattle.upon_language_spec.specs.Grammar.{BeginsBlock, IsWordTag, IsCondition, IsIfTag, IsElseIfTag, AreLoopVars, IsForTag, IsWithTag, AreGlobals, IsStatement}
+use Rattle.upon_language_spec.specs.Grammar.{BeginsBlock, IsWordTag, IsElseIfTag, IsOpeningTag, IsStatement}
 use Rattle.upon_language_spec.specs.Reading.{brackets_after}
+use Rattle.upon_language_spec.proofs.BlockKinds.{ends_itself, begun_by, begins_no_end, ended_by, ends_no_begin, block_is_no_else, end_is_no_else}
 use Rattle.upon_language_spec.proofs.NoTreeWithFault.Fine.{TokenFine, Fine, Passes}
-use Rattle.upon_language_spec.specs.Blocks.{Block, if_block, for_block, with_block, OpenBlock, Closer, else_if, plain_else, else_by, closer_by, block_takes, takes, end_from, by_word, by_closer, blocks_from}
+use Rattle.upon_language_spec.proofs.NoTreeWithFault.TagShapes.{passes_condition, passes_context, passes_head}
+use Rattle.upon_language_spec.specs.Blocks.{OpenBlock, Closer, else_if, plain_else, end_of, else_by, closer_by, takes, end_from, open_block, open_or, by_word, after_closer, by_closer, blocks_from}
 use Rattle.upon_language_spec.specs.ClosingTags.{is_word, blocks_past, Closing, TokenTaken, AllTaken}
 
 abbrev pub begins_block : Token → Bool
@@ -35,6 +38,20 @@ plain_taken s a t ls h = tt
 fine_begins_no_block : (s : List ℕ) (stack : List Lexeme) (before : Option Lexeme) (t : Token) (l : Lexeme) → TokenFine s stack before t l → begins_block t ≡ false
 fine_begins_no_block s stack before BeginBlock l h = absurd h
 fine_begins_no_block s stack before t l h = refl
+
+-- the keywords of a kind, as closing tags
+pub end_closer : (s : List ℕ) (kind : Block) (ls : List Lexeme) → closer_by s (end_word kind) ls ≡ Some (end_of kind)
+end_closer s kind ls = ap (λ x. if x then Some (else_by s ls) else option_map end_of (kind_with end_word (end_word kind))) (end_is_no_else kind) ∙ ap (option_map end_of) (ended_by kind)
+
+pub block_closes_none : (s : List ℕ) (kind : Block) (ls : List Lexeme) → closer_by s (block_word kind) ls ≡ None
+block_closes_none s kind ls = ap (λ x. if x then Some (else_by s ls) else option_map end_of (kind_with end_word (block_word kind))) (block_is_no_else kind) ∙ ap (option_map end_of) (ends_no_begin kind)
+
+pub end_closes : (s : List ℕ) (kind : Block) (begin : Span) (ls : List Lexeme) (a : List OpenBlock) → by_word s begin (end_word kind) ls a ≡ after_closer (end_of kind) a
+end_closes s kind begin ls a =
+    ap (λ x. open_or x begin ls a (by_closer (closer_by s (end_word kind) ls) a)) (begins_no_end kind) ∙ ap (λ x. by_closer x a) (end_closer s kind ls)
+
+pub block_opens : (s : List ℕ) (kind : Block) (begin : Span) (ls : List Lexeme) (a : List OpenBlock) → by_word s begin (block_word kind) ls a ≡ open_block kind begin ls a
+block_opens s kind begin ls a = ap (λ x. open_or x begin ls a (by_closer (closer_by s (block_word kind) ls) a)) (begun_by kind)
 
 module _ (s : List ℕ) where
   pub walks_then : (a b c : List OpenBlock) (ts us rest : List Lexeme) → Walks s a ts b us → Walks s b us c rest → Walks s a ts c rest
@@ -102,16 +119,11 @@ module _ (s : List ℕ) where
   walks_close : (a b : List OpenBlock) (word : List ℕ) (ts rest : List Lexeme) → IsWordTag s word ts rest → ((mid : List Lexeme) → GoesBy EndBlock mid rest → Closing a (closer_by s word mid)) → ((begin : Span) (mid : List Lexeme) → GoesBy EndBlock mid rest → by_word s begin word mid a ≡ b) → Walks s a ts b rest
   walks_close a b word ts rest g c e = walks_then a b b ts g.0 rest (walks_begin a b word ts g.0 g.1 (c g.0 g.2) (e g.1.1.1.lexeme.span g.0 g.2)) (walks_by EndBlock b g.0 rest refl g.2)
 
-  pub walks_endif : (a : List OpenBlock) (has_else : Bool) (span : Span) (ts rest : List Lexeme) → IsWordTag s (codes "endif") ts rest → Walks s (opening if_block has_else span ∷ a) ts a rest
-  walks_endif a true span ts rest g = walks_close (opening if_block true span ∷ a) a (codes "endif") ts rest g (λ mid h. refl) (λ begin mid h. refl)
-  walks_endif a false span ts rest g = walks_close (opening if_block false span ∷ a) a (codes "endif") ts rest g (λ mid h. refl) (λ begin mid h. refl)
-
-  pub walks_endfor : (a : List OpenBlock) (has_else : Bool) (span : Span) (ts rest : List Lexeme) → IsWordTag s (codes "endfor") ts rest → Walks s (opening for_block has_else span ∷ a) ts a rest
-  walks_endfor a true span ts rest g = walks_close (opening for_block true span ∷ a) a (codes "endfor") ts rest g (λ mid h. refl) (λ begin mid h. refl)
-  walks_endfor a false span ts rest g = walks_close (opening for_block false span ∷ a) a (codes "endfor") ts rest g (λ mid h. refl) (λ begin mid h. refl)
-
-  pub walks_endwith : (a : List OpenBlock) (span : Span) (ts rest : List Lexeme) → IsWordTag s (codes "endwith") ts rest → Walks s (opening with_block false span ∷ a) ts a rest
-  walks_endwith a span ts rest g = walks_close (opening with_block false span ∷ a) a (codes "endwith") ts rest g (λ mid h. refl) (λ begin mid h. refl)
+  -- the last tag of a block
+  pub walks_end : (kind : Block) (a : List OpenBlock) (has_else : Bool) (span : Span) (ts rest : List Lexeme) → IsWordTag s (end_word kind) ts rest → Walks s (opening kind has_else span ∷ a) ts a rest
+  walks_end kind a has_else span ts rest g = walks_close (opening kind has_else span ∷ a) a (end_word kind) ts rest g
+      (λ mid h. let F : Option Closer → Type 0 = λ x. Closing (opening kind has_else span ∷ a) x in subst F (sym (end_closer s kind mid)) (ends_itself kind))
+      (λ begin mid h. end_closes s kind begin mid (opening kind has_else span ∷ a))
 
   abbrev else_token : Token → Closer
   else_token t = elim t [ Keyword ↦ else_if | _ ↦ plain_else ]
@@ -119,65 +131,27 @@ module _ (s : List ℕ) where
   pub else_at : (t : Token) (span : Span) (ts rest : List Lexeme) → Goes t span ts rest → else_by s ts ≡ else_token t
   else_at t span ts rest g = ap (else_by s) g.is ∙ ap else_token g.of_token
 
-  -- the `else` of an `if` or a `for`
-  pub walks_plain_else : (kind : Block) (a : List OpenBlock) (span : Span) (ts rest : List Lexeme) → block_takes kind false plain_else ≡ true → IsWordTag s (codes "else") ts rest → Walks s (opening kind false span ∷ a) ts (opening kind true span ∷ a) rest
+  -- the `else` of a block that may have one
+  pub walks_plain_else : (kind : Block) (a : List OpenBlock) (span : Span) (ts rest : List Lexeme) → may_have_else kind ≡ true → IsWordTag s (codes "else") ts rest → Walks s (opening kind false span ∷ a) ts (opening kind true span ∷ a) rest
   walks_plain_else kind a span ts rest takes_it g = walks_close (opening kind false span ∷ a) (opening kind true span ∷ a) (codes "else") ts rest g
       (λ mid h. ap (takes (opening kind false span ∷ a)) (else_at EndBlock h.0 mid rest h.1) ∙ takes_it)
       (λ begin mid h. ap (λ (x : Closer). by_closer (Some x) (opening kind false span ∷ a)) (else_at EndBlock h.0 mid rest h.1))
 
 -- with what is known of expressions: none of their tokens begins a block
 module _ (s : List ℕ) (passes : (e : Expression) (ts rest : List Lexeme) → IsExpression s e ts rest → Passes s ts rest) where
-  walks_expression : (e : Expression) (a : List OpenBlock) (ts rest : List Lexeme) → IsExpression s e ts rest → Walks s a ts a rest
-  walks_expression e a ts rest g = walks_passes s a ts rest (passes e ts rest g)
-
-  walks_condition : (negated : Bool) (e : Expression) (a : List OpenBlock) (ts rest : List Lexeme) → IsCondition s negated e ts rest → Walks s a ts a rest
-  walks_condition true e a ts rest g = walks_then s a a a ts g.0 rest (walks_word s (codes "not") a ts g.0 g.1) (walks_expression e a g.0 rest g.2)
-  walks_condition false e a ts rest g = walks_expression e a ts rest g
-
-  walks_names : (names : LoopVars) (a : List OpenBlock) (ts rest : List Lexeme) → AreLoopVars s names ts rest → Walks s a ts a rest
-  walks_names (item name) a ts rest g = walks_one s Identifier name.span a ts rest refl g.0
-  walks_names (key_value key value span) a ts rest g =
-      walks_then s a a a ts g.0 rest (walks_one s Identifier key.span a ts g.0 refl g.2.0) (walks_then s a a a g.0 g.1 rest (walks_by s Comma a g.0 g.1 refl g.3) (walks_one s Identifier value.span a g.1 rest refl g.4.0))
-
-  walks_context : (context : Option Expression) (a : List OpenBlock) (ts rest : List Lexeme) → AreGlobals s context ts rest → Walks s a ts a rest
-  walks_context None a ts rest g = walks_nothing s a ts rest g
-  walks_context (Some e) a ts rest g = walks_then s a a a ts g.0 rest (walks_word s (codes "with") a ts g.0 g.1) (walks_expression e a g.0 rest g.2)
-
   -- what opens a block leaves it open
   abbrev Opens : Block → List OpenBlock → List Lexeme → List Lexeme → Type 0
   Opens kind a ts rest = (span : Span) × Walks s a ts (record { kind = kind; has_else = false; span = span } ∷ a) rest
 
-  pub walks_if : (negated : Bool) (e : Expression) (a : List OpenBlock) (ts rest : List Lexeme) → IsIfTag s negated e ts rest → Opens if_block a ts rest
-  walks_if negated e a ts rest g =
+  pub walks_opening : (tag : Opening) (e : Expression) (a : List OpenBlock) (ts rest : List Lexeme) → IsOpeningTag s tag e ts rest → Opens (opened_kind tag) a ts rest
+  walks_opening tag e a ts rest g =
+      let kind = opened_kind tag in
       let begin = g.2.1.1.lexeme.span in
-      let o : OpenBlock = record { kind = if_block; has_else = false; span = from_to begin (end_from begin g.0) } in (
+      let o : OpenBlock = record { kind = kind; has_else = false; span = from_to begin (end_from begin g.0) } in
+      let F : Option Closer → Type 0 = λ x. Closing a x in (
         o.span,
-        walks_then s a (o ∷ a) (o ∷ a) ts g.0 rest (walks_begin s a (o ∷ a) (codes "if") ts g.0 g.2 tt refl)
-            (walks_then s (o ∷ a) (o ∷ a) (o ∷ a) g.0 g.1 rest (walks_condition negated e (o ∷ a) g.0 g.1 g.3) (walks_by s EndBlock (o ∷ a) g.1 rest refl g.4)),
-      )
-
-  pub walks_for : (names : LoopVars) (e : Expression) (a : List OpenBlock) (ts rest : List Lexeme) → IsForTag s names e ts rest → Opens for_block a ts rest
-  walks_for names e a ts rest g =
-      let begin = g.4.1.1.lexeme.span in
-      let o : OpenBlock = record { kind = for_block; has_else = false; span = from_to begin (end_from begin g.0) } in
-      let b = o ∷ a in (
-        o.span,
-        walks_then s a b b ts g.0 rest (walks_begin s a b (codes "for") ts g.0 g.4 tt refl)
-            (walks_then s b b b g.0 g.1 rest (walks_names names b g.0 g.1 g.5)
-            (walks_then s b b b g.1 g.2 rest (walks_word s (codes "in") b g.1 g.2 g.6)
-            (walks_then s b b b g.2 g.3 rest (walks_expression e b g.2 g.3 g.7) (walks_by s EndBlock b g.3 rest refl g.8)))),
-      )
-
-  pub walks_with : (e : Expression) (name : Ident) (a : List OpenBlock) (ts rest : List Lexeme) → IsWithTag s e name ts rest → Opens with_block a ts rest
-  walks_with e name a ts rest g =
-      let begin = g.4.1.1.lexeme.span in
-      let o : OpenBlock = record { kind = with_block; has_else = false; span = from_to begin (end_from begin g.0) } in
-      let b = o ∷ a in (
-        o.span,
-        walks_then s a b b ts g.0 rest (walks_begin s a b (codes "with") ts g.0 g.4 tt refl)
-            (walks_then s b b b g.0 g.1 rest (walks_expression e b g.0 g.1 g.5)
-            (walks_then s b b b g.1 g.2 rest (walks_word s (codes "as") b g.1 g.2 g.6)
-            (walks_then s b b b g.2 g.3 rest (walks_one s Identifier name.span b g.2 g.3 refl g.7.0) (walks_by s EndBlock b g.3 rest refl g.8)))),
+        walks_then s a (o ∷ a) (o ∷ a) ts g.0 rest (walks_begin s a (o ∷ a) (block_word kind) ts g.0 g.2 (subst F (sym (block_closes_none s kind g.0)) tt) (block_opens s kind begin g.0 a))
+            (walks_then s (o ∷ a) (o ∷ a) (o ∷ a) g.0 g.1 rest (walks_passes s (o ∷ a) g.0 g.1 (passes_head s tag e g.0 g.1 g.3)) (walks_by s EndBlock (o ∷ a) g.1 rest refl g.4)),
       )
 
   pub walks_else_if : (negated : Bool) (e : Expression) (span : Span) (a : List OpenBlock) (ts rest : List Lexeme) → IsElseIfTag s negated e ts rest → Walks s (opening s if_block false span ∷ a) ts (opening s if_block false span ∷ a) rest
@@ -186,15 +160,15 @@ module _ (s : List ℕ) (passes : (e : Expression) (ts rest : List Lexeme) → I
       let is : else_by s g.0 ≡ else_if = else_at s Keyword g.4.0 g.0 g.1 g.4.1.0 in
       walks_then s b b b ts g.0 rest (walks_begin s b b (codes "else") ts g.0 g.3 (ap (takes b) is) (ap (λ (x : Closer). by_closer (Some x) b) is))
       (walks_then s b b b g.0 g.1 rest (walks_word s (codes "if") b g.0 g.1 g.4)
-      (walks_then s b b b g.1 g.2 rest (walks_condition negated e b g.1 g.2 g.5) (walks_by s EndBlock b g.2 rest refl g.6)))
+      (walks_then s b b b g.1 g.2 rest (walks_passes s b g.1 g.2 (passes_condition s negated e g.1 g.2 g.5)) (walks_by s EndBlock b g.2 rest refl g.6)))
 
   pub walks_include : (name : Ident) (context : Option Expression) (a : List OpenBlock) (ts rest : List Lexeme) → IsStatement s (include name context) ts rest → Walks s a ts a rest
   walks_include name context a ts rest g =
       walks_then s a a a ts g.0 rest (walks_begin s a a (codes "include") ts g.0 g.3 tt refl)
       (walks_then s a a a g.0 g.1 rest (walks_one s String name.span a g.0 g.1 refl g.4.0)
-      (walks_then s a a a g.1 g.2 rest (walks_context context a g.1 g.2 g.5) (walks_by s EndBlock a g.2 rest refl g.6)))
+      (walks_then s a a a g.1 g.2 rest (walks_passes s a g.1 g.2 (passes_context s context g.1 g.2 g.5)) (walks_by s EndBlock a g.2 rest refl g.6)))
 
   pub walks_inline : (e : Expression) (span : Span) (a : List OpenBlock) (ts rest : List Lexeme) → IsStatement s (inline_expr e span) ts rest → Walks s a ts a rest
   walks_inline e span a ts rest g =
       walks_then s a a a ts g.2 rest (walks_one s BeginExpr g.0 a ts g.2 refl g.4)
-      (walks_then s a a a g.2 g.3 rest (walks_expression e a g.2 g.3 g.5) (walks_one s EndExpr g.1 a g.3 rest refl g.6))
+      (walks_then s a a a g.2 g.3 rest (walks_passes s a g.2 g.3 (passes e g.2 g.3 g.5)) (walks_one s EndExpr g.1 a g.3 rest refl g.6))

@@ -1,10 +1,11 @@
 -- Statements end with what is left of them, and where a begin is among their tokens, a whole tag is there.
 use Rattle.std.proofs.Common.{◌≡◌, inl, inr, ℕ, ◌<◌, ◌≤◌, List, ◌∷◌, ◌++◌, length, true, false, sym, ap, ◌∙◌, arith, length-append}
 use Rattle.upon_types.specs.declared.types.token.Token.TheVariants.{Raw}
-use Rattle.upon_types.specs.Tree.{Statement, raw, inline_expr, include, if_else, for_loop, with, Statements, no_statements, statement_then, Else, no_else, otherwise}
+use Rattle.upon_types.specs.BlockKinds.{Block, if_block, if_tag, opened_kind}
+use Rattle.upon_types.specs.Tree.{Statement, raw, inline_expr, include, block, Statements, no_statements, statement_then, Else, no_else, otherwise}
 use Rattle.upon_language_spec.specs.Cut.{Lexeme}
-use Rattle.upon_language_spec.specs.Grammar.{IsStatement, AreStatements, IsElse, IsForElse, IsElseIf, IsIfAfterElse}
-use Rattle.upon_language_spec.specs.Tags.{IsTag, an_inline, an_include, an_if, an_else_if, an_else, an_endif, a_for, an_endfor, a_with, an_endwith}
+use Rattle.upon_language_spec.specs.Grammar.{IsStatement, AreStatements, IsBlockEnd, IsElseIf, IsIfAfterElse}
+use Rattle.upon_language_spec.specs.Tags.{IsTag, an_inline, an_include, an_opening, an_else_if, an_else, an_end}
 use Rattle.upon_language_spec.proofs.NoTreeWithFault.Tails.{Tail, tail_same, tail_one, tail_then, longer_or_tail, only_one}
 use Rattle.upon_language_spec.proofs.NoTreeWithFault.TagShapes.{begins_a_tag, tag_shape}
 use Rattle.upon_language_spec.proofs.NoTreeWithFault.TagsWithin.{shape_tail, Found, in_tag_found}
@@ -18,22 +19,16 @@ module _ (s : List ℕ) where
     statement_tail (raw span) ts rest g = tail_one ts rest g.lexeme g.is
     statement_tail (inline_expr e span) ts rest g = tag_tail ts rest (an_inline e span g)
     statement_tail (include name context) ts rest g = tag_tail ts rest (an_include name context g)
-    statement_tail (if_else negated e body other) ts rest g = tail_then ts g.0 rest (tag_tail ts g.0 (an_if negated e g.2)) (tail_then g.0 g.1 rest (statements_tail body g.0 g.1 g.3) (else_tail other g.1 rest g.4))
-    statement_tail (for_loop names e body other) ts rest g = tail_then ts g.0 rest (tag_tail ts g.0 (a_for names e g.2)) (tail_then g.0 g.1 rest (statements_tail body g.0 g.1 g.3) (for_else_tail other g.1 rest g.4))
-    statement_tail (with e name body) ts rest g = tail_then ts g.0 rest (tag_tail ts g.0 (a_with e name g.2)) (tail_then g.0 g.1 rest (statements_tail body g.0 g.1 g.3) (tag_tail g.1 rest (an_endwith g.4)))
+    statement_tail (block opening e body other) ts rest g = tail_then ts g.0 rest (tag_tail ts g.0 (an_opening opening e g.2)) (tail_then g.0 g.1 rest (statements_tail body g.0 g.1 g.3) (end_tail (opened_kind opening) other g.1 rest g.4))
 
     pub statements_tail : (tree : Statements) (ts rest : List Lexeme) → AreStatements s tree ts rest → Tail ts rest
     statements_tail no_statements ts rest g = tail_same ts rest g
     statements_tail (statement_then t tree) ts rest g = tail_then ts g.0 rest (statement_tail t ts g.0 g.1) (statements_tail tree g.0 rest g.2)
 
-    else_tail : (other : Else) (ts rest : List Lexeme) → IsElse s other ts rest → Tail ts rest
-    else_tail no_else ts rest g = tag_tail ts rest (an_endif g)
-    else_tail (otherwise body) ts rest (inl g) = tail_then ts g.0 rest (tag_tail ts g.0 (an_else g.2)) (tail_then g.0 g.1 rest (statements_tail body g.0 g.1 g.3) (tag_tail g.1 rest (an_endif g.4)))
-    else_tail (otherwise body) ts rest (inr g) = else_if_tail body ts rest g
-
-    for_else_tail : (other : Else) (ts rest : List Lexeme) → IsForElse s other ts rest → Tail ts rest
-    for_else_tail no_else ts rest g = tag_tail ts rest (an_endfor g)
-    for_else_tail (otherwise body) ts rest g = tail_then ts g.0 rest (tag_tail ts g.0 (an_else g.2)) (tail_then g.0 g.1 rest (statements_tail body g.0 g.1 g.3) (tag_tail g.1 rest (an_endfor g.4)))
+    end_tail : (kind : Block) (other : Else) (ts rest : List Lexeme) → IsBlockEnd s kind other ts rest → Tail ts rest
+    end_tail kind no_else ts rest g = tag_tail ts rest (an_end kind g)
+    end_tail kind (otherwise body) ts rest (inl g) = tail_then ts g.0 rest (tag_tail ts g.0 (an_else g.3)) (tail_then g.0 g.1 rest (statements_tail body g.0 g.1 g.4) (tag_tail g.1 rest (an_end kind g.5)))
+    end_tail kind (otherwise body) ts rest (inr g) = else_if_tail body ts rest g.1
 
     else_if_tail : (body : Statements) (ts rest : List Lexeme) → IsElseIf s body ts rest → Tail ts rest
     else_if_tail no_statements ts rest g = absurd g
@@ -41,12 +36,8 @@ module _ (s : List ℕ) where
     else_if_tail (statement_then t (statement_then u us)) ts rest g = absurd g
 
     if_tail : (t : Statement) (ts rest : List Lexeme) → IsIfAfterElse s t ts rest → Tail ts rest
-    if_tail (if_else negated e body other) ts rest g = tail_then ts g.0 rest (tag_tail ts g.0 (an_else_if negated e g.2)) (tail_then g.0 g.1 rest (statements_tail body g.0 g.1 g.3) (else_tail other g.1 rest g.4))
-    if_tail (raw span) ts rest g = absurd g
-    if_tail (inline_expr e span) ts rest g = absurd g
-    if_tail (include name context) ts rest g = absurd g
-    if_tail (for_loop names e body other) ts rest g = absurd g
-    if_tail (with e name body) ts rest g = absurd g
+    if_tail (block (if_tag negated) e body other) ts rest g = tail_then ts g.0 rest (tag_tail ts g.0 (an_else_if negated e g.2)) (tail_then g.0 g.1 rest (statements_tail body g.0 g.1 g.3) (end_tail if_block other g.1 rest g.4))
+    if_tail t ts rest g = absurd g
 
 module _ (s : List ℕ) (b : Lexeme) (more : List Lexeme) (begins : begins_a_tag b.token ≡ true) where
   -- a whole tag is at the begin, if it is before the rest
@@ -83,42 +74,24 @@ module _ (s : List ℕ) (b : Lexeme) (more : List Lexeme) (begins : begins_a_tag
     found_statement (raw span) ts rest g = found_raw ts rest g.lexeme g.is g.of_token
     found_statement (inline_expr e span) ts rest g = found_tag ts rest (an_inline e span g)
     found_statement (include name context) ts rest g = found_tag ts rest (an_include name context g)
-    found_statement (if_else negated e body other) ts rest g =
-        let tag = an_if negated e g.2 in
+    found_statement (block opening e body other) ts rest g =
+        let tag = an_opening opening e g.2 in
         let behind = statements_tail s body g.0 g.1 g.3 in
-        let last = else_tail s other g.1 rest g.4 in
-        found_then ts g.0 rest (tag_tail s ts g.0 tag) (tail_then g.0 g.1 rest behind last) (found_tag ts g.0 tag) (found_then g.0 g.1 rest behind last (found_statements body g.0 g.1 g.3) (found_else other g.1 rest g.4))
-    found_statement (for_loop names e body other) ts rest g =
-        let tag = a_for names e g.2 in
-        let behind = statements_tail s body g.0 g.1 g.3 in
-        let last = for_else_tail s other g.1 rest g.4 in
-        found_then ts g.0 rest (tag_tail s ts g.0 tag) (tail_then g.0 g.1 rest behind last) (found_tag ts g.0 tag) (found_then g.0 g.1 rest behind last (found_statements body g.0 g.1 g.3) (found_for_else other g.1 rest g.4))
-    found_statement (with e name body) ts rest g =
-        let tag = a_with e name g.2 in
-        let behind = statements_tail s body g.0 g.1 g.3 in
-        let last = an_endwith g.4 in
-        found_then ts g.0 rest (tag_tail s ts g.0 tag) (tail_then g.0 g.1 rest behind (tag_tail s g.1 rest last)) (found_tag ts g.0 tag) (found_then g.0 g.1 rest behind (tag_tail s g.1 rest last) (found_statements body g.0 g.1 g.3) (found_tag g.1 rest last))
+        let last = end_tail s (opened_kind opening) other g.1 rest g.4 in
+        found_then ts g.0 rest (tag_tail s ts g.0 tag) (tail_then g.0 g.1 rest behind last) (found_tag ts g.0 tag) (found_then g.0 g.1 rest behind last (found_statements body g.0 g.1 g.3) (found_end (opened_kind opening) other g.1 rest g.4))
 
     pub found_statements : (tree : Statements) (ts rest : List Lexeme) → AreStatements s tree ts rest → Finds ts rest
     found_statements no_statements ts rest g = found_nothing ts rest g
     found_statements (statement_then t tree) ts rest g = found_then ts g.0 rest (statement_tail s t ts g.0 g.1) (statements_tail s tree g.0 rest g.2) (found_statement t ts g.0 g.1) (found_statements tree g.0 rest g.2)
 
-    found_else : (other : Else) (ts rest : List Lexeme) → IsElse s other ts rest → Finds ts rest
-    found_else no_else ts rest g = found_tag ts rest (an_endif g)
-    found_else (otherwise body) ts rest (inl g) =
-        let tag = an_else g.2 in
-        let behind = statements_tail s body g.0 g.1 g.3 in
-        let last = an_endif g.4 in
-        found_then ts g.0 rest (tag_tail s ts g.0 tag) (tail_then g.0 g.1 rest behind (tag_tail s g.1 rest last)) (found_tag ts g.0 tag) (found_then g.0 g.1 rest behind (tag_tail s g.1 rest last) (found_statements body g.0 g.1 g.3) (found_tag g.1 rest last))
-    found_else (otherwise body) ts rest (inr g) = found_else_if body ts rest g
-
-    found_for_else : (other : Else) (ts rest : List Lexeme) → IsForElse s other ts rest → Finds ts rest
-    found_for_else no_else ts rest g = found_tag ts rest (an_endfor g)
-    found_for_else (otherwise body) ts rest g =
-        let tag = an_else g.2 in
-        let behind = statements_tail s body g.0 g.1 g.3 in
-        let last = an_endfor g.4 in
-        found_then ts g.0 rest (tag_tail s ts g.0 tag) (tail_then g.0 g.1 rest behind (tag_tail s g.1 rest last)) (found_tag ts g.0 tag) (found_then g.0 g.1 rest behind (tag_tail s g.1 rest last) (found_statements body g.0 g.1 g.3) (found_tag g.1 rest last))
+    found_end : (kind : Block) (other : Else) (ts rest : List Lexeme) → IsBlockEnd s kind other ts rest → Finds ts rest
+    found_end kind no_else ts rest g = found_tag ts rest (an_end kind g)
+    found_end kind (otherwise body) ts rest (inl g) =
+        let tag = an_else g.3 in
+        let behind = statements_tail s body g.0 g.1 g.4 in
+        let last = an_end kind g.5 in
+        found_then ts g.0 rest (tag_tail s ts g.0 tag) (tail_then g.0 g.1 rest behind (tag_tail s g.1 rest last)) (found_tag ts g.0 tag) (found_then g.0 g.1 rest behind (tag_tail s g.1 rest last) (found_statements body g.0 g.1 g.4) (found_tag g.1 rest last))
+    found_end kind (otherwise body) ts rest (inr g) = found_else_if body ts rest g.1
 
     found_else_if : (body : Statements) (ts rest : List Lexeme) → IsElseIf s body ts rest → Finds ts rest
     found_else_if no_statements ts rest g = absurd g
@@ -126,13 +99,9 @@ module _ (s : List ℕ) (b : Lexeme) (more : List Lexeme) (begins : begins_a_tag
     found_else_if (statement_then t (statement_then u us)) ts rest g = absurd g
 
     found_if : (t : Statement) (ts rest : List Lexeme) → IsIfAfterElse s t ts rest → Finds ts rest
-    found_if (if_else negated e body other) ts rest g =
+    found_if (block (if_tag negated) e body other) ts rest g =
         let tag = an_else_if negated e g.2 in
         let behind = statements_tail s body g.0 g.1 g.3 in
-        let last = else_tail s other g.1 rest g.4 in
-        found_then ts g.0 rest (tag_tail s ts g.0 tag) (tail_then g.0 g.1 rest behind last) (found_tag ts g.0 tag) (found_then g.0 g.1 rest behind last (found_statements body g.0 g.1 g.3) (found_else other g.1 rest g.4))
-    found_if (raw span) ts rest g = absurd g
-    found_if (inline_expr e span) ts rest g = absurd g
-    found_if (include name context) ts rest g = absurd g
-    found_if (for_loop names e body other) ts rest g = absurd g
-    found_if (with e name body) ts rest g = absurd g
+        let last = end_tail s if_block other g.1 rest g.4 in
+        found_then ts g.0 rest (tag_tail s ts g.0 tag) (tail_then g.0 g.1 rest behind last) (found_tag ts g.0 tag) (found_then g.0 g.1 rest behind last (found_statements body g.0 g.1 g.3) (found_end if_block other g.1 rest g.4))
+    found_if t ts rest g = absurd g

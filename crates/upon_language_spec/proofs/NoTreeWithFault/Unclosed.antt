@@ -1,5 +1,5 @@
 -- The open blocks do not depend on what is shown of raw parts: a text that ends with a block open has no tree.
-use Rattle.std.proofs.Common.{◌≡◌, ℕ, List, [], ◌∷◌, length, Bool, true, false, Option, Some, None, refl, sym, ap, ◌∙◌, subst, codes, ◌&&◌, if◌then◌else◌}
+use Rattle.std.proofs.Common.{◌≡◌, ℕ, List, [], ◌∷◌, length, Bool, true, false, Option, Some, None, option_map, refl, sym, ap, ◌∙◌, subst, codes, ◌&&◌, if◌then◌else◌}
 use Rattle.std.specs.Str.{bytes_eq}
 use Rattle.upon_types.specs.declared.types.Span.{Span}
 use Rattle.upon_types.specs.declared.types.token.Token.{Token}
@@ -17,7 +17,8 @@ use Rattle.upon_language_spec.proofs.NoTreeWithFault.Fine.{Passes}
 use Rattle.upon_language_spec.proofs.OneCut.Cut.{one_cut_to}
 use Rattle.upon_language_spec.specs.LaterFaults.{UnclosedBlock}
 use Rattle.upon_language_spec.proofs.NoTreeWithFault.InsideTag.{shown_token}
-use Rattle.upon_language_spec.specs.Blocks.{if_block, for_block, with_block, OpenBlock, Closer, else_if, plain_else, end_if, end_for, end_with, else_by, closer_by, end_from, by_word, by_closer, blocks_from, outermost}
+use Rattle.upon_language_spec.specs.Blocks.{OpenBlock, Closer, else_if, plain_else, end_of, else_by, closer_by, end_from, open_or, by_word, by_closer, blocks_from, outermost}
+use Rattle.upon_types.specs.BlockKinds.{Block, block_word, end_word, kind_with}
 use Rattle.upon_language_spec.specs.ClosingTags.{is_word, blocks_past, word_next, closer_in, Closing, TokenTaken, AllTaken}
 use Rattle.upon_language_spec.proofs.NoTreeWithFault.TagBlocks.{begins_block}
 use Rattle.upon_language_spec.proofs.NoTreeWithFault.Blocks.{blocks_of_statements, taken_of_statements}
@@ -92,21 +93,15 @@ significant_erased ls = ap without_comments (spaces_erased ls) ∙ comments_eras
 pub alike : (s : List ℕ) (e : Bool) (ls : List Lexeme) → all_erased (significant (shown_lexemes s e ls)) ≡ all_erased (significant ls)
 alike s e ls = sym (significant_erased (shown_lexemes s e ls)) ∙ ap significant (all_shown_erased s e ls) ∙ significant_erased ls
 
--- the blocks after a word, by where the tag ends and which `else` it is
-abbrev pub by_end : List ℕ → Span → List ℕ → List OpenBlock → Span → Closer → List OpenBlock
-by_end s begin word stack end other =
-    if bytes_eq word (codes "if") then (record { kind = if_block; has_else = false; span = from_to begin end } ∷ stack)
-    else (if bytes_eq word (codes "for") then (record { kind = for_block; has_else = false; span = from_to begin end } ∷ stack)
-    else (if bytes_eq word (codes "with") then (record { kind = with_block; has_else = false; span = from_to begin end } ∷ stack)
-    else by_closer (if bytes_eq word (codes "else") then Some other else (if bytes_eq word (codes "endif") then Some end_if
-    else (if bytes_eq word (codes "endfor") then Some end_for else (if bytes_eq word (codes "endwith") then Some end_with else None)))) stack))
+pub same_closer_by : (s word : List ℕ) (xs ys : List Lexeme) → else_by s xs ≡ else_by s ys → closer_by s word xs ≡ closer_by s word ys
+same_closer_by s word xs ys f = ap (λ (x : Closer). if bytes_eq word (codes "else") then Some x else option_map end_of (kind_with end_word word)) f
 
 pub same_by_word : (s : List ℕ) (begin : Span) (word : List ℕ) (xs ys : List Lexeme) (stack : List OpenBlock) → end_from begin xs ≡ end_from begin ys → else_by s xs ≡ else_by s ys → by_word s begin word xs stack ≡ by_word s begin word ys stack
-same_by_word s begin word xs ys stack e f = ap (λ (x : Span). by_end s begin word stack x (else_by s xs)) e ∙ ap (λ (x : Closer). by_end s begin word stack (end_from begin ys) x) f
-
-pub same_closer_by : (s word : List ℕ) (xs ys : List Lexeme) → else_by s xs ≡ else_by s ys → closer_by s word xs ≡ closer_by s word ys
-same_closer_by s word xs ys f = ap (λ (x : Closer). if bytes_eq word (codes "else") then Some x else (if bytes_eq word (codes "endif") then Some end_if
-    else (if bytes_eq word (codes "endfor") then Some end_for else (if bytes_eq word (codes "endwith") then Some end_with else None)))) f
+same_by_word s begin word xs ys stack e f = opened (kind_with block_word word)
+  where
+    opened : (o : Option Block) → open_or o begin xs stack (by_closer (closer_by s word xs) stack) ≡ open_or o begin ys stack (by_closer (closer_by s word ys) stack)
+    opened (Some kind) = ap (λ (x : Span). record { kind = kind; has_else = false; span = from_to begin x } ∷ stack) e
+    opened None = ap (λ (x : Option Closer). by_closer x stack) (same_closer_by s word xs ys f)
 
 end_at : (begin : Span) (ls : List Lexeme) (t : Token) (l : Lexeme) → (elim t as (λ _. Span) [ EndBlock ↦ (erased t l).span | _ ↦ end_from begin ls ]) ≡ (elim t as (λ _. Span) [ EndBlock ↦ l.span | _ ↦ end_from begin ls ])
 end_at begin ls EndBlock l = refl

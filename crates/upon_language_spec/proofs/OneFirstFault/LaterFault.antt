@@ -16,7 +16,8 @@ use Rattle.upon_language_spec.proofs.OneCut.Quoted.{one_quoted}
 use Rattle.upon_language_spec.proofs.OneCut.Token.{one_step}
 use Rattle.upon_language_spec.proofs.OneCut.Cut.{one_cut_to}
 use Rattle.upon_language_spec.specs.Reading.{ReadsTo, open_tag, first_span, last_of}
-use Rattle.upon_language_spec.specs.Blocks.{OpenBlock, closer_of, open_blocks, outermost, block_word, closer_words}
+use Rattle.upon_types.specs.BlockKinds.{block_word}
+use Rattle.upon_language_spec.specs.Blocks.{OpenBlock, closer_of, open_blocks, outermost, closer_words}
 use Rattle.upon_language_spec.specs.Tokens.{significant}
 use Rattle.upon_language_spec.specs.Tags.{Symbol, word_of}
 use Rattle.upon_language_spec.specs.Wanted.{Wanted, an_expression, a_string, a_name_or_index, an_end_expression, an_end_block, a_close_paren, a_close_bracket, a_close_brace, an_in, an_as, a_block_word, a_name, a_number, a_colon, rank, IsWanted, reason_for, wanted_at_end, expected_found, in_quotes}

@@ -18,7 +18,7 @@ pub args_end_at : (t : Token) (ts r : List Lexeme) → continues_base (Some t) �
 args_end_at t ts r b a g = let first = first_by t ts r g in (ap continues_base first ∙ b, ap continues_args first ∙ a)
 
 -- where arguments end, no token goes that goes on with them
-no_more_args : (t : Token) (ts us x : List Lexeme) → continues_args (Some t) ≡ true → ts ≡ us → BehindArgs ts → GoesBy t us x → ⊥
+pub no_more_args : (t : Token) (ts us x : List Lexeme) → continues_args (Some t) ≡ true → ts ≡ us → BehindArgs ts → GoesBy t us x → ⊥
 no_more_args t ts us x continues same behind g = no_token continues_args t ts us x continues same behind.1 g
 
 module _ (s : List ℕ) where

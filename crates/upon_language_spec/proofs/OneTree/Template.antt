@@ -1,10 +1,11 @@
 -- Tokens are one list of statements at most.
 use Rattle.std.proofs.Common.{◌≡◌, ℕ, List, [], refl, sym, ap, ◌∙◌}
-use Rattle.upon_types.specs.Tree.{Statement, raw, inline_expr, include, if_else, for_loop, with, Statements, no_statements, statement_then, Else, no_else, otherwise}
+use Rattle.upon_types.specs.BlockKinds.{Block, if_block, if_tag, opened_kind}
+use Rattle.upon_types.specs.Tree.{Statement, raw, inline_expr, include, block, Statements, no_statements, statement_then, Else, no_else, otherwise}
 use Rattle.upon_language_spec.specs.Cut.{Lexeme}
 use Rattle.upon_language_spec.specs.Grammar.{AreStatements}
 use Rattle.upon_language_spec.proofs.OneTree.Mark.{end_begins_none}
-use Rattle.upon_language_spec.proofs.OneTree.Statement.{OneStatement, OneStatements, OneElse, OneForElse, OneElseIf, OneIfAfterElse, one_raw, one_inline, one_include, one_if, one_if_after_else, one_for, one_with, one_endif, one_otherwise, one_endfor, one_for_otherwise}
+use Rattle.upon_language_spec.proofs.OneTree.Statement.{OneStatement, OneStatements, OneBlockEnd, OneElseIf, OneIfAfterElse, one_raw, one_inline, one_include, one_block, one_if_after_else, one_no_else, one_otherwise}
 
 module _ (s : List ℕ) where
   end_of_statements : OneStatements s no_statements
@@ -30,21 +31,15 @@ module _ (s : List ℕ) where
     statement (raw span) = one_raw s span
     statement (inline_expr e span) = one_inline s e span
     statement (include name context) = one_include s name context
-    statement (if_else negated e body other) = one_if s negated e body other (statements body) (branch other)
-    statement (for_loop names e body other) = one_for s names e body other (statements body) (for_branch other)
-    statement (with e name body) = one_with s e name body (statements body)
+    statement (block opening e body other) = one_block s opening e body other (statements body) (branch (opened_kind opening) other)
 
     statements : (a : Statements) → OneStatements s a
     statements no_statements = end_of_statements
     statements (statement_then t more) = one_more t more (statement t) (statements more)
 
-    branch : (a : Else) → OneElse s a
-    branch no_else = one_endif s
-    branch (otherwise body) = one_otherwise s body (statements body) (chain body)
-
-    for_branch : (a : Else) → OneForElse s a
-    for_branch no_else = one_endfor s
-    for_branch (otherwise body) = one_for_otherwise s body (statements body)
+    branch : (kind : Block) (a : Else) → OneBlockEnd s kind a
+    branch kind no_else = one_no_else s kind
+    branch kind (otherwise body) = one_otherwise s kind body (statements body) (chain body)
 
     -- an `else if` is an `if` alone in the other branch
     chain : (a : Statements) → OneElseIf s a
@@ -53,7 +48,7 @@ module _ (s : List ℕ) where
     chain (statement_then t (statement_then u more)) = λ b ts us r x same h k. absurd h
 
     link : (t : Statement) → OneIfAfterElse s t
-    link (if_else negated e body other) = one_if_after_else s negated e body other (statements body) (branch other)
+    link (block (if_tag negated) e body other) = one_if_after_else s negated e body other (statements body) (branch if_block other)
     link t = λ u ts us r x same h k. absurd h
 
   pub one_statements : (ts : List Lexeme) (a b : Statements) → AreStatements s a ts [] → AreStatements s b ts [] → a ≡ b

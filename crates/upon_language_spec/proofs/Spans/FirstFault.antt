@@ -19,7 +19,8 @@ use Rattle.upon_language_spec.specs.Reading.{ReadsTo, opens_tag, from_begin, ope
 use Rattle.upon_language_spec.specs.Faults.{span_of, tag_tokens, BeginsNoToken, EndsQuestion, LineEnds}
 use Rattle.upon_language_spec.specs.LaterFaults.{Report, minus_before, start_from, number_report_of, number_report}
 use Rattle.upon_language_spec.specs.LiteralFaults.{NumberFault, bad_digit, too_large, number_fault, is_float, base_text}
-use Rattle.upon_language_spec.specs.Blocks.{if_block, for_block, with_block, OpenBlock, Closer, else_if, plain_else, end_if, end_for, end_with, closer_by, blocks_after_closer, after_closer, end_from, open_block, by_closer, by_word, at_begin, blocks_from, open_blocks, outermost}
+use Rattle.upon_types.specs.BlockKinds.{Block, block_word, kind_with}
+use Rattle.upon_language_spec.specs.Blocks.{OpenBlock, Closer, else_if, plain_else, end_of, closer_by, blocks_after_closer, after_closer, end_from, open_or, by_closer, by_word, at_begin, blocks_from, open_blocks, outermost}
 use Rattle.upon_language_spec.specs.FirstFault.{SyntaxFault, unexpected_end, unclosed_tag, unclosed_bracket, unexpected_close, unexpected_character, undelimited_string, unexpected_token, unexpected_eof, empty_comment, comment_eof, wrong_number, wrong_index, wrong_escape, unexpected_block, unclosed_block, Holds}
 use Rattle.upon_language_spec.proofs.OneCut.Delimiter.{stands_ends}
 use Rattle.upon_language_spec.proofs.OneCut.Cut.{cut_ends}
@@ -109,9 +110,7 @@ end_lies s begin p (k ∷ ls) b l h = by_token k.token (end_lies s begin k.span.
 closed_lie : (s : List ℕ) (closer : Closer) (o : OpenBlock) (stack : List OpenBlock) → EachOpenLies s (o ∷ stack) → EachOpenLies s (blocks_after_closer closer o stack)
 closed_lie s else_if o stack h = h
 closed_lie s plain_else o stack h = h
-closed_lie s end_if o stack h = h.1
-closed_lie s end_for o stack h = h.1
-closed_lie s end_with o stack h = h.1
+closed_lie s (end_of kind) o stack h = h.1
 
 after_lie : (s : List ℕ) (closer : Closer) (stack : List OpenBlock) → EachOpenLies s stack → EachOpenLies s (after_closer closer stack)
 after_lie s closer [] h = tt
@@ -122,16 +121,11 @@ closer_lie s None stack h = h
 closer_lie s (Some closer) stack h = after_lie s closer stack h
 
 word_lie : (s : List ℕ) (begin : Span) (word : List ℕ) (p : ℕ) (ls : List Lexeme) (stack : List OpenBlock) → LiesIn s begin → begin.n ≤ p → Along s p ls → EachOpenLies s stack → EachOpenLies s (by_word s begin word ls stack)
-word_lie s begin word p ls stack b l along h = by_tests (bytes_eq word (codes "if")) (bytes_eq word (codes "for")) (bytes_eq word (codes "with"))
+word_lie s begin word p ls stack b l along h = by_kind (kind_with block_word word)
   where
-    one : LiesIn s (from_to begin (end_from begin ls))
-    one = end_lies s begin p ls b l along
-
-    by_tests : (x y z : Bool) → EachOpenLies s (if x then open_block if_block begin ls stack else (if y then open_block for_block begin ls stack else (if z then open_block with_block begin ls stack else by_closer (closer_by s word ls) stack)))
-    by_tests true y z = (one, h)
-    by_tests false true z = (one, h)
-    by_tests false false true = (one, h)
-    by_tests false false false = closer_lie s (closer_by s word ls) stack h
+    by_kind : (o : Option Block) → EachOpenLies s (open_or o begin ls stack (by_closer (closer_by s word ls) stack))
+    by_kind (Some kind) = (end_lies s begin p ls b l along, h)
+    by_kind None = closer_lie s (closer_by s word ls) stack h
 
 begin_lie : (s : List ℕ) (begin : Span) (ls : List Lexeme) (stack : List OpenBlock) → LiesIn s begin → Along s begin.n ls → EachOpenLies s stack → EachOpenLies s (at_begin s begin ls stack)
 begin_lie s begin [] stack b along h = h

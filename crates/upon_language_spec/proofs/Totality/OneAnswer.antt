@@ -16,7 +16,8 @@ use Rattle.upon_language_spec.proofs.OneFirstFault.FirstFault.{one_first_fault}
 use Rattle.upon_language_spec.proofs.NoTreeWithFault.Fault.{no_tree_with_fault}
 use Rattle.upon_language_spec.specs.Wanted.{in_quotes}
 use Rattle.upon_language_spec.proofs.OneCut.Cut.{cut_ends, cut_joined}
-use Rattle.upon_language_spec.specs.Blocks.{OpenBlock, open_blocks, outermost, block_word}
+use Rattle.upon_types.specs.BlockKinds.{block_word}
+use Rattle.upon_language_spec.specs.Blocks.{OpenBlock, open_blocks, outermost}
 use Rattle.upon_language_spec.specs.Stages.{Stage}
 use Rattle.upon_language_spec.proofs.Totality.Stage.{start, unclosed_is_first}
 use Rattle.upon_language_spec.proofs.Totality.LiteralHere.{Fault}

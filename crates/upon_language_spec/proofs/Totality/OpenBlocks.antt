@@ -6,17 +6,19 @@ use Rattle.upon_types.specs.declared.types.token.Token.TheVariants.{BeginBlock, 
 use Rattle.upon_types.specs.Span.{slice}
 use Rattle.upon_types.specs.Expression.{Expression}
 use Rattle.upon_types.specs.Tree.{inline_expr, include}
+use Rattle.upon_types.specs.BlockKinds.{Block, if_block, opened_kind, end_word}
+use Rattle.upon_language_spec.proofs.BlockKinds.{same_end, only_if}
 use Rattle.upon_language_spec.specs.Cut.{Lexeme}
 use Rattle.upon_language_spec.specs.Grammar.{BeginsBlock, IsWordTag, IsElseIfTag}
-use Rattle.upon_language_spec.specs.Tags.{IsTag, an_inline, an_include, an_if, an_else_if, an_else, an_endif, a_for, an_endfor, a_with, an_endwith}
+use Rattle.upon_language_spec.specs.Tags.{IsTag, an_inline, an_include, an_opening, an_else_if, an_else, an_end}
 use Rattle.upon_language_spec.proofs.NoTreeWithFault.FineExpression.{passes_expression}
 use Rattle.upon_language_spec.proofs.NoTreeWithFault.ReadBefore.{has_end, Ended}
-use Rattle.upon_language_spec.specs.Blocks.{Block, if_block, for_block, with_block, OpenBlock, Closer, else_if, plain_else, end_if, end_for, end_with, closer_by, closer_of, block_takes, takes, by_word, blocks_from}
+use Rattle.upon_language_spec.specs.Blocks.{OpenBlock, Closer, else_if, plain_else, end_of, closer_by, closer_of, block_takes, takes, blocks_from}
 use Rattle.upon_language_spec.proofs.NoTreeWithFault.Unclosed.{same_by_word, same_closer_by}
 use Rattle.upon_language_spec.specs.ClosingTags.{is_word, blocks_past, word_next, closer_in, Closing, TokenTaken, AllTaken}
-use Rattle.upon_language_spec.proofs.NoTreeWithFault.TagBlocks.{else_at, walks_begin, begins_block, Walks, walks_then, walks_one, walks_if, walks_for, walks_with, walks_else_if, walks_include, walks_inline, walks_endif, walks_endfor, walks_plain_else}
-use Rattle.upon_language_spec.proofs.Totality.TagMore.{inline_more, include_more, word_tag_more, if_tag_more, else_if_tag_more, for_tag_more, with_tag_more}
-use Rattle.upon_language_spec.proofs.Totality.BlockTrees.{EndsBlocks, opening, statement_first, if_first, for_first, with_first, else_first, for_else_first, else_if_first, endif_first, endfor_first, endwith_first}
+use Rattle.upon_language_spec.proofs.NoTreeWithFault.TagBlocks.{end_closer, else_at, begins_block, Walks, walks_end, walks_opening, walks_else_if, walks_include, walks_inline, walks_plain_else}
+use Rattle.upon_language_spec.proofs.Totality.TagMore.{inline_more, include_more, word_tag_more, opening_more, else_if_tag_more}
+use Rattle.upon_language_spec.proofs.Totality.BlockTrees.{EndsBlocks, opening, statement_first, opening_first, else_first, else_if_first, end_first}
 use Rattle.upon_language_spec.proofs.NoTreeWithFault.Unexpected.{end_within, else_within, word_ends_nothing}
 
 -- ---- with more tokens after
@@ -65,9 +67,6 @@ module _ (s : List ℕ) where
       ∙ ap (λ (t : Token). elim t as (λ _. Option Closer) [ BeginBlock ↦ closer_by s (slice s k.span) rest | _ ↦ None ]) g.1.1.of_token
       ∙ ap (λ (x : List ℕ). closer_by s x rest) (ap (slice s) g.2.1.0.at ∙ g.2.1.1)
 
-  walks_close : (a b : List OpenBlock) (word : List ℕ) (ts rest : List Lexeme) (g : IsWordTag s word ts rest) → Closing a (closer_by s word g.0) → by_word s g.1.1.1.lexeme.span word g.0 a ≡ b → Walks s a ts b rest
-  walks_close a b word ts rest g c e = walks_then s a b b ts g.0 rest (walks_begin s a b word ts g.0 g.1 c e) (walks_one s EndBlock g.2.0 b g.0 rest refl g.2.1)
-
 -- what a whole tag does to the open blocks, and how the rest reads on
 pub record TagStep (s : List ℕ) (a : List OpenBlock) (all : List Lexeme) : Type 0 where
   pub stack : List OpenBlock
@@ -81,58 +80,33 @@ module _ (s : List ℕ) (all : List Lexeme) where
   abbrev Taken : List OpenBlock → Type 0
   Taken a = (closer : Closer) → closer_of s all ≡ Some closer → takes a closer ≡ true
 
-  closed_endif : (kind : Block) (has_else : Bool) (span : Span) (a : List OpenBlock) → IsWordTag s (codes "endif") all [] → block_takes kind has_else end_if ≡ true → TagStep s (opening kind has_else span ∷ a) all
-  closed_endif if_block has_else span a g h = record { stack = a; walks = walks_endif s a has_else span all [] g; back = λ rest more. endif_first s a has_else span (all ++ rest) rest (word_tag_more s rest (codes "endif") all [] g) more }
-  closed_endif for_block true span a g h = absurd cc
-  closed_endif for_block false span a g h = absurd cc
-  closed_endif with_block has_else span a g h = absurd cc
-
-  closed_endfor : (kind : Block) (has_else : Bool) (span : Span) (a : List OpenBlock) → IsWordTag s (codes "endfor") all [] → block_takes kind has_else end_for ≡ true → TagStep s (opening kind has_else span ∷ a) all
-  closed_endfor if_block true span a g h = absurd cc
-  closed_endfor if_block false span a g h = absurd cc
-  closed_endfor for_block has_else span a g h = record { stack = a; walks = walks_endfor s a has_else span all [] g; back = λ rest more. endfor_first s a has_else span (all ++ rest) rest (word_tag_more s rest (codes "endfor") all [] g) more }
-  closed_endfor with_block has_else span a g h = absurd cc
-
-  closed_endwith : (kind : Block) (has_else : Bool) (span : Span) (a : List OpenBlock) → IsWordTag s (codes "endwith") all [] → block_takes kind has_else end_with ≡ true → TagStep s (opening kind has_else span ∷ a) all
-  closed_endwith if_block true span a g h = absurd cc
-  closed_endwith if_block false span a g h = absurd cc
-  closed_endwith with_block has_else span a g h = record { stack = a; walks = walks_close s (opening with_block has_else span ∷ a) a (codes "endwith") all [] g refl refl; back = λ rest more. endwith_first s a has_else span (all ++ rest) rest (word_tag_more s rest (codes "endwith") all [] g) more }
-  closed_endwith for_block true span a g h = absurd cc
-  closed_endwith for_block false span a g h = absurd cc
+  -- the last tag of a block that is open
+  closed_end : (kind ended : Block) (has_else : Bool) (span : Span) (a : List OpenBlock) → kind ≡ ended → IsWordTag s (end_word ended) all [] → TagStep s (opening kind has_else span ∷ a) all
+  closed_end kind ended has_else span a same g =
+      let F : Block → Type 0 = λ k. TagStep s (opening k has_else span ∷ a) all in
+      subst F (sym same) (record { stack = a; walks = walks_end s ended a has_else span all [] g; back = λ rest more. end_first s ended a has_else span (all ++ rest) rest (word_tag_more s rest (end_word ended) all [] g) more })
 
   closed_else : (kind : Block) (has_else : Bool) (span : Span) (a : List OpenBlock) → IsWordTag s (codes "else") all [] → block_takes kind has_else plain_else ≡ true → TagStep s (opening kind has_else span ∷ a) all
-  closed_else if_block true span a g h = absurd cc
-  closed_else if_block false span a g h = record { stack = opening if_block true span ∷ a; walks = walks_plain_else s if_block a span all [] refl g; back = λ rest more. else_first s a span (all ++ rest) rest (word_tag_more s rest (codes "else") all [] g) more }
-  closed_else for_block true span a g h = absurd cc
-  closed_else for_block false span a g h = record { stack = opening for_block true span ∷ a; walks = walks_plain_else s for_block a span all [] refl g; back = λ rest more. for_else_first s a span (all ++ rest) rest (word_tag_more s rest (codes "else") all [] g) more }
-  closed_else with_block has_else span a g h = absurd cc
+  closed_else kind true span a g h = absurd cc
+  closed_else kind false span a g h = record { stack = opening kind true span ∷ a; walks = walks_plain_else s kind a span all [] h g; back = λ rest more. else_first s kind a span (all ++ rest) rest h (word_tag_more s rest (codes "else") all [] g) more }
 
   -- which closing tag the tag is
   of_word : (word : List ℕ) (closer : Closer) (g : IsWordTag s word all []) (a : List OpenBlock) → closer_by s word g.0 ≡ Some closer → Taken a → takes a closer ≡ true
   of_word word closer g a e taken = taken closer (closer_is s word all g.0 g.1 ∙ e)
 
-  step_endif : (a : List OpenBlock) → IsWordTag s (codes "endif") all [] → takes a end_if ≡ true → TagStep s a all
-  step_endif [] g h = absurd cc
-  step_endif (o ∷ a) g h = closed_endif o.kind o.has_else o.span a g h
-
-  step_endfor : (a : List OpenBlock) → IsWordTag s (codes "endfor") all [] → takes a end_for ≡ true → TagStep s a all
-  step_endfor [] g h = absurd cc
-  step_endfor (o ∷ a) g h = closed_endfor o.kind o.has_else o.span a g h
-
-  step_endwith : (a : List OpenBlock) → IsWordTag s (codes "endwith") all [] → takes a end_with ≡ true → TagStep s a all
-  step_endwith [] g h = absurd cc
-  step_endwith (o ∷ a) g h = closed_endwith o.kind o.has_else o.span a g h
+  step_end : (ended : Block) (a : List OpenBlock) → IsWordTag s (end_word ended) all [] → takes a (end_of ended) ≡ true → TagStep s a all
+  step_end ended [] g h = absurd cc
+  step_end ended (o ∷ a) g h = closed_end o.kind ended o.has_else o.span a (same_end o.kind ended h) g
 
   step_else : (a : List OpenBlock) → IsWordTag s (codes "else") all [] → takes a plain_else ≡ true → TagStep s a all
   step_else [] g h = absurd cc
   step_else (o ∷ a) g h = closed_else o.kind o.has_else o.span a g h
 
   closed_else_if : (negated : Bool) (e : Expression) (kind : Block) (has_else : Bool) (span : Span) (a : List OpenBlock) → IsElseIfTag s negated e all [] → block_takes kind has_else else_if ≡ true → TagStep s (opening kind has_else span ∷ a) all
-  closed_else_if negated e if_block true span a g h = absurd cc
-  closed_else_if negated e if_block false span a g h = record { stack = opening if_block false span ∷ a; walks = walks_else_if s (passes_expression s) negated e span a all [] g; back = λ rest more. else_if_first s a span negated e (all ++ rest) rest (else_if_tag_more s rest negated e all [] g) more }
-  closed_else_if negated e for_block true span a g h = absurd cc
-  closed_else_if negated e for_block false span a g h = absurd cc
-  closed_else_if negated e with_block has_else span a g h = absurd cc
+  closed_else_if negated e kind true span a g h = absurd cc
+  closed_else_if negated e kind false span a g h =
+      let F : Block → Type 0 = λ k. TagStep s (opening k false span ∷ a) all in
+      subst F (only_if kind h) (record { stack = opening if_block false span ∷ a; walks = walks_else_if s (passes_expression s) negated e span a all [] g; back = λ rest more. else_if_first s a span negated e (all ++ rest) rest (else_if_tag_more s rest negated e all [] g) more })
 
   step_else_if : (negated : Bool) (e : Expression) (a : List OpenBlock) → IsElseIfTag s negated e all [] → takes a else_if ≡ true → TagStep s a all
   step_else_if negated e [] g h = absurd cc
@@ -141,17 +115,9 @@ module _ (s : List ℕ) (all : List Lexeme) where
   pub tag_step : (a : List OpenBlock) → IsTag s all [] → Taken a → TagStep s a all
   tag_step a (an_inline e span g) taken = record { stack = a; walks = walks_inline s (passes_expression s) e span a all [] g; back = λ rest more. statement_first s a (inline_expr e span) (all ++ rest) rest (inline_more s rest e span all [] g) more }
   tag_step a (an_include name context g) taken = record { stack = a; walks = walks_include s (passes_expression s) name context a all [] g; back = λ rest more. statement_first s a (include name context) (all ++ rest) rest (include_more s rest name context all [] g) more }
-  tag_step a (an_if negated e g) taken =
-      let w = walks_if s (passes_expression s) negated e a all [] g in
-      record { stack = opening if_block false w.0 ∷ a; walks = w.1; back = λ rest more. if_first s a w.0 negated e (all ++ rest) rest (if_tag_more s rest negated e all [] g) more }
-  tag_step a (a_for names e g) taken =
-      let w = walks_for s (passes_expression s) names e a all [] g in
-      record { stack = opening for_block false w.0 ∷ a; walks = w.1; back = λ rest more. for_first s a w.0 names e (all ++ rest) rest (for_tag_more s rest names e all [] g) more }
-  tag_step a (a_with e name g) taken =
-      let w = walks_with s (passes_expression s) e name a all [] g in
-      record { stack = opening with_block false w.0 ∷ a; walks = w.1; back = λ rest more. with_first s a w.0 e name (all ++ rest) rest (with_tag_more s rest e name all [] g) more }
+  tag_step a (an_opening tag e g) taken =
+      let w = walks_opening s (passes_expression s) tag e a all [] g in
+      record { stack = opening (opened_kind tag) false w.0 ∷ a; walks = w.1; back = λ rest more. opening_first s a w.0 tag e (all ++ rest) rest (opening_more s rest tag e all [] g) more }
   tag_step a (an_else_if negated e g) taken = step_else_if negated e a g (taken else_if (closer_is s (codes "else") all g.0 g.3 ∙ ap Some (else_at s Keyword g.4.0 g.0 g.1 g.4.1.0)))
   tag_step a (an_else g) taken = step_else a g (of_word (codes "else") plain_else g a (ap Some (else_at s EndBlock g.2.0 g.0 [] g.2.1)) taken)
-  tag_step a (an_endif g) taken = step_endif a g (of_word (codes "endif") end_if g a refl taken)
-  tag_step a (an_endfor g) taken = step_endfor a g (of_word (codes "endfor") end_for g a refl taken)
-  tag_step a (an_endwith g) taken = step_endwith a g (of_word (codes "endwith") end_with g a refl taken)
+  tag_step a (an_end kind g) taken = step_end kind a g (of_word (end_word kind) (end_of kind) g a (end_closer s kind g.0) taken)

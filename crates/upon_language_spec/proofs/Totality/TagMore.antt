@@ -3,11 +3,13 @@ use Rattle.std.proofs.Common.{ℕ, List, ◌++◌, Bool, true, false, Option, So
 use Rattle.upon_types.specs.Path.{Ident, LoopVars, item, key_value}
 use Rattle.upon_types.specs.Expression.{Expression}
 use Rattle.upon_types.specs.declared.types.Span.{Span}
+use Rattle.upon_types.specs.BlockKinds.{Opening, opened_kind, block_word, end_word}
 use Rattle.upon_types.specs.Tree.{inline_expr, include}
 use Rattle.upon_language_spec.specs.Cut.{Lexeme}
 use Rattle.upon_language_spec.specs.Tokens.{GoesKeyword, GoesName, GoesText}
-use Rattle.upon_language_spec.specs.Grammar.{BeginsBlock, IsWordTag, IsCondition, IsIfTag, IsElseIfTag, AreLoopVars, IsForTag, IsWithTag, AreGlobals, IsStatement}
-use Rattle.upon_language_spec.specs.Tags.{IsTag, an_inline, an_include, an_if, an_else_if, an_else, an_endif, a_for, an_endfor, a_with, an_endwith}
+use Rattle.upon_language_spec.specs.Grammar.{BeginsBlock, IsWordTag, IsCondition, IsElseIfTag, AreLoopVars, IsHead, IsOpeningTag, AreGlobals, IsStatement}
+use Rattle.upon_language_spec.specs.Tags.{IsTag, an_inline, an_include, an_opening, an_else_if, an_else, an_end}
+use Rattle.upon_language_spec.proofs.BlockKinds.{HeadPart, value_part, names_part, Head, last_part, part_then, head_of, IsHeadPart, AreHeadParts, parts_of_head, head_of_parts}
 use Rattle.upon_language_spec.proofs.Totality.ExpressionMore.{goes_more, by_more, same_more, expression_more}
 
 module _ (s : List ℕ) (more : List Lexeme) where
@@ -27,9 +29,6 @@ module _ (s : List ℕ) (more : List Lexeme) where
   condition_more true e ts us (mid, k, g) = (mid ++ more, keyword_more (codes "not") ts mid k, expression_more s more e mid us g)
   condition_more false e ts us g = expression_more s more e ts us g
 
-  pub if_tag_more : (negated : Bool) (e : Expression) (ts us : List Lexeme) → IsIfTag s negated e ts us → IsIfTag s negated e (ts ++ more) (us ++ more)
-  if_tag_more negated e ts us (mid, after, b, c, end) = (mid ++ more, after ++ more, begins_more (codes "if") ts mid b, condition_more negated e mid after c, by_more s more end)
-
   pub else_if_tag_more : (negated : Bool) (e : Expression) (ts us : List Lexeme) → IsElseIfTag s negated e ts us → IsElseIfTag s negated e (ts ++ more) (us ++ more)
   else_if_tag_more negated e ts us (start, mid, after, b, k, c, end) = (start ++ more, mid ++ more, after ++ more, begins_more (codes "else") ts start b, keyword_more (codes "if") start mid k, condition_more negated e mid after c, by_more s more end)
 
@@ -37,11 +36,19 @@ module _ (s : List ℕ) (more : List Lexeme) where
   names_more (item name) ts us g = name_more name ts us g
   names_more (key_value key value span) ts us (mid, after, k, comma, v, e) = (mid ++ more, after ++ more, name_more key ts mid k, by_more s more comma, name_more value after us v, e)
 
-  pub for_tag_more : (names : LoopVars) (e : Expression) (ts us : List Lexeme) → IsForTag s names e ts us → IsForTag s names e (ts ++ more) (us ++ more)
-  for_tag_more names e ts us (start, mid, after, last, b, n, k, g, end) = (start ++ more, mid ++ more, after ++ more, last ++ more, begins_more (codes "for") ts start b, names_more names start mid n, keyword_more (codes "in") mid after k, expression_more s more e after last g, by_more s more end)
+  part_more : (part : HeadPart) (ts us : List Lexeme) → IsHeadPart s part ts us → IsHeadPart s part (ts ++ more) (us ++ more)
+  part_more (value_part negated e) ts us g = condition_more negated e ts us g
+  part_more (names_part names) ts us g = names_more names ts us g
 
-  pub with_tag_more : (e : Expression) (name : Ident) (ts us : List Lexeme) → IsWithTag s e name ts us → IsWithTag s e name (ts ++ more) (us ++ more)
-  with_tag_more e name ts us (start, mid, after, last, b, g, k, n, end) = (start ++ more, mid ++ more, after ++ more, last ++ more, begins_more (codes "with") ts start b, expression_more s more e start mid g, keyword_more (codes "as") mid after k, name_more name after last n, by_more s more end)
+  parts_more : (head : Head) (ts us : List Lexeme) → AreHeadParts s head ts us → AreHeadParts s head (ts ++ more) (us ++ more)
+  parts_more (last_part part) ts us g = part_more part ts us g
+  parts_more (part_then part word head) ts us (mid, after, p, k, g) = (mid ++ more, after ++ more, part_more part ts mid p, keyword_more word mid after k, parts_more head after us g)
+
+  pub head_more : (tag : Opening) (e : Expression) (ts us : List Lexeme) → IsHead s tag e ts us → IsHead s tag e (ts ++ more) (us ++ more)
+  head_more tag e ts us g = head_of_parts s tag e (ts ++ more) (us ++ more) (parts_more (head_of tag e) ts us (parts_of_head s tag e ts us g))
+
+  pub opening_more : (tag : Opening) (e : Expression) (ts us : List Lexeme) → IsOpeningTag s tag e ts us → IsOpeningTag s tag e (ts ++ more) (us ++ more)
+  opening_more tag e ts us (mid, after, b, h, end) = (mid ++ more, after ++ more, begins_more (block_word (opened_kind tag)) ts mid b, head_more tag e mid after h, by_more s more end)
 
   pub context_more : (context : Option Expression) (ts us : List Lexeme) → AreGlobals s context ts us → AreGlobals s context (ts ++ more) (us ++ more)
   context_more None ts us e = same_more s more e
@@ -59,11 +66,7 @@ module _ (s : List ℕ) (more : List Lexeme) where
   pub tag_more : (ts us : List Lexeme) → IsTag s ts us → IsTag s (ts ++ more) (us ++ more)
   tag_more ts us (an_inline e span g) = an_inline e span (inline_more e span ts us g)
   tag_more ts us (an_include name context g) = an_include name context (include_more name context ts us g)
-  tag_more ts us (an_if negated e g) = an_if negated e (if_tag_more negated e ts us g)
+  tag_more ts us (an_opening tag e g) = an_opening tag e (opening_more tag e ts us g)
   tag_more ts us (an_else_if negated e g) = an_else_if negated e (else_if_tag_more negated e ts us g)
   tag_more ts us (an_else g) = an_else (word_tag_more (codes "else") ts us g)
-  tag_more ts us (an_endif g) = an_endif (word_tag_more (codes "endif") ts us g)
-  tag_more ts us (a_for names e g) = a_for names e (for_tag_more names e ts us g)
-  tag_more ts us (an_endfor g) = an_endfor (word_tag_more (codes "endfor") ts us g)
-  tag_more ts us (a_with e name g) = a_with e name (with_tag_more e name ts us g)
-  tag_more ts us (an_endwith g) = an_endwith (word_tag_more (codes "endwith") ts us g)
+  tag_more ts us (an_end kind g) = an_end kind (word_tag_more (end_word kind) ts us g)

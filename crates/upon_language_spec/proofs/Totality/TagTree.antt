@@ -9,48 +9,24 @@ use Rattle.upon_language_spec.specs.Literal.{IsInteger}
 use Rattle.upon_language_spec.specs.LaterFaults.{minus_before}
 use Rattle.upon_language_spec.specs.Tags.{IsTag, symbol_of, symbols_of, word_of}
 use Rattle.upon_language_spec.specs.Keys.{Key, keyword_of}
-use Rattle.upon_language_spec.specs.Parts.{Part, a_base, after_name, after_member, a_member, a_magnitude, filters, filter_name, after_filter, more_args, list_start, list_rest, map_start, map_colon, map_rest, call_start, call_rest, close_paren, tag_start, end_expr, end_block, block_word, condition, else_rest, loop_name, loop_rest, loop_value, in_word, as_word, as_name, include_name, include_rest, is_optional, goes, left_of, after, after_symbol, Path}
+use Rattle.upon_language_spec.specs.Parts.{Part, a_base, after_name, a_magnitude, list_start, call_start, tag_start, condition, is_optional, goes, left_of, after, after_symbol, Path}
 use Rattle.upon_language_spec.specs.InTags.{StandsFor, EachStands}
 use Rattle.upon_language_spec.proofs.Wanted.LeadingBegins.{known}
-use Rattle.upon_language_spec.proofs.Totality.ExpressionTree.{is_magnitude, first_is_magnitude, Value, NumberBehind, Means, Reads, reads_on}
+use Rattle.upon_language_spec.proofs.Totality.Means.{Means, Reads}
+use Rattle.upon_language_spec.proofs.Totality.ExpressionTree.{is_magnitude, first_is_magnitude, Value, NumberBehind, reads_on}
 
 -- after a minus its number is to come
 minus_goes_on : (p : Part) (k : Key) (first : List Part) → goes p Minus k ≡ Some first → (others : List Part) → first_is_magnitude (first ++ others) ≡ true
 minus_goes_on a_base k [] e others = absurd cc
 minus_goes_on a_base k (q ∷ first) e others = let same : a_magnitude ≡ q = cc in ap is_magnitude (sym same)
 minus_goes_on after_name k first e others = absurd cc
-minus_goes_on after_member k first e others = absurd cc
-minus_goes_on a_member k first e others = absurd cc
-minus_goes_on a_magnitude k first e others = absurd cc
-minus_goes_on filters k first e others = absurd cc
-minus_goes_on filter_name k first e others = absurd cc
-minus_goes_on after_filter k first e others = absurd cc
-minus_goes_on more_args k first e others = absurd cc
 minus_goes_on list_start k [] e others = absurd cc
 minus_goes_on list_start k (q ∷ first) e others = let same : a_magnitude ≡ q = cc in ap is_magnitude (sym same)
-minus_goes_on list_rest k first e others = absurd cc
-minus_goes_on map_start k first e others = absurd cc
-minus_goes_on map_colon k first e others = absurd cc
-minus_goes_on map_rest k first e others = absurd cc
 minus_goes_on call_start k [] e others = absurd cc
 minus_goes_on call_start k (q ∷ first) e others = let same : a_magnitude ≡ q = cc in ap is_magnitude (sym same)
-minus_goes_on call_rest k first e others = absurd cc
-minus_goes_on close_paren k first e others = absurd cc
-minus_goes_on tag_start k first e others = absurd cc
-minus_goes_on end_expr k first e others = absurd cc
-minus_goes_on end_block k first e others = absurd cc
-minus_goes_on block_word k first e others = absurd cc
 minus_goes_on condition k [] e others = absurd cc
 minus_goes_on condition k (q ∷ first) e others = let same : a_magnitude ≡ q = cc in ap is_magnitude (sym same)
-minus_goes_on else_rest k first e others = absurd cc
-minus_goes_on loop_name k first e others = absurd cc
-minus_goes_on loop_rest k first e others = absurd cc
-minus_goes_on loop_value k first e others = absurd cc
-minus_goes_on in_word k first e others = absurd cc
-minus_goes_on as_word k first e others = absurd cc
-minus_goes_on as_name k first e others = absurd cc
-minus_goes_on include_name k first e others = absurd cc
-minus_goes_on include_rest k first e others = absurd cc
+minus_goes_on p k first e others = absurd cc
 
 minus_by : (p : Part) (k : Key) (took : Option (List Part)) (optional : Bool) (ps next : List Part) → goes p Minus k ≡ took → left_of took optional ps (after ps Minus k) ≡ Some next → ((o : List Part) → after ps Minus k ≡ Some o → first_is_magnitude o ≡ true) → first_is_magnitude next ≡ true
 minus_by p k (Some first) optional ps next e h others = let same : first ++ ps ≡ next = cc in ap first_is_magnitude (sym same) ∙ minus_goes_on p k first e ps

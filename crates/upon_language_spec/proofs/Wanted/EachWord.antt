@@ -1,37 +1,31 @@
 -- One text that has each word of the language, a number and a string: what is read of tags can be read in it.
-use Rattle.std.proofs.Common.{◌≡◌, ℕ, pos, List, [], ◌∷◌, Bool, true, false, refl, codes}
-use Rattle.std.proofs.lemmas.Bool.{ltb-true}
+use Rattle.std.proofs.Common.{◌≡◌, ℕ, ◌+◌, pos, List, [], ◌∷◌, length, Bool, true, false, refl, sym, ◌∙◌, bytes_eq, if◌then◌else◌}
+use Rattle.std.specs.List.{list_all, flat_map}
+use Rattle.std.proofs.lemmas.Bool.{ltb-true, and_parts}
+use Rattle.std.proofs.lemmas.Slice.Eq.{bytes_eq-Decides}
 use Rattle.upon_types.specs.declared.types.Span.{Span}
 use Rattle.upon_types.specs.declared.types.token.Token.{Token}
-use Rattle.upon_types.specs.declared.types.token.Token.TheVariants.{Keyword, Ident as Identifier, Index, Number, String}
+use Rattle.upon_types.specs.declared.types.token.Token.TheVariants.{Keyword, Index, Number, String}
 use Rattle.upon_types.specs.Span.{slice}
-use Rattle.upon_types.specs.Path.{Ident}
 use Rattle.upon_language_spec.specs.Cut.{Lexeme}
 use Rattle.upon_language_spec.specs.Literal.{IsInteger, IsIndex, IsText}
-use Rattle.upon_language_spec.specs.Tokens.{Goes, GoesBy, GoesName, GoesText, GoesKeyword}
-use Rattle.upon_language_spec.specs.Keys.{Key, key_if, key_not, key_else, key_endif, key_for, key_in, key_endfor, key_with, key_as, key_endwith, key_include, key_true, key_false, no_key, key_word}
+use Rattle.upon_language_spec.specs.Words.{keywords}
+use Rattle.upon_language_spec.specs.Keys.{Key, no_key, keyword_of, key_word}
 
+-- the number, the string, and each word after a space
 abbrev pub words : List ℕ
-words = 48 ∷ 34 ∷ 34 ∷ codes " if not else endif for in endfor with as endwith include true false"
+words = 48 ∷ 34 ∷ 34 ∷ flat_map (λ w. 32 ∷ w) keywords
 
 abbrev pub span_at : ℕ → ℕ → Span
 span_at m n = record { m = m; n = n }
 
+-- where a word is, of those from an offset on
+abbrev place_from : ℕ → List (List ℕ) → List ℕ → Span
+place_from m [] word = span_at 0 0
+place_from m (w ∷ ws) word = if bytes_eq word w then span_at (m + 1) (m + 1 + length w) else place_from (m + 1 + length w) ws word
+
 abbrev pub key_place : Key → Span
-key_place key_if = span_at 4 6
-key_place key_not = span_at 7 10
-key_place key_else = span_at 11 15
-key_place key_endif = span_at 16 21
-key_place key_for = span_at 22 25
-key_place key_in = span_at 26 28
-key_place key_endfor = span_at 29 35
-key_place key_with = span_at 36 40
-key_place key_as = span_at 41 43
-key_place key_endwith = span_at 44 51
-key_place key_include = span_at 52 59
-key_place key_true = span_at 60 64
-key_place key_false = span_at 65 70
-key_place no_key = span_at 0 0
+key_place k = place_from 3 keywords (key_word k)
 
 abbrev pub zero_place : Span
 zero_place = span_at 0 1
@@ -50,20 +44,8 @@ abbrev pub witness : Token → Key → Lexeme
 witness t k = record { token = t; hyphen = false; span = its_place t k }
 
 pub has_word : (k : Key) → slice words (key_place k) ≡ key_word k
-has_word key_if = refl
-has_word key_not = refl
-has_word key_else = refl
-has_word key_endif = refl
-has_word key_for = refl
-has_word key_in = refl
-has_word key_endfor = refl
-has_word key_with = refl
-has_word key_as = refl
-has_word key_endwith = refl
-has_word key_include = refl
-has_word key_true = refl
-has_word key_false = refl
 has_word no_key = refl
+has_word k = refl
 
 pub zero_integer : (minus : Bool) → IsInteger minus (slice words zero_place) (pos 0)
 zero_integer true = record { digits = 0 ∷ []; are_digits = refl; value = refl; in_range = record { sfits = ltb-true _ _ refl } }
@@ -75,24 +57,31 @@ zero_index = record { digits = 0 ∷ []; are_digits = refl; value = refl; in_ran
 pub no_text : IsText words 1 3 []
 no_text = record { string = record { pieces = []; each = tt; occurs = refl; to = refl }; value = refl }
 
-abbrev pub a_word : Ident
-a_word = record { text = slice words (span_at 0 0); span = span_at 0 0 }
+-- ---- what a keyword spells
+abbrev pub is_key : Key → Bool
+is_key no_key = false
+is_key k = true
 
-abbrev pub a_string : Ident
-a_string = record { text = []; span = text_place }
+abbrev pub Known : List ℕ → Key → Type 0
+Known w k = is_key k ≡ true → key_word k ≡ w
 
-module _ (k : Key) (ls : List Lexeme) where
-  pub it_goes : (t : Token) → Goes t (its_place t k) (witness t k ∷ ls) ls
-  it_goes t = record { lexeme = witness t k; is = refl; of_token = refl; at = refl }
+pick : (w : List ℕ) (b : Bool) (k others : Key) → (b ≡ true → key_word k ≡ w) → Known w others → Known w (if b then k else others)
+pick w true k others f g = λ h. f refl
+pick w false k others f g = g
 
-  pub goes_by : (t : Token) → GoesBy t (witness t k ∷ ls) ls
-  goes_by t = (its_place t k, it_goes t)
+equal : (w v : List ℕ) → bytes_eq w v ≡ true → w ≡ v
+equal w v h = (bytes_eq-Decides w v).0 h
 
-  pub goes_name : GoesName words a_word (witness Identifier k ∷ ls) ls
-  goes_name = (it_goes Identifier, refl)
+-- the keyword that a word is, of some words
+abbrev key_among : List (List ℕ) → List ℕ → Key
+key_among [] w = no_key
+key_among (v ∷ vs) w = if bytes_eq w v then keyword_of v else key_among vs w
 
-  pub goes_text : GoesText words a_string (witness String k ∷ ls) ls
-  goes_text = (it_goes String, no_text)
+known_among : (w : List ℕ) (vs : List (List ℕ)) → list_all (λ v. bytes_eq (key_word (keyword_of v)) v) vs ≡ true → Known w (key_among vs w)
+known_among w [] h = λ k. absurd cc
+known_among w (v ∷ vs) h =
+    let both = and_parts (bytes_eq (key_word (keyword_of v)) v) (list_all (λ v. bytes_eq (key_word (keyword_of v)) v) vs) h in
+    pick w (bytes_eq w v) (keyword_of v) (key_among vs w) (λ e. equal (key_word (keyword_of v)) v both.0 ∙ sym (equal w v e)) (known_among w vs both.1)
 
-  pub goes_word : GoesKeyword words (key_word k) (witness Keyword k ∷ ls) ls
-  goes_word = (key_place k, (it_goes Keyword, has_word k))
+pub known : (w : List ℕ) → Known w (keyword_of w)
+known w = known_among w keywords refl

@@ -1,22 +1,23 @@
 -- What is read of a text as the grammar says leads from the parts that are to come to those that are left.
-use Rattle.std.proofs.Common.{◌≡◌, inl, inr, ℕ, List, [], ◌∷◌, ◌++◌, Bool, true, false, Some, refl, sym, ap, ◌∙◌, subst, codes, append_assoc}
+use Rattle.std.proofs.Common.{◌≡◌, inl, inr, ℕ, List, [], ◌∷◌, ◌++◌, Bool, true, false, Some, refl, sym, ap, ◌∙◌, subst, codes, append_assoc, ◌+◌}
 use Rattle.upon_types.specs.declared.types.Span.{Span}
 use Rattle.upon_types.specs.declared.types.token.Token.{Token}
-use Rattle.upon_types.specs.declared.types.token.Token.TheVariants.{OpenBracket, OpenBrace, OpenParen, Dot, QuestionDot, Comma, Colon, Plus, Minus, Keyword, Ident, Number, String}
+use Rattle.upon_types.specs.declared.types.token.Token.TheVariants.{OpenBracket, OpenBrace, OpenParen, Dot, QuestionDot, Comma, Colon, Plus, Minus, Keyword, Ident, Number, String, EndBlock}
 use Rattle.upon_types.specs.declared.types.ast.path.AccessOp.{AccessOp}
 use Rattle.upon_types.specs.declared.types.ast.path.AccessOp.TheVariants.{Direct, Optional}
 use Rattle.upon_types.specs.Val.{Val, none_val, bool_val, int_val, text_val, list_val, map_val}
-use Rattle.upon_types.specs.Path.{Access, by_index, by_key, Member}
-use Rattle.upon_types.specs.Expression.{var}
+use Rattle.upon_types.specs.Path.{Access, by_index, by_key, Member, LoopVars, item, key_value}
+use Rattle.upon_types.specs.Expression.{var, Expression, base, filtered, Base, literal, list, mapping, paren, call, Bases, no_bases, base_then, Items, no_items, item_then, Arguments, no_arguments, arguments}
 use Rattle.upon_language_spec.specs.Cut.{Lexeme}
-use Rattle.upon_language_spec.specs.Tokens.{Goes, GoesBy, GoesWord}
-use Rattle.upon_language_spec.specs.Expressions.{op_token, IsAccess, IsMember, AreMembers, IsLiteral, IsBase}
+use Rattle.upon_language_spec.specs.Tokens.{Goes, GoesBy, GoesWord, GoesKeyword}
+use Rattle.upon_language_spec.specs.Expressions.{op_token, IsAccess, IsMember, AreMembers, IsLiteral, IsBase, IsListBody, IsListTail, IsMapBody, IsMapTail, IsCallBody, IsArgs, IsMoreArgs, IsExpression, IsFilterArgs}
 use Rattle.upon_language_spec.specs.Tags.{Symbol, symbols_of, word_of}
 use Rattle.upon_language_spec.specs.Keys.{Key, key_true, key_false, keyword_of}
-use Rattle.upon_language_spec.specs.Parts.{Part, a_base, after_name, after_member, a_member, a_magnitude, filters, after_filter, more_args, list_start, list_rest, call_start, call_rest, condition, base_key, goes, after, after_symbol, Path}
+use Rattle.upon_language_spec.specs.Parts.{Part, a_base, after_name, after_member, a_member, a_magnitude, filters, after_filter, more_args, list_start, list_rest, call_start, call_rest, condition, base_key, goes, after, after_symbol, Path, filter_name, map_start, map_colon, map_rest, close_paren, end_block, loop_name, loop_rest, loop_value, in_word}
 use Rattle.upon_language_spec.specs.PartTails.{Tail, no_tail, member_tail, name_tail, tail_parts, Begun, TakesBase}
 use Rattle.upon_language_spec.specs.PartLeads.{Leads}
 use Rattle.upon_language_spec.specs.OpenParts.{Ending, base_ending, name_ending, args_ending, ending_parts}
+use Rattle.upon_language_spec.specs.Grammar.{IsCondition, AreLoopVars}
 
 -- where a Base may come, a path may begin with a member
 pub op_takes : (from ps : List Part) → TakesBase from ps → (op : AccessOp) (k : Key) → after from (op_token op) k ≡ Some (a_member ∷ ps)
@@ -217,3 +218,112 @@ module _ (s : List ℕ) where
   literal_leads none_val span ts us g = absurd g
   literal_leads (list_val vs) span ts us g = absurd g
   literal_leads (map_val es) span ts us g = absurd g
+
+-- after a comma a Base must come
+abbrev TakesComma : List Part → Type 0
+TakesComma ps = (k : Key) → after ps Comma k ≡ Some (a_base ∷ ps)
+
+-- the parts of a tail before others
+pub tail_joins : (tail : Tail) (ps : List Part) → tail_parts tail ++ (more_args ∷ ps) ≡ (tail_parts tail ++ more_args ∷ []) ++ ps
+tail_joins no_tail ps = refl
+tail_joins member_tail ps = refl
+tail_joins name_tail ps = refl
+
+module _ (s : List ℕ) where
+  abbrev ArgsLead : List Lexeme → List Lexeme → Type 0
+  ArgsLead ts us = (tail : Tail) × ((from ps : List Part) → TakesBase from ps → TakesComma ps → Leads s from ts (tail_parts tail ++ ps) us)
+
+  abbrev pub ExpressionLeads : List Lexeme → List Lexeme → Type 0
+  ExpressionLeads ts us = (end : Ending) × ((from ps : List Part) → TakesBase from (filters ∷ ps) → Leads s from ts (ending_parts end ++ (filters ∷ ps)) us)
+
+  mutual
+    pub base_leads : (b : Base) (ts us : List Lexeme) → IsBase s b ts us → BaseLeads s ts us
+    base_leads (var first others) ts us g = var_leads s first others ts us g
+    base_leads (literal v span) ts us g = literal_leads s v span ts us g
+    base_leads (list bs span) ts us (mid, (opening, opener, e), body) = (no_tail, λ from ps takes. leads_then s (leads_token s (opening, opener) (λ k. takes OpenBracket k)) (list_body bs span mid us body ps))
+    base_leads (mapping items span) ts us (mid, (opening, opener, e), body) = (no_tail, λ from ps takes. leads_then s (leads_token s (opening, opener) (λ k. takes OpenBrace k)) (map_body items span mid us body ps))
+    base_leads (paren inner span) ts us (mid, last, (opening, opener, e), g, (closing, close, f)) =
+        let (end, leads) = expression_leads inner mid last g in (
+          no_tail,
+          λ from ps takes. leads_then s (leads_token s (opening, opener) (λ k. takes OpenParen k))
+              (leads_then s (leads (a_base ∷ filters ∷ close_paren ∷ ps) (close_paren ∷ ps) (base_takes (filters ∷ close_paren ∷ ps))) (by_ending s end (filters ∷ close_paren ∷ ps) (closing, close) refl (λ k. refl))),
+        )
+    base_leads (call name args span) ts us (mid, last, named, e, opener, body) = (no_tail, λ from ps takes. leads_then s (leads_token s (name.span, named.0) (λ k. takes Ident k)) (leads_then s (leads_token s {a = after_name ∷ ps} opener (λ k. refl)) (call_body args span last us body ps)))
+
+    pub list_body : (bs : Bases) (span : Span) (ts us : List Lexeme) → IsListBody s bs span ts us → (ps : List Part) → Leads s (list_start ∷ ps) ts ps us
+    list_body no_bases span ts us (closing, close, e) ps = leads_token s (closing, close) (λ k. refl)
+    list_body (base_then b bs) span ts us (mid, g, more) ps =
+        let (tail, leads) = base_leads b ts mid g in
+        leads_then s (leads (list_start ∷ ps) (list_rest ∷ ps) (list_takes ps)) (list_tail bs span mid us more tail ps)
+
+    list_tail : (bs : Bases) (span : Span) (ts us : List Lexeme) → IsListTail s bs span ts us → (tail : Tail) (ps : List Part) → Leads s (tail_parts tail ++ (list_rest ∷ ps)) ts ps us
+    list_tail no_bases span ts us (inl (closing, close, e)) tail ps = by_tail s tail (list_rest ∷ ps) (closing, close) refl (λ k. refl)
+    list_tail no_bases span ts us (inr (mid, comma, (closing, close, e))) tail ps = leads_then s (by_tail s tail (list_rest ∷ ps) comma refl (λ k. refl)) (leads_token s {a = list_start ∷ ps} (closing, close) (λ k. refl))
+    list_tail (base_then b bs) span ts us (mid, last, comma, g, more) tail ps =
+        let (next, leads) = base_leads b mid last g in
+        leads_then s (by_tail s tail (list_rest ∷ ps) comma refl (λ k. refl)) (leads_then s (leads (list_start ∷ ps) (list_rest ∷ ps) (list_takes ps)) (list_tail bs span last us more next ps))
+
+    map_body : (items : Items) (span : Span) (ts us : List Lexeme) → IsMapBody s items span ts us → (ps : List Part) → Leads s (map_start ∷ ps) ts ps us
+    map_body no_items span ts us (closing, close, e) ps = leads_token s (closing, close) (λ k. refl)
+    map_body (item_then key b items) span ts us (mid, last, named, colon, (next, g, more)) ps =
+        let (tail, leads) = base_leads b last next g in
+        leads_then s (leads_token s (key.span, named.0) (λ k. refl)) (leads_then s (leads_token s {a = map_colon ∷ ps} colon (λ k. refl)) (leads_then s (leads (a_base ∷ map_rest ∷ ps) (map_rest ∷ ps) (base_takes (map_rest ∷ ps))) (map_tail items span next us more tail ps)))
+
+    map_tail : (items : Items) (span : Span) (ts us : List Lexeme) → IsMapTail s items span ts us → (tail : Tail) (ps : List Part) → Leads s (tail_parts tail ++ (map_rest ∷ ps)) ts ps us
+    map_tail no_items span ts us (inl (closing, close, e)) tail ps = by_tail s tail (map_rest ∷ ps) (closing, close) refl (λ k. refl)
+    map_tail no_items span ts us (inr (mid, comma, (closing, close, e))) tail ps = leads_then s (by_tail s tail (map_rest ∷ ps) comma refl (λ k. refl)) (leads_token s {a = map_start ∷ ps} (closing, close) (λ k. refl))
+    map_tail (item_then key b items) span ts us (start, mid, last, comma, named, colon, (next, g, more)) tail ps =
+        let (behind_it, leads) = base_leads b last next g in
+        leads_then s (by_tail s tail (map_rest ∷ ps) comma refl (λ k. refl)) (leads_then s (leads_token s {a = map_start ∷ ps} (key.span, named.0) (λ k. refl)) (leads_then s (leads_token s {a = map_colon ∷ ps} colon (λ k. refl))
+        (leads_then s (leads (a_base ∷ map_rest ∷ ps) (map_rest ∷ ps) (base_takes (map_rest ∷ ps))) (map_tail items span next us more behind_it ps))))
+
+    call_body : (args : Arguments) (span : Span) (ts us : List Lexeme) → IsCallBody s args span ts us → (ps : List Part) → Leads s (call_start ∷ ps) ts ps us
+    call_body no_arguments span ts us (closing, close, e) ps = leads_token s (closing, close) (λ k. refl)
+    call_body (arguments bs at) span ts us (mid, given, e, (closing, close, f)) ps =
+        let (tail, leads) = args_lead bs ts mid given in
+        leads_then s (leads (call_start ∷ ps) (call_rest ∷ ps) (call_takes ps) (λ k. refl)) (by_tail s tail (call_rest ∷ ps) (closing, close) refl (λ k. refl))
+
+    args_lead : (bs : Bases) (ts us : List Lexeme) → IsArgs s bs ts us → ArgsLead ts us
+    args_lead no_bases ts us g = absurd g
+    args_lead (base_then b bs) ts us (mid, g, more) =
+        let (tail, leads) = base_leads b ts mid g in
+        let (last, others) = more_args_lead bs mid us more tail in
+        (last, λ from ps takes comma. leads_then s (leads from ps takes) (others ps comma))
+
+    more_args_lead : (bs : Bases) (ts us : List Lexeme) → IsMoreArgs s bs ts us → (tail : Tail) → (last : Tail) × ((ps : List Part) → TakesComma ps → Leads s (tail_parts tail ++ ps) ts (tail_parts last ++ ps) us)
+    more_args_lead no_bases ts us e tail = (tail, λ ps comma. leads_nowhere s (tail_parts tail ++ ps) ts us e)
+    more_args_lead (base_then b bs) ts us (mid, after_it, comma, g, more) tail =
+        let (next, leads) = base_leads b mid after_it g in
+        let (last, others) = more_args_lead bs after_it us more next in
+        (last, λ ps takes. leads_then s (by_tail s tail ps comma refl takes) (leads_then s (leads (a_base ∷ ps) ps (base_takes ps)) (others ps takes)))
+
+    pub expression_leads : (e : Expression) (ts us : List Lexeme) → IsExpression s e ts us → ExpressionLeads ts us
+    expression_leads (base b) ts us g = let (tail, leads) = base_leads b ts us g in (base_ending tail, λ from ps takes. leads from (filters ∷ ps) takes)
+    expression_leads (filtered e name args span) ts us (mid, start, last, g, pipe, named, given, f) =
+        let (end, leads) = expression_leads e ts mid g in
+        let (ending, others) = filter_args args last us given in
+        (ending, λ from ps takes. leads_then s (leads from ps takes) (leads_then s (by_ending s end (filters ∷ ps) pipe refl (λ k. refl)) (leads_then s (leads_token s {a = filter_name ∷ filters ∷ ps} (name.span, named.0) (λ k. refl)) (others (filters ∷ ps)))))
+
+    filter_args : (args : Arguments) (ts us : List Lexeme) → IsFilterArgs s args ts us → (end : Ending) × ((ps : List Part) → Leads s (after_filter ∷ ps) ts (ending_parts end ++ ps) us)
+    filter_args no_arguments ts us e = (name_ending, λ ps. leads_nowhere s (after_filter ∷ ps) ts us e)
+    filter_args (arguments bs at) ts us (colon, mid, g, given, f) =
+        let (tail, leads) = args_lead bs mid us given in (
+          args_ending tail,
+          λ ps. let F : List Part → Type 0 = λ x. Leads s (after_filter ∷ ps) ts x us in
+              subst F (tail_joins tail ps) (leads_then s (leads_token s (colon, g) (λ k. refl)) (leads (a_base ∷ more_args ∷ ps) (more_args ∷ ps) (base_takes (more_args ∷ ps)) (λ k. refl))),
+        )
+
+  -- ---- what stands in tags
+  pub condition_leads : (negated : Bool) (e : Expression) (ts us : List Lexeme) → IsCondition s negated e ts us → (end : Ending) × ((ps : List Part) → Leads s (condition ∷ ps) ts (ending_parts end ++ (filters ∷ ps)) us)
+  condition_leads true e ts us (mid, (span, g), read) =
+      let (end, leads) = expression_leads e mid us read in
+      (end, λ ps. leads_then s (leads_key s (codes "not") g refl) (leads (a_base ∷ filters ∷ ps) ps (base_takes (filters ∷ ps))))
+  condition_leads false e ts us read = let (end, leads) = expression_leads e ts us read in (end, λ ps. leads (condition ∷ ps) ps (condition_takes ps))
+
+  pub names_lead : (names : LoopVars) (ts mid us : List Lexeme) → AreLoopVars s names ts mid → GoesKeyword s (codes "in") mid us → (ps : List Part) → Leads s (loop_name ∷ ps) ts (a_base ∷ filters ∷ ps) us
+  names_lead (item name) ts mid us named (span, g) ps = leads_then s (leads_token s (name.span, named.0) (λ k. refl)) (leads_key s {a = loop_rest ∷ ps} (codes "in") g refl)
+  names_lead (key_value key value at) ts mid us (start, last, first, comma, second, e) (span, g) ps =
+      leads_then s (leads_token s (key.span, first.0) (λ k. refl)) (leads_then s (leads_token s {a = loop_rest ∷ ps} comma (λ k. refl)) (leads_then s (leads_token s {a = loop_value ∷ ps} (value.span, second.0) (λ k. refl)) (leads_key s {a = in_word ∷ ps} (codes "in") g refl)))
+
+  pub if_leads : (negated : Bool) (e : Expression) (ts us vs : List Lexeme) → IsCondition s negated e ts us → GoesBy EndBlock us vs → Leads s (condition ∷ end_block ∷ []) ts [] vs
+  if_leads negated e ts us vs g end = let (ending, leads) = condition_leads negated e ts us g in leads_then s (leads (end_block ∷ [])) (by_ending s ending (filters ∷ end_block ∷ []) end refl (λ k. refl))

@@ -4,8 +4,8 @@ use Rattle.upon_types.specs.declared.types.token.Token.{Token}
 use Rattle.upon_types.specs.declared.types.token.Token.TheVariants.{EndExpr, EndBlock, OpenBracket, CloseBracket, OpenBrace, CloseBrace, OpenParen, CloseParen, Dot, QuestionDot, Pipe, Comma, Colon, Plus, Minus, Keyword, Ident, Index, Number, String}
 use Rattle.upon_language_spec.specs.InTags.{ends_a_tag}
 use Rattle.upon_language_spec.specs.Wanted.{Wanted, rank}
-use Rattle.upon_language_spec.specs.Keys.{Key, key_if, key_not, key_else, key_endif, key_for, key_in, key_endfor, key_with, key_as, key_endwith, key_include, key_true, key_false}
-use Rattle.upon_language_spec.specs.Parts.{Part, a_base, after_name, after_member, a_member, a_magnitude, filters, filter_name, after_filter, more_args, list_start, list_rest, map_start, map_colon, map_rest, call_start, call_rest, close_paren, tag_start, end_expr, end_block, block_word, condition, else_rest, loop_name, loop_rest, loop_value, in_word, as_word, as_name, include_name, include_rest, is_optional, base_key, base_goes, condition_key, goes, left_of, after, lesser, wanted_at}
+use Rattle.upon_language_spec.specs.Keys.{Key, key_if, key_not, key_in, key_with, key_as, key_true, key_false, no_key}
+use Rattle.upon_language_spec.specs.Parts.{Part, a_base, after_name, after_member, a_member, a_magnitude, filters, filter_name, after_filter, more_args, list_start, list_rest, map_start, map_colon, map_rest, call_start, call_rest, close_paren, tag_start, end_expr, end_block, block_word, condition, else_rest, loop_name, loop_rest, loop_value, in_word, as_word, as_name, include_name, include_rest, is_optional, base_key, base_goes, key_goes, condition_key, goes, left_of, after, lesser, wanted_at}
 use Rattle.upon_language_spec.specs.OpenParts.{is_nil, is_open}
 
 lesser_some : (w : Wanted) (o : Option Wanted) → (v : Wanted) × (lesser w o ≡ Some v)
@@ -14,46 +14,29 @@ lesser_some w (Some v) = (if nat_lt (rank w) (rank v) then w else v, refl)
 
 pub some_wanted : (ps : List Part) → is_open ps ≡ true → (w : Wanted) × (wanted_at ps ≡ Some w)
 some_wanted [] h = absurd cc
-some_wanted (a_base ∷ ps) h = (_, refl)
 some_wanted (after_name ∷ ps) h = some_wanted ps h
 some_wanted (after_member ∷ ps) h = some_wanted ps h
-some_wanted (a_member ∷ ps) h = (_, refl)
-some_wanted (a_magnitude ∷ ps) h = (_, refl)
 some_wanted (filters ∷ ps) h = some_wanted ps h
-some_wanted (filter_name ∷ ps) h = (_, refl)
 some_wanted (after_filter ∷ ps) h = lesser_some _ (wanted_at ps)
 some_wanted (more_args ∷ ps) h = some_wanted ps h
-some_wanted (list_start ∷ ps) h = (_, refl)
-some_wanted (list_rest ∷ ps) h = (_, refl)
-some_wanted (map_start ∷ ps) h = (_, refl)
-some_wanted (map_colon ∷ ps) h = (_, refl)
-some_wanted (map_rest ∷ ps) h = (_, refl)
-some_wanted (call_start ∷ ps) h = (_, refl)
-some_wanted (call_rest ∷ ps) h = (_, refl)
-some_wanted (close_paren ∷ ps) h = (_, refl)
 some_wanted (tag_start ∷ ps) h = absurd cc
-some_wanted (end_expr ∷ ps) h = (_, refl)
-some_wanted (end_block ∷ ps) h = (_, refl)
-some_wanted (block_word ∷ ps) h = (_, refl)
-some_wanted (condition ∷ ps) h = (_, refl)
-some_wanted (else_rest ∷ ps) h = (_, refl)
-some_wanted (loop_name ∷ ps) h = (_, refl)
-some_wanted (loop_rest ∷ ps) h = (_, refl)
-some_wanted (loop_value ∷ ps) h = (_, refl)
-some_wanted (in_word ∷ ps) h = (_, refl)
-some_wanted (as_word ∷ ps) h = (_, refl)
-some_wanted (as_name ∷ ps) h = (_, refl)
-some_wanted (include_name ∷ ps) h = (_, refl)
-some_wanted (include_rest ∷ ps) h = (_, refl)
+some_wanted (p ∷ ps) h = (_, refl)
+
+abbrev open_behind : List Part → Option (List Part) → Bool
+open_behind ps None = true
+open_behind ps (Some first) = is_open (first ++ ps)
 
 abbrev OpenBehind : List Part → Option (List Part) → Type 0
-OpenBehind ps None = Unit {0}
-OpenBehind ps (Some first) = is_open (first ++ ps) ≡ true
+OpenBehind ps took = open_behind ps took ≡ true
+
+nothing : (ps : List Part) → is_nil ps ≡ true → ps ≡ []
+nothing [] h = refl
+nothing (p ∷ ps) h = absurd cc
 
 key_on : (k : Key) (others ps : List Part) → is_open (others ++ ps) ≡ true → OpenBehind ps (base_key k others)
 key_on key_true others ps h = h
 key_on key_false others ps h = h
-key_on k others ps h = tt
+key_on k others ps h = refl
 
 base_on : (t : Token) (k : Key) (others ps : List Part) → is_open (others ++ ps) ≡ true → OpenBehind ps (base_goes t k others)
 base_on Keyword k others ps h = key_on k others ps h
@@ -67,91 +50,63 @@ base_on QuestionDot k others ps h = h
 base_on OpenBracket k others ps h = h
 base_on OpenBrace k others ps h = h
 base_on OpenParen k others ps h = h
-base_on t k others ps h = tt
+base_on t k others ps h = refl
 
 condition_on : (k : Key) (ps : List Part) → is_open ps ≡ true → OpenBehind ps (condition_key k)
 condition_on key_not ps h = h
 condition_on k ps h = key_on k (filters ∷ []) ps h
+
+block_on : (k : Key) → OpenBehind [] (key_goes block_word k)
+block_on no_key = refl
+block_on k = refl
 
 goes_on : (p : Part) (t : Token) (k : Key) (ps : List Part) → is_open (p ∷ ps) ≡ true → ends_a_tag t ≡ false → OpenBehind ps (goes p t k)
 goes_on a_base t k ps h e = base_on t k [] ps h
 goes_on after_name Dot k ps h e = h
 goes_on after_name QuestionDot k ps h e = h
 goes_on after_name OpenParen k ps h e = h
-goes_on after_name t k ps h e = tt
 goes_on after_member Dot k ps h e = h
 goes_on after_member QuestionDot k ps h e = h
-goes_on after_member t k ps h e = tt
 goes_on a_member Ident k ps h e = h
 goes_on a_member Index k ps h e = h
-goes_on a_member t k ps h e = tt
 goes_on a_magnitude Number k ps h e = h
-goes_on a_magnitude t k ps h e = tt
 goes_on filters Pipe k ps h e = h
-goes_on filters t k ps h e = tt
 goes_on filter_name Ident k ps h e = h
-goes_on filter_name t k ps h e = tt
 goes_on after_filter Colon k ps h e = h
-goes_on after_filter t k ps h e = tt
 goes_on more_args Comma k ps h e = h
-goes_on more_args t k ps h e = tt
 goes_on list_start CloseBracket k ps h e = h
 goes_on list_start t k ps h e = base_on t k (list_rest ∷ []) ps h
 goes_on list_rest CloseBracket k ps h e = h
 goes_on list_rest Comma k ps h e = h
-goes_on list_rest t k ps h e = tt
 goes_on map_start CloseBrace k ps h e = h
 goes_on map_start String k ps h e = h
-goes_on map_start t k ps h e = tt
 goes_on map_colon Colon k ps h e = h
-goes_on map_colon t k ps h e = tt
 goes_on map_rest CloseBrace k ps h e = h
 goes_on map_rest Comma k ps h e = h
-goes_on map_rest t k ps h e = tt
 goes_on call_start CloseParen k ps h e = h
 goes_on call_start t k ps h e = base_on t k (call_rest ∷ []) ps h
 goes_on call_rest CloseParen k ps h e = h
 goes_on call_rest Comma k ps h e = h
-goes_on call_rest t k ps h e = tt
 goes_on close_paren CloseParen k ps h e = h
-goes_on close_paren t k ps h e = tt
 goes_on tag_start t k ps h e = absurd cc
 goes_on end_expr EndExpr k ps h e = absurd cc
-goes_on end_expr t k ps h e = tt
 goes_on end_block EndBlock k ps h e = absurd cc
-goes_on end_block t k ps h e = tt
-goes_on block_word Keyword key_if ps h e = h
-goes_on block_word Keyword key_else ps h e = h
-goes_on block_word Keyword key_endif ps h e = h
-goes_on block_word Keyword key_for ps h e = h
-goes_on block_word Keyword key_endfor ps h e = h
-goes_on block_word Keyword key_with ps h e = h
-goes_on block_word Keyword key_endwith ps h e = h
-goes_on block_word Keyword key_include ps h e = h
-goes_on block_word t k ps h e = tt
+goes_on block_word Keyword k ps h e = let F : List Part → Type 0 = λ x. OpenBehind x (key_goes block_word k) in subst F (sym (nothing ps h)) (block_on k)
 goes_on condition Keyword k ps h e = condition_on k ps h
 goes_on condition t k ps h e = base_on t k (filters ∷ []) ps h
 goes_on else_rest EndBlock k ps h e = absurd cc
 goes_on else_rest Keyword key_if ps h e = h
-goes_on else_rest t k ps h e = tt
 goes_on loop_name Ident k ps h e = h
-goes_on loop_name t k ps h e = tt
 goes_on loop_rest Comma k ps h e = h
 goes_on loop_rest Keyword key_in ps h e = h
-goes_on loop_rest t k ps h e = tt
 goes_on loop_value Ident k ps h e = h
-goes_on loop_value t k ps h e = tt
 goes_on in_word Keyword key_in ps h e = h
-goes_on in_word t k ps h e = tt
 goes_on as_word Keyword key_as ps h e = h
-goes_on as_word t k ps h e = tt
 goes_on as_name Ident k ps h e = h
-goes_on as_name t k ps h e = tt
 goes_on include_name String k ps h e = h
-goes_on include_name t k ps h e = tt
 goes_on include_rest EndBlock k ps h e = absurd cc
 goes_on include_rest Keyword key_with ps h e = h
-goes_on include_rest t k ps h e = tt
+goes_on p t k ps h e = refl
 
 optional_open : (p : Part) (ps : List Part) → is_optional p ≡ true → is_open (p ∷ ps) ≡ true → is_open ps ≡ true
 optional_open after_name ps o h = h
@@ -175,10 +130,6 @@ open_on [] next t k h n x = absurd cc
 open_on (p ∷ ps) next t k h n x = open_by p t k (goes p t k) (is_optional p) ps next refl refl h n x (λ o y. open_on ps next t k o n y)
 
 -- ---- a tag's end leaves nothing
-nothing : (ps : List Part) → is_nil ps ≡ true → ps ≡ []
-nothing [] h = refl
-nothing (p ∷ ps) h = absurd cc
-
 abbrev EndBehind : List Part → Option (List Part) → Type 0
 EndBehind ps None = Unit {0}
 EndBehind ps (Some first) = first ++ ps ≡ []

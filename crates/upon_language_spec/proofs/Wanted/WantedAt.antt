@@ -4,7 +4,7 @@ use Rattle.std.proofs.lemmas.Bool.{ltb-true, ltb-false}
 use Rattle.upon_language_spec.specs.Tags.{Symbol, BeginsTag}
 use Rattle.upon_language_spec.specs.Wanted.{Wanted, an_expression, a_string, a_name_or_index, an_end_expression, an_end_block, a_close_paren, a_close_bracket, a_close_brace, an_in, an_as, a_block_word, a_name, a_number, a_colon, rank, shows, IsWanted}
 use Rattle.upon_language_spec.specs.Keys.{keyword_of}
-use Rattle.upon_language_spec.specs.Parts.{Part, a_base, after_name, after_member, a_member, a_magnitude, filters, filter_name, after_filter, more_args, list_start, list_rest, map_start, map_colon, map_rest, call_start, call_rest, close_paren, tag_start, end_expr, end_block, block_word, condition, else_rest, loop_name, loop_rest, loop_value, in_word, as_word, as_name, include_name, include_rest, is_optional, goes, left_of, after_symbol, Path, own, least_of, wanted_at}
+use Rattle.upon_language_spec.specs.Parts.{Part, a_base, tag_start, is_optional, goes, left_of, after_symbol, Path, own, least_of, wanted_at}
 use Rattle.upon_language_spec.proofs.Wanted.LeadingBegins.{IsPlain, ArePlain, begins_tag}
 use Rattle.upon_language_spec.proofs.Wanted.TagsLead.{leads_on}
 
@@ -46,69 +46,11 @@ word_of_each f h a_colon = h.13
 
 own_passed : (p : Part) → own_passes p (own p) ≡ true
 own_passed a_base = refl
-own_passed after_name = refl
-own_passed after_member = refl
-own_passed a_member = refl
-own_passed a_magnitude = refl
-own_passed filters = refl
-own_passed filter_name = refl
-own_passed after_filter = refl
-own_passed more_args = refl
-own_passed list_start = refl
-own_passed list_rest = refl
-own_passed map_start = refl
-own_passed map_colon = refl
-own_passed map_rest = refl
-own_passed call_start = refl
-own_passed call_rest = refl
-own_passed close_paren = refl
-own_passed tag_start = refl
-own_passed end_expr = refl
-own_passed end_block = refl
-own_passed block_word = refl
-own_passed condition = refl
-own_passed else_rest = refl
-own_passed loop_name = refl
-own_passed loop_rest = refl
-own_passed loop_value = refl
-own_passed in_word = refl
-own_passed as_word = refl
-own_passed as_name = refl
-own_passed include_name = refl
-own_passed include_rest = refl
+own_passed p = refl
 
 table : (p : Part) → EachWord (λ v. passes p v (own p))
 table a_base = (refl, refl, refl, refl, refl, refl, refl, refl, refl, refl, refl, refl, refl, refl)
-table after_name = (refl, refl, refl, refl, refl, refl, refl, refl, refl, refl, refl, refl, refl, refl)
-table after_member = (refl, refl, refl, refl, refl, refl, refl, refl, refl, refl, refl, refl, refl, refl)
-table a_member = (refl, refl, refl, refl, refl, refl, refl, refl, refl, refl, refl, refl, refl, refl)
-table a_magnitude = (refl, refl, refl, refl, refl, refl, refl, refl, refl, refl, refl, refl, refl, refl)
-table filters = (refl, refl, refl, refl, refl, refl, refl, refl, refl, refl, refl, refl, refl, refl)
-table filter_name = (refl, refl, refl, refl, refl, refl, refl, refl, refl, refl, refl, refl, refl, refl)
-table after_filter = (refl, refl, refl, refl, refl, refl, refl, refl, refl, refl, refl, refl, refl, refl)
-table more_args = (refl, refl, refl, refl, refl, refl, refl, refl, refl, refl, refl, refl, refl, refl)
-table list_start = (refl, refl, refl, refl, refl, refl, refl, refl, refl, refl, refl, refl, refl, refl)
-table list_rest = (refl, refl, refl, refl, refl, refl, refl, refl, refl, refl, refl, refl, refl, refl)
-table map_start = (refl, refl, refl, refl, refl, refl, refl, refl, refl, refl, refl, refl, refl, refl)
-table map_colon = (refl, refl, refl, refl, refl, refl, refl, refl, refl, refl, refl, refl, refl, refl)
-table map_rest = (refl, refl, refl, refl, refl, refl, refl, refl, refl, refl, refl, refl, refl, refl)
-table call_start = (refl, refl, refl, refl, refl, refl, refl, refl, refl, refl, refl, refl, refl, refl)
-table call_rest = (refl, refl, refl, refl, refl, refl, refl, refl, refl, refl, refl, refl, refl, refl)
-table close_paren = (refl, refl, refl, refl, refl, refl, refl, refl, refl, refl, refl, refl, refl, refl)
-table tag_start = (refl, refl, refl, refl, refl, refl, refl, refl, refl, refl, refl, refl, refl, refl)
-table end_expr = (refl, refl, refl, refl, refl, refl, refl, refl, refl, refl, refl, refl, refl, refl)
-table end_block = (refl, refl, refl, refl, refl, refl, refl, refl, refl, refl, refl, refl, refl, refl)
-table block_word = (refl, refl, refl, refl, refl, refl, refl, refl, refl, refl, refl, refl, refl, refl)
-table condition = (refl, refl, refl, refl, refl, refl, refl, refl, refl, refl, refl, refl, refl, refl)
-table else_rest = (refl, refl, refl, refl, refl, refl, refl, refl, refl, refl, refl, refl, refl, refl)
-table loop_name = (refl, refl, refl, refl, refl, refl, refl, refl, refl, refl, refl, refl, refl, refl)
-table loop_rest = (refl, refl, refl, refl, refl, refl, refl, refl, refl, refl, refl, refl, refl, refl)
-table loop_value = (refl, refl, refl, refl, refl, refl, refl, refl, refl, refl, refl, refl, refl, refl)
-table in_word = (refl, refl, refl, refl, refl, refl, refl, refl, refl, refl, refl, refl, refl, refl)
-table as_word = (refl, refl, refl, refl, refl, refl, refl, refl, refl, refl, refl, refl, refl, refl)
-table as_name = (refl, refl, refl, refl, refl, refl, refl, refl, refl, refl, refl, refl, refl, refl)
-table include_name = (refl, refl, refl, refl, refl, refl, refl, refl, refl, refl, refl, refl, refl, refl)
-table include_rest = (refl, refl, refl, refl, refl, refl, refl, refl, refl, refl, refl, refl, refl, refl)
+table p = (refl, refl, refl, refl, refl, refl, refl, refl, refl, refl, refl, refl, refl, refl)
 
 passed : (p : Part) (v : Wanted) → passes p v (own p) ≡ true
 passed p v = word_of_each (λ w. passes p w (own p)) (table p) v

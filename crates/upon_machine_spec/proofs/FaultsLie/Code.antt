@@ -1,23 +1,20 @@
 -- What holds of each span in a tree holds of each span in its program.
-use Rattle.std.proofs.Common.{ℕ, ◌+◌, List, [], ◌∷◌, ◌++◌, length, Some, None, Bool, true, false}
+use Rattle.std.proofs.Common.{ℕ, ◌+◌, List, [], ◌∷◌, ◌++◌, length, Some, None}
 use Rattle.upon_types.specs.declared.types.Span.{Span}
-use Rattle.upon_types.specs.Expression.{Expression, base, filtered, Base, var, literal, list, mapping, paren, call, Bases, no_bases, base_then, Items, no_items, item_then, Arguments, no_arguments, arguments}
-use Rattle.upon_types.specs.Tree.{Statement, raw, inline_expr, include, if_else, for_loop, with, Statements, no_statements, statement_then, Else, no_else, otherwise}
+use Rattle.upon_types.specs.Expression.{Expression, base, filtered, Base, var, literal, list, mapping, paren, call, Bases, no_bases, base_then, Items, no_items, item_then, Arguments, no_arguments, arguments, expression_span}
+use Rattle.upon_types.specs.Tree.{Statement, raw, inline_expr, include, block, Statements, no_statements, statement_then, Else, no_else, otherwise}
 use Rattle.upon_types.specs.TreeSpans.{ExpressionSpans, BaseSpans, BasesSpans, ItemsSpans, ArgumentsSpans, StatementSpans, StatementsSpans, ElseSpans}
 use Rattle.upon_types.proofs.ExpressionSpans.{Covers, expression_place}
-use Rattle.upon_machine_spec.specs.Code.{expression_code, base_code, bases_code, arguments_code, list_code, map_code, emission_code, base_emission_code, jump_unless, else_start, else_part, turn, statement_code, statements_code, else_code, program_of}
+use Rattle.upon_machine_spec.specs.Code.{expression_code, base_code, bases_code, arguments_code, list_code, map_code, emission_code, base_emission_code, body_start, statement_code, statements_code, else_code, program_of}
 use Rattle.upon_machine_spec.specs.Instr.{Instr, emit}
-use Rattle.upon_machine_spec.specs.Spans.{InstrSpans, CodeSpans}
+use Rattle.upon_machine_spec.specs.Spans.{CodeSpans}
+use Rattle.upon_machine_spec.proofs.BlockCode.{spans_append as joined, past_body, block_spans}
 
 module _ (P : Span → Type 0) where
-  joined : (a b : List Instr) → CodeSpans P a → CodeSpans P b → CodeSpans P (a ++ b)
-  joined [] b h k = k
-  joined (i ∷ a) b h k = (h.0, joined a b h.1 k)
-
   mutual
     expression_spans : (e : Expression) → ExpressionSpans P e → CodeSpans P (expression_code e)
     expression_spans (base b) h = base_spans b h
-    expression_spans (filtered receiver name args span) h = joined (expression_code receiver) _ (expression_spans receiver h.0) (joined (arguments_code args) _ (arguments_spans args h.2) ((h.1, h.3), tt))
+    expression_spans (filtered receiver name args span) h = joined P (expression_code receiver) _ (expression_spans receiver h.0) (joined P (arguments_code args) _ (arguments_spans args h.2) ((h.1, h.3), tt))
 
     base_spans : (b : Base) → BaseSpans P b → CodeSpans P (base_code b)
     base_spans (var first rest) h = (h, tt)
@@ -25,11 +22,11 @@ module _ (P : Span → Type 0) where
     base_spans (list bases span) h = (h.1, list_spans bases h.0)
     base_spans (mapping items span) h = (h.1, map_spans items h.0)
     base_spans (paren e span) h = expression_spans e h.0
-    base_spans (call name args span) h = joined (arguments_code args) _ (arguments_spans args h.1) ((h.0, h.2), tt)
+    base_spans (call name args span) h = joined P (arguments_code args) _ (arguments_spans args h.1) ((h.0, h.2), tt)
 
     bases_spans : (bs : Bases) → BasesSpans P bs → CodeSpans P (bases_code bs)
     bases_spans no_bases h = tt
-    bases_spans (base_then b bs) h = joined (base_code b) _ (base_spans b h.0) (bases_spans bs h.1)
+    bases_spans (base_then b bs) h = joined P (base_code b) _ (base_spans b h.0) (bases_spans bs h.1)
 
     arguments_spans : (args : Arguments) → ArgumentsSpans P args → CodeSpans P (arguments_code args)
     arguments_spans no_arguments h = tt
@@ -37,35 +34,27 @@ module _ (P : Span → Type 0) where
 
     list_spans : (bs : Bases) → BasesSpans P bs → CodeSpans P (list_code bs)
     list_spans no_bases h = tt
-    list_spans (base_then b bs) h = joined (base_code b) _ (base_spans b h.0) (tt, list_spans bs h.1)
+    list_spans (base_then b bs) h = joined P (base_code b) _ (base_spans b h.0) (tt, list_spans bs h.1)
 
     map_spans : (items : Items) → ItemsSpans P items → CodeSpans P (map_code items)
     map_spans no_items h = tt
-    map_spans (item_then key b items) h = joined (base_code b) _ (base_spans b h.1) (h.0, map_spans items h.2)
+    map_spans (item_then key b items) h = joined P (base_code b) _ (base_spans b h.1) (h.0, map_spans items h.2)
 
   plain_spans : (b : Base) → BaseSpans P b → CodeSpans P (base_code b ++ (emit ∷ []))
-  plain_spans b h = joined (base_code b) _ (base_spans b h) (tt, tt)
+  plain_spans b h = joined P (base_code b) _ (base_spans b h) (tt, tt)
 
   mutual
     emission_spans : (e : Expression) → ExpressionSpans P e → CodeSpans P (emission_code e)
     emission_spans (base b) h = base_emission_spans b h
-    emission_spans (filtered receiver name args span) h = joined (expression_code receiver) _ (expression_spans receiver h.0) (joined (arguments_code args) _ (arguments_spans args h.2) ((h.1, h.3), tt))
+    emission_spans (filtered receiver name args span) h = joined P (expression_code receiver) _ (expression_spans receiver h.0) (joined P (arguments_code args) _ (arguments_spans args h.2) ((h.1, h.3), tt))
 
     base_emission_spans : (b : Base) → BaseSpans P b → CodeSpans P (base_emission_code b)
     base_emission_spans (paren e span) h = emission_spans e h.0
-    base_emission_spans (call name args span) h = joined (arguments_code args) _ (arguments_spans args h.1) ((h.0, h.2), tt)
+    base_emission_spans (call name args span) h = joined P (arguments_code args) _ (arguments_spans args h.1) ((h.0, h.2), tt)
     base_emission_spans (var first rest) h = plain_spans (var first rest) h
     base_emission_spans (literal v span) h = plain_spans (literal v span) h
     base_emission_spans (list bases span) h = plain_spans (list bases span) h
     base_emission_spans (mapping items span) h = plain_spans (mapping items span) h
-
-  jump_spans : (negated : Bool) (n : ℕ) → InstrSpans P (jump_unless negated n)
-  jump_spans true n = tt
-  jump_spans false n = tt
-
-  turn_spans : (branch : Else) (other past : ℕ) → InstrSpans P (turn branch other past)
-  turn_spans no_else other past = tt
-  turn_spans (otherwise body) other past = tt
 
   module _ (covers : Covers P) where
     mutual
@@ -73,36 +62,20 @@ module _ (P : Span → Type 0) where
       statement_spans at (raw span) h = (h, tt)
       statement_spans at (inline_expr e span) h = emission_spans e h.0
       statement_spans at (include word None) h = (h.0, tt)
-      statement_spans at (include word (Some e)) h = joined (expression_code e) _ (expression_spans e h.1) (h.0, tt)
-      statement_spans at (if_else negated e body branch) h =
+      statement_spans at (include word (Some e)) h = joined P (expression_code e) _ (expression_spans e h.1) (h.0, tt)
+      statement_spans at (block opening e body branch) h =
           let start : ℕ = at + length (expression_code e) in
-          let inner : List Instr = statements_code (start + 1) body in
-          let other : List Instr = else_code (else_start branch (start + 1 + length inner)) branch in
-          joined (expression_code e) _ (expression_spans e h.0)
-          (jump_spans negated (else_start branch (start + 1 + length inner)), joined inner _ (statements_spans (start + 1) body h.1) (else_spans branch (start + 1 + length inner) h.2))
-      statement_spans at (for_loop names e body branch) h =
-          let start : ℕ = at + length (expression_code e) in
-          let inner : List Instr = statements_code (start + 1 + 1) body in
-          let after : ℕ = start + 1 + 1 + length inner + 1 in
-          joined (expression_code e) _ (expression_spans e h.1)
-          ((h.0, expression_place P covers e h.1), (turn_spans branch after (after + length (else_code after branch)), joined inner _ (statements_spans (start + 1 + 1) body h.2) (tt, branch_spans branch after h.3)))
-      statement_spans at (with e word body) h =
-          let start : ℕ = at + length (expression_code e) in
-          joined (expression_code e) _ (expression_spans e h.0) (h.1, joined (statements_code (start + 1) body) _ (statements_spans (start + 1) body h.2) (tt, tt))
+          let inner : List Instr = statements_code (body_start opening start) body in
+          let to : ℕ = past_body opening branch start inner in
+          joined P (expression_code e) _ (expression_spans e h.1) (block_spans P opening branch (expression_span e) start inner (else_code to branch) h.0 (expression_place P covers e h.1) (statements_spans (body_start opening start) body h.2) (branch_spans branch to h.3))
 
       statements_spans : (at : ℕ) (ts : Statements) → StatementsSpans P ts → CodeSpans P (statements_code at ts)
       statements_spans at no_statements h = tt
-      statements_spans at (statement_then t ts) h = joined (statement_code at t) _ (statement_spans at t h.0) (statements_spans (at + length (statement_code at t)) ts h.1)
+      statements_spans at (statement_then t ts) h = joined P (statement_code at t) _ (statement_spans at t h.0) (statements_spans (at + length (statement_code at t)) ts h.1)
 
-      -- the other branch of a loop
       branch_spans : (branch : Else) (at : ℕ) → ElseSpans P branch → CodeSpans P (else_code at branch)
       branch_spans no_else at h = tt
       branch_spans (otherwise body) at h = statements_spans at body h
-
-      -- the other case, where the body ends at this span
-      else_spans : (branch : Else) (at : ℕ) → ElseSpans P branch → CodeSpans P (else_part branch at (else_code (else_start branch at) branch))
-      else_spans no_else at h = tt
-      else_spans (otherwise body) at h = (tt, statements_spans (at + 1) body h)
 
     pub program_spans : (tree : Statements) → StatementsSpans P tree → CodeSpans P (program_of tree)
     program_spans tree h = statements_spans 0 tree h

@@ -1,5 +1,5 @@
 -- A step keeps that spans lie in the texts of their templates, and its fault lies in the text of the template that runs.
-use Rattle.std.proofs.Common.{◌≡◌, ℕ, zero, suc, List, [], ◌∷◌, Option, Some, None, Bool, true, false, refl, sym, subst, ◌+◌}
+use Rattle.std.proofs.Common.{◌≡◌, ℕ, zero, suc, List, [], ◌∷◌, Option, Some, None, Bool, true, false, inl, inr, refl, sym, subst, ◌+◌}
 use Rattle.std.specs.Prelude.{slice_get}
 use Rattle.upon_types.specs.declared.types.Span.{Span}
 use Rattle.upon_types.specs.Path.{Ident, path_span}
@@ -8,9 +8,8 @@ use Rattle.upon_types.specs.TreeSpans.{TreeLiesIn}
 use Rattle.upon_types.specs.Val.{Val, none_val, bool_val, int_val, text_val, list_val, map_val}
 use Rattle.upon_types.proofs.CombinedSpans.{combined_lies_in}
 use Rattle.upon_types.proofs.ExpressionSpans.{path_place}
-use Rattle.upon_lookup.specs.Environment.{Binding, Root}
+use Rattle.upon_lookup.specs.Environment.{Root}
 use Rattle.upon_lookup.specs.Finding.{Finding, found, at_fault}
-use Rattle.upon_lookup.specs.Items.{items_of}
 use Rattle.upon_lookup.specs.Lookup.{lookup}
 use Rattle.upon_lookup.specs.Source.{SourceAnswer, says, refuses}
 use Rattle.upon_meaning_spec.specs.Emission.{format_outcome, callable_outcome}
@@ -21,12 +20,12 @@ use Rattle.upon_meaning_spec.specs.RenderFaults.{EachSpan, TemplatesLie}
 use Rattle.upon_meaning_spec.proofs.FaultsStated.Emissions.{EndFine, default_fine, emitted_fine}
 use Rattle.upon_meaning_spec.proofs.FaultsStated.Expressions.{called_fine}
 use Rattle.upon_meaning_spec.proofs.FaultsStated.Lookups.{Any, FoundFine, lookup_fine}
-use Rattle.upon_meaning_spec.proofs.FaultsStated.Templates.{items_fine}
-use Rattle.upon_machine_spec.specs.Instr.{Instr, jump, jump_if_true, jump_if_false, emit, emit_raw, emit_with, loop_start, loop_next, loop_next_else, with_start, with_end, include, include_with, expr_start_var, expr_start_literal, expr_start_list, expr_start_map, expr_list_push, expr_map_insert, apply}
+use Rattle.upon_machine_spec.specs.Instr.{Instr, emit, emit_raw, emit_with, include, include_with, expr_start_var, expr_start_literal, expr_start_list, expr_start_map, expr_list_push, expr_map_insert, apply}
 use Rattle.upon_machine_spec.specs.Operands.{taken_before, taken}
 use Rattle.upon_machine_spec.specs.Spans.{InstrSpans, CodeSpans, CallersLie, StateLies, NextLies}
 use Rattle.upon_machine_spec.specs.State.{Frame, scope, variable, loop, environment_of, Caller, State, at_start}
-use Rattle.upon_machine_spec.specs.Step.{Next, moved, ends_with, pushes, with_top, with_taken, with_none, adds_item, adds_entry, starts, next_turn, next_turn_or_else, drops_variable, enters_at, enters, returns, leaves, act, step}
+use Rattle.upon_machine_spec.specs.Step.{Next, moved, ends_with, pushes, with_top, with_taken, with_none, adds_item, adds_entry, enters_at, enters, returns, leaves, act, step}
+use Rattle.upon_machine_spec.proofs.BlockCode.{IsLeft, own_step, own_fault_lies}
 use Rattle.upon_machine_spec.proofs.FaultsLie.Code.{program_spans}
 
 -- operands that are taken, and those below them
@@ -38,6 +37,11 @@ taken_spans : (P : Span → Type 0) (n : ℕ) (os ops : List Operand) → EachSp
 taken_spans P zero os ops h k = (h, k)
 taken_spans P (suc n) os [] h k = tt
 taken_spans P (suc n) os (o ∷ ops) h k = taken_spans P n (o ∷ os) ops (k.0, h) k.1
+
+-- operands of which one at most was taken
+left_lie : (P : Span → Type 0) (all ops : List Operand) → IsLeft all ops → EachSpan P all → EachSpan P ops
+left_lie P all ops (inl e) h = subst (EachSpan P) e h
+left_lie P all ops (inr top) h = (subst (EachSpan P) top.1 h).1
 
 -- the instruction at an offset
 abbrev Instruction : (Span → Type 0) → Option Instr → Type 0
@@ -98,32 +102,6 @@ module _ {V T : Type 0} (calls : Calls V) (resolve : Resolver T) where
     entry_lies (text_val t) key v at ops k os = tt
     entry_lies (list_val vs) key v at ops k os = tt
 
-    starts_lie : (x : Finding (List (List Binding))) (ops : List Operand) → FoundFine calls resolve P Any x → EachSpan P ops → NextLies source (starts x s ops)
-    starts_lie (found items) ops x k = on_with ops _ (s.position + 1) _ k
-    starts_lie (at_fault f) ops x k = record { span = x.span; placed = x.placed; lies = x.lies }
-
-    turn_lies : (n : ℕ) (fs : List Frame) → NextLies source (next_turn n fs s)
-    turn_lies n (loop count next bs [] ∷ fs) = on_with s.operands fs n _ h.operands
-    turn_lies n (loop count next bs (more ∷ items) ∷ fs) = on_with s.operands _ (s.position + 1) _ h.operands
-    turn_lies n (scope v ∷ fs) = tt
-    turn_lies n (variable word v ∷ fs) = tt
-    turn_lies n [] = tt
-
-    turn_or_else_lies : (other past : ℕ) (fs : List Frame) → NextLies source (next_turn_or_else other past fs s)
-    turn_or_else_lies other past (loop zero next bs [] ∷ fs) = on_with s.operands fs other _ h.operands
-    turn_or_else_lies other past (loop (suc count) next bs [] ∷ fs) = on_with s.operands fs past _ h.operands
-    turn_or_else_lies other past (loop zero next bs (more ∷ items) ∷ fs) = on_with s.operands _ (s.position + 1) _ h.operands
-    turn_or_else_lies other past (loop (suc count) next bs (more ∷ items) ∷ fs) = on_with s.operands _ (s.position + 1) _ h.operands
-    turn_or_else_lies other past (scope v ∷ fs) = tt
-    turn_or_else_lies other past (variable word v ∷ fs) = tt
-    turn_or_else_lies other past [] = tt
-
-    variable_lies : (fs : List Frame) → NextLies source (drops_variable fs s)
-    variable_lies (variable word v ∷ fs) = on_with s.operands fs (s.position + 1) _ h.operands
-    variable_lies (scope v ∷ fs) = tt
-    variable_lies (loop count next bs items ∷ fs) = tt
-    variable_lies [] = tt
-
     enters_at_lies : (left : ℕ) (t : Template) (word : Ident) (scoped : Bool) (fs : List Frame) (templates : T) → TreeLiesIn t.source t.tree → NextLies source (enters_at left t word scoped s fs templates)
     enters_at_lies zero t word scoped fs templates k = tt
     enters_at_lies (suc left) t word scoped fs templates k = record { active = program_spans (LiesIn t.source) (combined_lies_in t.source) t.tree k; callers = (h.active, h.callers); operands = tt }
@@ -149,19 +127,11 @@ module _ {V T : Type 0} (calls : Calls V) (resolve : Resolver T) where
 
     act_lies : (root : Root) → TemplatesLie resolve → (i : Option Instr) → Instruction P i → NextLies source (act calls resolve root i s)
     act_lies root others None k = leaves_lie s.callers h.callers
-    act_lies root others (Some (jump n)) k = on_with s.operands s.frames n _ h.operands
-    act_lies root others (Some (jump_if_true n)) k = top_lies s.operands _ h.operands (λ o ops at below. on_with ops s.frames _ _ below)
-    act_lies root others (Some (jump_if_false n)) k = top_lies s.operands _ h.operands (λ o ops at below. on_with ops s.frames _ _ below)
     act_lies root others (Some emit) k = top_lies s.operands _ h.operands (λ o ops at below. ends_lie _ (format_outcome (calls.default_formatter o.value) o.span).end ops (default_fine calls resolve P o.value o.span at) below)
     act_lies root others (Some (emit_raw span)) k = on_with s.operands s.frames (s.position + 1) _ h.operands
     act_lies root others (Some (emit_with name n span)) k =
         taken_lie (taken n s.operands) _ (taken_spans P n [] s.operands tt h.operands)
         (λ os ops at below. ends_lie _ (callable_outcome calls.default_formatter name span os (calls.callables name.text)).end ops (emitted_fine calls resolve P name span os at k.0 k.1) below)
-    act_lies root others (Some (loop_start names span)) k = top_lies s.operands _ h.operands (λ o ops at below. starts_lie (items_of names o.value span) ops (items_fine calls resolve P names o.value span k.0 k.1) below)
-    act_lies root others (Some (loop_next n)) k = turn_lies n s.frames
-    act_lies root others (Some (loop_next_else other past)) k = turn_or_else_lies other past s.frames
-    act_lies root others (Some (with_start word)) k = top_lies s.operands _ h.operands (λ o ops at below. on_with ops _ (s.position + 1) _ below)
-    act_lies root others (Some with_end) k = variable_lies s.frames
     act_lies root others (Some (include word)) k =
         let r = resolve s.asked.templates word.text in
         none_lies s.operands _ (enters_lie r.answer word false s.frames r.next (λ t e. others s.asked.templates word.text t e) k)
@@ -179,6 +149,7 @@ module _ {V T : Type 0} (calls : Calls V) (resolve : Resolver T) where
     act_lies root others (Some (apply name n span)) k =
         taken_lie (taken n s.operands) _ (taken_spans P n [] s.operands tt h.operands)
         (λ os ops at below. pushes_lie (call_value name span os (calls.callables name.text)) span ops s.asked.values (called_fine calls resolve P name span os at k.0 k.1) k.1 below)
+    act_lies root others (Some i) k = own_step calls resolve root s (NextLies source) tt (λ place ops fs q left. on_with ops fs place q (left_lie P s.operands ops left h.operands)) i tt (λ f x. let y = own_fault_lies calls resolve P i f k x in record { span = y.span; placed = y.placed; lies = y.lies })
 
   pub step_lies : (root : Root) (s : State V T) → TemplatesLie resolve → StateLies s → NextLies s.active.running.source (step calls resolve root s)
   step_lies root s others h = act_lies s h root others (slice_get s.active.code s.position) (instruction_at (LiesIn s.active.running.source) s.active.code s.position h.active)

@@ -1,16 +1,23 @@
 -- Runs that come from one state to another, or end.
 use Rattle.std.proofs.Common.{◌≡◌, ℕ, suc, List, [], ◌++◌, Option, Some, None, option_map, refl, sym, ap, ◌∙◌, subst, append_assoc, append-nil}
+use Rattle.std.specs.Prelude.{slice_get}
 use Rattle.upon_lookup.specs.Environment.{Root}
 use Rattle.upon_meaning_spec.specs.Engine.{Calls, Resolver}
+use Rattle.upon_meaning_spec.specs.Evaluation.{Operand}
 use Rattle.upon_meaning_spec.specs.Outcome.{End, good, fails, too_deep, Outcome, States, with_text_before, go_on, then_do}
+use Rattle.upon_machine_spec.specs.Instr.{Instr}
 use Rattle.upon_machine_spec.specs.Run.{on_next, run}
-use Rattle.upon_machine_spec.specs.State.{State}
-use Rattle.upon_machine_spec.specs.Step.{goes, stops, step}
+use Rattle.upon_machine_spec.specs.State.{Active, Caller, Frame, State}
+use Rattle.upon_machine_spec.specs.Step.{goes, stops, act, step}
 
 -- a text before an outcome, and one before that, are one text before it
 pub twice : {V T : Type 0} (a b : List ℕ) (o : Option (Outcome (States V T))) → option_map (with_text_before a) (option_map (with_text_before b) o) ≡ option_map (with_text_before (a ++ b)) o
 twice a b None = refl
 twice a b (Some o) = ap (λ l. Some (record o { text = l })) (sym (append_assoc a b o.text))
+
+-- at an instruction of a template
+abbrev pub state_at : {V T : Type 0} → Active → List Caller → ℕ → List Operand → List Frame → States V T → State V T
+state_at active callers place ops fs s = record { active = active; callers = callers; position = place; operands = ops; frames = fs; asked = s }
 
 module _ {V T : Type 0} (calls : Calls V) (resolve : Resolver T) (root : Root) where
   abbrev pub go : ℕ → State V T → Option (Outcome (States V T))
@@ -84,3 +91,10 @@ module _ {V T : Type 0} (calls : Calls V) (resolve : Resolver T) (root : Root) w
   -- one outcome and then another
   pub in_turn : (s : State V T) (o : Outcome (States V T)) (o' : States V T → Outcome (States V T)) (s1 s2 : States V T → State V T) → Follows s o s1 → ((q : States V T) → Follows (s1 q) (o' q) s2) → Follows s (then_do o o') s2
   in_turn s o o' s1 s2 x y = by_end o.end s o.text o.next o' s1 s2 x (y o.next)
+
+  -- a step in a template, by the instruction there
+  pub step_at : (active : Active) (callers : List Caller) (place : ℕ) (ops : List Operand) (fs : List Frame) (s : States V T) (i : Instr) → slice_get active.code place ≡ Some i → step calls resolve root (state_at active callers place ops fs s) ≡ act calls resolve root (Some i) (state_at active callers place ops fs s)
+  step_at active callers place ops fs s i h = ap (λ o. act calls resolve root o (state_at active callers place ops fs s)) h
+
+  pub to_place : (active : Active) (callers : List Caller) (s : State V T) (o : Outcome (States V T)) (p p' : ℕ) (ops : List Operand) (fs : List Frame) → p ≡ p' → Follows s o (λ q. state_at active callers p ops fs q) → Follows s o (λ q. state_at active callers p' ops fs q)
+  to_place active callers s o p p' ops fs e h = subst (λ n. Follows s o (λ q. state_at active callers n ops fs q)) e h

@@ -1,25 +1,26 @@
 -- Templates that are alike but for spans, where any `if` may be turned round, give the same text and next states, and end alike.
-use Rattle.std.proofs.Common.{◌≡◌, inl, inr, ℕ, zero, suc, ◌+◌, List, [], ◌∷◌, ◌++◌, length, map, not, Option, Some, None, Bool, true, false, refl, sym, ap, ap₂, subst}
+use Rattle.std.proofs.Common.{◌≡◌, inl, inr, ℕ, zero, suc, List, [], ◌∷◌, ◌++◌, length, map, Option, Some, None, Bool, true, false, refl, sym, ap, ap₂, subst}
 use Rattle.upon_types.specs.declared.types.Span.{Span}
 use Rattle.upon_types.specs.Expression.{Expression, expression_span}
 use Rattle.upon_types.specs.Fault.{Fault}
 use Rattle.upon_types.specs.Path.{Ident, LoopVars, item, key_value}
-use Rattle.upon_types.specs.Tree.{Statement, raw, inline_expr, include, if_else, for_loop, with, Statements, no_statements, statement_then, Else, no_else, otherwise}
-use Rattle.upon_types.specs.Truth.{truth}
+use Rattle.upon_types.specs.BlockKinds.{Opening}
+use Rattle.upon_types.specs.Tree.{Statement, raw, inline_expr, include, block, Statements, no_statements, statement_then, Else, no_else, otherwise}
 use Rattle.upon_types.specs.Val.{Val, none_val, bool_val, int_val, text_val, list_val, map_val, entry_list}
-use Rattle.upon_lookup.specs.Environment.{Binding, binding, plain, key_text, Environment, Root, root_environment, alone_over, with_name, iteration}
+use Rattle.upon_lookup.specs.Environment.{Binding, binding, plain, key_text, Environment, Root, root_environment, alone_over, bind_all}
 use Rattle.upon_lookup.specs.Finding.{Finding, found, at_fault}
 use Rattle.upon_lookup.specs.Items.{items_of}
 use Rattle.upon_lookup.specs.LookupFaults.{wrong}
 use Rattle.upon_lookup.specs.Source.{SourceAnswer, says, refuses}
 use Rattle.upon_lookup.specs.Vals.{val_list}
-use Rattle.upon_meaning_spec.specs.Alike.{WordsAlike, NamesAlike, ExpressionsAlike, IsEmpty, StatementAlike, OthersAlike, StatementsAlike, without_span, EndsAlike, OutcomesAlike}
+use Rattle.upon_meaning_spec.specs.Alike.{WordsAlike, NamesAlike, ExpressionsAlike, IsEmpty, OpeningsAlike, IsTurned, StatementAlike, StatementsAlike, without_span, EndsAlike, OutcomesAlike}
 use Rattle.upon_meaning_spec.specs.Alone.{running, on_template, with_template, included, alone_within}
 use Rattle.upon_meaning_spec.specs.Emission.{emit}
 use Rattle.upon_meaning_spec.specs.Engine.{Template, Calls, Resolver}
 use Rattle.upon_meaning_spec.specs.Evaluation.{Operand, evaluate}
-use Rattle.upon_meaning_spec.specs.Meaning.{RunningTemplate, fault_in, ends_in, Inclusion, Body, choose, condition, each, each_of, each_or, on_value, with_value, statement_means, statements_mean, else_means}
+use Rattle.upon_meaning_spec.specs.Meaning.{RunningTemplate, fault_in, ends_in, Inclusion, Body, loop_turns, turns_over, turns, each, each_or, on_value, with_value, statement_means, statements_mean, else_means}
 use Rattle.upon_meaning_spec.specs.Outcome.{End, good, fails, too_deep, Outcome, States, states, text_outcome, too_deep_outcome, with_text_before, go_on, then_do}
+use Rattle.upon_meaning_spec.proofs.Turns.{one_turn, alike_turns, turned_turns}
 use Rattle.upon_meaning_spec.proofs.AlikeRenderings.Emissions.{emit_alike}
 use Rattle.upon_meaning_spec.proofs.AlikeRenderings.Expressions.{SameValue, value_alike}
 use Rattle.upon_meaning_spec.proofs.AlikeRenderings.Lookups.{FoundAlike, One}
@@ -46,28 +47,9 @@ module _ {Q : Type 0} where
   then_alike : (a b : Outcome Q) (go go' : Q → Outcome Q) → OutcomesAlike a b → ((q : Q) → OutcomesAlike (go q) (go' q)) → OutcomesAlike (then_do a go) (then_do b go')
   then_alike a b go go' h k = go_on_alike a.text b.text a.end b.end a.next b.next go go' h.text h.end h.next k
 
-  each_alike : (body body' : Body Q) → ((env : Environment) (q : Q) → OutcomesAlike (body env q) (body' env q)) → (count index : ℕ) (items : List (List Binding)) (env : Environment) (q : Q) → OutcomesAlike (each body count index items env q) (each body' count index items env q)
-  each_alike body body' h count index [] env q = outcome_itself (text_outcome [] q)
-  each_alike body body' h count index (bs ∷ items) env q = then_alike (body (iteration index count bs env) q) (body' (iteration index count bs env) q) _ _ (h (iteration index count bs env) q) (each_alike body body' h count (index + 1) items env)
-
-  -- ---- conditions
-  either : (test : Bool) (f g f' g' : Q → Outcome Q) (q : Q) → OutcomesAlike (f q) (f' q) → OutcomesAlike (g q) (g' q) → OutcomesAlike (choose test f g q) (choose test f' g' q)
-  either true f g f' g' q h k = h
-  either false f g f' g' q h k = k
-
-  other_way : (test : Bool) (f g f' g' : Q → Outcome Q) (q : Q) → OutcomesAlike (f q) (g' q) → OutcomesAlike (g q) (f' q) → OutcomesAlike (choose (not test) f g q) (choose test f' g' q) × OutcomesAlike (choose test f g q) (choose (not test) f' g' q)
-  other_way true f g f' g' q h k = (k, h)
-  other_way false f g f' g' q h k = (h, k)
-
-  straight : (n n' : Bool) (v : Val) (f g f' g' : Q → Outcome Q) (q : Q) → n ≡ n' → OutcomesAlike (f q) (f' q) → OutcomesAlike (g q) (g' q) → OutcomesAlike (choose (condition n v) f g q) (choose (condition n' v) f' g' q)
-  straight n n' v f g f' g' q e h k = subst (λ m. OutcomesAlike (choose (condition n v) f g q) (choose (condition m v) f' g' q)) e (either (condition n v) f g f' g' q h k)
-
-  turned_by : (n' : Bool) (v : Val) (f g f' g' : Q → Outcome Q) (q : Q) → OutcomesAlike (f q) (g' q) → OutcomesAlike (g q) (f' q) → OutcomesAlike (choose (condition (not n') v) f g q) (choose (condition n' v) f' g' q)
-  turned_by true v f g f' g' q h k = (other_way (truth v) f g f' g' q h k).1
-  turned_by false v f g f' g' q h k = (other_way (truth v) f g f' g' q h k).0
-
-  turned : (n n' : Bool) (v : Val) (f g f' g' : Q → Outcome Q) (q : Q) → n ≡ not n' → OutcomesAlike (f q) (g' q) → OutcomesAlike (g q) (f' q) → OutcomesAlike (choose (condition n v) f g q) (choose (condition n' v) f' g' q)
-  turned n n' v f g f' g' q e h k = subst (λ m. OutcomesAlike (choose (condition m v) f g q) (choose (condition n' v) f' g' q)) (sym e) (turned_by n' v f g f' g' q h k)
+  each_alike : (body body' : Body Q) → ((env : Environment) (q : Q) → OutcomesAlike (body env q) (body' env q)) → (turns : List (List Binding)) (env : Environment) (q : Q) → OutcomesAlike (each body turns env q) (each body' turns env q)
+  each_alike body body' h [] env q = outcome_itself (text_outcome [] q)
+  each_alike body body' h (bs ∷ turns) env q = then_alike (body (bind_all bs env) q) (body' (bind_all bs env) q) _ _ (h (bind_all bs env) q) (each_alike body body' h turns env)
 
 -- ---- faults of two templates of one name
 told_alike : (from from' : RunningTemplate) (f g : Fault) → from.name ≡ from'.name → without_span f ≡ without_span g → without_span (fault_in from f) ≡ without_span (fault_in from' g)
@@ -96,6 +78,11 @@ items_alike (key_value key value both) (key_value key' value' both') (text_val s
 items_alike (item a) (key_value key' value' both') v at at' h = absurd h
 items_alike (key_value key value both) (item b) v at at' h = absurd h
 
+turns_over_alike : (x y : Finding (List (List Binding))) → FoundAlike One x y → FoundAlike One (turns_over x) (turns_over y)
+turns_over_alike (found items) (found items') h = ap (λ (xs : List (List Binding)). loop_turns (length xs) 0 xs) h
+turns_over_alike (at_fault f) (at_fault g) h = h
+turns_over_alike _ _ h = absurd h
+
 -- ---- statements, where includes from both templates give outcomes that are alike
 module _ {V T : Type 0} (calls : Calls V) (i : Inclusion V T) (from from' : RunningTemplate) (n : from.name ≡ from'.name) (inc : (word word' : Ident) → WordsAlike word word' → (env : Environment) (s : States V T) → OutcomesAlike (i from word env s) (i from' word' env s)) where
   on_value_alike : (x y : Finding Operand) (s s' : States V T) (go go' : Val → States V T → Outcome (States V T)) → FoundAlike SameValue x y → s ≡ s' → ((v : Val) (s : States V T) → OutcomesAlike (go v s) (go' v s)) → OutcomesAlike (on_value from x s go) (on_value from' y s' go')
@@ -109,22 +96,16 @@ module _ {V T : Type 0} (calls : Calls V) (i : Inclusion V T) (from from' : Runn
       let r = value_alike calls env e e' h s.values in
       on_value_alike (evaluate calls e env s.values).answer (evaluate calls e' env s.values).answer _ _ go go' r.answer (ap (λ q. states q s.templates) r.next) k
 
-  each_of_alike : (body body' : Body (States V T)) → ((env : Environment) (s : States V T) → OutcomesAlike (body env s) (body' env s)) → (x y : Finding (List (List Binding))) (env : Environment) (s : States V T) → FoundAlike One x y → OutcomesAlike (each_of body from x env s) (each_of body' from' y env s)
-  each_of_alike body body' k (found items) (found items') env s h = subst (λ z. OutcomesAlike (each_of body from (found items) env s) (each_of body' from' (found z) env s)) h (each_alike body body' k (length items) 0 items env s)
-  each_of_alike body body' k (at_fault f) (at_fault g) env s h = record { text = refl; end = told_alike from from' f g n h; next = refl }
-  each_of_alike body body' k (found items) (at_fault g) env s h = absurd h
-  each_of_alike body body' k (at_fault f) (found items') env s h = absurd h
-
   each_or_alike : (body body' other other' : Body (States V T)) → ((env : Environment) (s : States V T) → OutcomesAlike (body env s) (body' env s)) → ((env : Environment) (s : States V T) → OutcomesAlike (other env s) (other' env s)) → (x y : Finding (List (List Binding))) (env : Environment) (s : States V T) → FoundAlike One x y → OutcomesAlike (each_or body other from x env s) (each_or body' other' from' y env s)
   each_or_alike body body' other other' k l (found []) (found []) env s h = l env s
-  each_or_alike body body' other other' k l (found []) (found (bs ∷ items)) env s h = absurd cc
-  each_or_alike body body' other other' k l (found (bs ∷ items)) (found []) env s h = absurd cc
-  each_or_alike body body' other other' k l (found (bs ∷ items)) (found (bs' ∷ items')) env s h = each_of_alike body body' k (found (bs ∷ items)) (found (bs' ∷ items')) env s h
-  each_or_alike body body' other other' k l (at_fault f) (at_fault g) env s h = each_of_alike body body' k (at_fault f) (at_fault g) env s h
+  each_or_alike body body' other other' k l (found []) (found (bs ∷ turns)) env s h = absurd cc
+  each_or_alike body body' other other' k l (found (bs ∷ turns)) (found []) env s h = absurd cc
+  each_or_alike body body' other other' k l (found (bs ∷ turns)) (found (bs' ∷ turns')) env s h = subst (λ z. OutcomesAlike (each body (bs ∷ turns) env s) (each body' z env s)) h (each_alike body body' k (bs ∷ turns) env s)
+  each_or_alike body body' other other' k l (at_fault f) (at_fault g) env s h = record { text = refl; end = told_alike from from' f g n h; next = refl }
   each_or_alike body body' other other' k l (found []) (at_fault g) env s h = absurd h
-  each_or_alike body body' other other' k l (found (bs ∷ items)) (at_fault g) env s h = absurd h
+  each_or_alike body body' other other' k l (found (bs ∷ turns)) (at_fault g) env s h = absurd h
   each_or_alike body body' other other' k l (at_fault f) (found []) env s h = absurd h
-  each_or_alike body body' other other' k l (at_fault f) (found (bs ∷ items)) env s h = absurd h
+  each_or_alike body body' other other' k l (at_fault f) (found (bs ∷ turns)) env s h = absurd h
 
   abbrev Means : Statements → Statements → Environment → States V T → Type 0
   Means ts us env s = OutcomesAlike (statements_mean calls i from ts env s) (statements_mean calls i from' us env s)
@@ -137,6 +118,46 @@ module _ {V T : Type 0} (calls : Calls V) (i : Inclusion V T) (from from' : Runn
   beside_nothing no_statements h env s = outcome_itself (text_outcome [] s)
   beside_nothing (statement_then t ts) h env s = absurd h
 
+  abbrev OthersMean : Else → Else → Bool → Type 0
+  OthersMean a b may = (env : Environment) (s : States V T) → OutcomesAlike (else_means calls i from a may env s) (else_means calls i from' b may env s)
+
+  neither : (may : Bool) → OthersMean no_else no_else may
+  neither may env s = outcome_itself (text_outcome [] s)
+
+  none_beside : (b : Statements) → IsEmpty b → (may : Bool) → OthersMean no_else (otherwise b) may
+  none_beside b h false env s = outcome_itself (text_outcome [] s)
+  none_beside b h true env s = nothing_beside b h env s
+
+  beside_none : (a : Statements) → IsEmpty a → (may : Bool) → OthersMean (otherwise a) no_else may
+  beside_none a h false env s = outcome_itself (text_outcome [] s)
+  beside_none a h true env s = beside_nothing a h env s
+
+  both_alike : (a b : Statements) → ((env : Environment) (s : States V T) → Means a b env s) → (may : Bool) → OthersMean (otherwise a) (otherwise b) may
+  both_alike a b h false env s = outcome_itself (text_outcome [] s)
+  both_alike a b h true env s = h env s
+
+  -- what blocks with these branches mean, each by whether it may have another branch and by its turns
+  abbrev BlocksMean : Statements → Statements → Else → Else → Environment → States V T → Bool → Finding (List (List Binding)) → Bool → Finding (List (List Binding)) → Type 0
+  BlocksMean a a' b b' env s may x may' y = OutcomesAlike (each_or (statements_mean calls i from a) (else_means calls i from b may) from x env s) (each_or (statements_mean calls i from' a') (else_means calls i from' b' may') from' y env s)
+
+  straight : (one other : Opening) (e e' : Expression) (a a' : Statements) (b b' : Else) (env : Environment) (s : States V T) → ExpressionsAlike e e' → OpeningsAlike one other → ((env : Environment) (s : States V T) → Means a a' env s) → ((may : Bool) → OthersMean b b' may)
+      → OutcomesAlike (statement_means calls i from (block one e a b) env s) (statement_means calls i from' (block other e' a' b') env s)
+  straight one other e e' a a' b b' env s e_alike h bodies others =
+      let alike : (may : Bool) (x y : Finding (List (List Binding))) (s : States V T) → FoundAlike One x y → BlocksMean a a' b b' env s may x may y = λ may x y s' k. each_or_alike (statements_mean calls i from a) (statements_mean calls i from' a') (else_means calls i from b may) (else_means calls i from' b' may) bodies (others may) x y env s' k in
+      in_value e e' env s _ _ e_alike
+      (λ v s'. alike_turns (BlocksMean a a' b b' env s') one other v (expression_span e) (expression_span e') h
+      (λ may names names' k. alike may _ _ s' (turns_over_alike (items_of names v (expression_span e)) (items_of names' v (expression_span e')) (items_alike names names' v (expression_span e) (expression_span e') k)))
+      (λ may all. alike may (found all) (found all) s' refl))
+
+  turned_round : (one other : Opening) (e e' : Expression) (a a' : Statements) (b b' : Else) (env : Environment) (s : States V T) → ExpressionsAlike e e' → IsTurned one other → ((s : States V T) → OutcomesAlike (statements_mean calls i from a env s) (else_means calls i from' b' true env s)) → ((s : States V T) → OutcomesAlike (else_means calls i from b true env s) (statements_mean calls i from' a' env s))
+      → OutcomesAlike (statement_means calls i from (block one e a b) env s) (statement_means calls i from' (block other e' a' b') env s)
+  turned_round one other e e' a a' b b' env s e_alike round h k =
+      in_value e e' env s _ _ e_alike
+      (λ v s'. turned_turns (BlocksMean a a' b b' env s')
+      (subst (λ o. OutcomesAlike o (else_means calls i from' b' true env s')) (sym (one_turn (statements_mean calls i from a env s'))) (h s'))
+      (subst (λ o. OutcomesAlike (else_means calls i from b true env s') o) (sym (one_turn (statements_mean calls i from' a' env s'))) (k s'))
+      one other v (expression_span e) (expression_span e') round)
+
   mutual
     statement_alike : (t u : Statement) → StatementAlike from.source from'.source t u → (env : Environment) (s : States V T) → OutcomesAlike (statement_means calls i from t env s) (statement_means calls i from' u env s)
     statement_alike (raw span) (raw place) h env s = record { text = h; end = tt; next = refl }
@@ -147,35 +168,23 @@ module _ {V T : Type 0} (calls : Calls V) (i : Inclusion V T) (from from' : Runn
     statement_alike (include word (Some e)) (include word' (Some e')) h env s = in_value e e' env s _ _ h.1 (λ v s'. inc word word' h.0 (alone_over v) s')
     statement_alike (include word None) (include word' (Some e')) h env s = absurd h.1
     statement_alike (include word (Some e)) (include word' None) h env s = absurd h.1
-    statement_alike (if_else m e a (otherwise b)) (if_else m' e' a' (otherwise b')) (e_alike, inl same) env s =
-        in_value e e' env s _ _ e_alike (λ v s'. straight m m' v _ _ _ _ s' same.0 (statements_alike a a' same.1 env s') (statements_alike b b' same.2 env s'))
-    statement_alike (if_else m e a (otherwise b)) (if_else m' e' a' (otherwise b')) (e_alike, inr round) env s =
-        in_value e e' env s _ _ e_alike (λ v s'. turned m m' v _ _ _ _ s' round.0 (statements_alike a b' round.1 env s') (statements_alike b a' round.2 env s'))
-    statement_alike (if_else m e a no_else) (if_else m' e' a' (otherwise b')) (e_alike, inl same) env s =
-        in_value e e' env s _ _ e_alike (λ v s'. straight m m' v _ _ _ _ s' same.0 (statements_alike a a' same.1 env s') (nothing_beside b' same.2 env s'))
-    statement_alike (if_else m e a no_else) (if_else m' e' a' (otherwise b')) (e_alike, inr round) env s =
-        in_value e e' env s _ _ e_alike (λ v s'. turned m m' v _ _ _ _ s' round.0 (statements_alike a b' round.1 env s') (nothing_beside a' round.2 env s'))
-    statement_alike (if_else m e a (otherwise b)) (if_else m' e' a' no_else) (e_alike, inl same) env s =
-        in_value e e' env s _ _ e_alike (λ v s'. straight m m' v _ _ _ _ s' same.0 (statements_alike a a' same.1 env s') (beside_nothing b same.2 env s'))
-    statement_alike (if_else m e a (otherwise b)) (if_else m' e' a' no_else) (e_alike, inr round) env s =
-        in_value e e' env s _ _ e_alike (λ v s'. turned m m' v _ _ _ _ s' round.0 (beside_nothing a round.1 env s') (statements_alike b a' round.2 env s'))
-    statement_alike (if_else m e a no_else) (if_else m' e' a' no_else) (e_alike, inl same) env s =
-        in_value e e' env s _ _ e_alike (λ v s'. straight m m' v _ _ _ _ s' same.0 (statements_alike a a' same.1 env s') (outcome_itself (text_outcome [] s')))
-    statement_alike (if_else m e a no_else) (if_else m' e' a' no_else) (e_alike, inr round) env s =
-        in_value e e' env s _ _ e_alike (λ v s'. turned m m' v _ _ _ _ s' round.0 (beside_nothing a round.1 env s') (nothing_beside a' round.2 env s'))
-    statement_alike (for_loop names e body other) (for_loop names' e' body' other') h env s =
-        in_value e e' env s _ _ h.1
-        (λ v s'. each_or_alike (statements_mean calls i from body) (statements_mean calls i from' body') (else_means calls i from other) (else_means calls i from' other') (statements_alike body body' h.2) (others_alike other other' h.3) (items_of names v (expression_span e)) (items_of names' v (expression_span e')) env s' (items_alike names names' v (expression_span e) (expression_span e') h.0))
-    statement_alike (with e word body) (with e' word' body') h env s =
-        in_value e e' env s _ _ h.0
-        (λ v s'. subst (λ t. OutcomesAlike (statements_mean calls i from body (with_name word v env) s') (statements_mean calls i from' body' (with_name (record word' { text = t }) v env) s')) h.1 (statements_alike body body' h.2 (with_name word v env) s'))
+    statement_alike (block opening e a (otherwise b)) (block opening' e' a' (otherwise b')) (e_alike, inl same) env s =
+        straight opening opening' e e' a a' (otherwise b) (otherwise b') env s e_alike same.0 (statements_alike a a' same.1) (both_alike b b' (statements_alike b b' same.2))
+    statement_alike (block opening e a (otherwise b)) (block opening' e' a' (otherwise b')) (e_alike, inr round) env s =
+        turned_round opening opening' e e' a a' (otherwise b) (otherwise b') env s e_alike round.0 (statements_alike a b' round.1 env) (statements_alike b a' round.2 env)
+    statement_alike (block opening e a no_else) (block opening' e' a' (otherwise b')) (e_alike, inl same) env s =
+        straight opening opening' e e' a a' no_else (otherwise b') env s e_alike same.0 (statements_alike a a' same.1) (none_beside b' same.2)
+    statement_alike (block opening e a no_else) (block opening' e' a' (otherwise b')) (e_alike, inr round) env s =
+        turned_round opening opening' e e' a a' no_else (otherwise b') env s e_alike round.0 (statements_alike a b' round.1 env) (nothing_beside a' round.2 env)
+    statement_alike (block opening e a (otherwise b)) (block opening' e' a' no_else) (e_alike, inl same) env s =
+        straight opening opening' e e' a a' (otherwise b) no_else env s e_alike same.0 (statements_alike a a' same.1) (beside_none b same.2)
+    statement_alike (block opening e a (otherwise b)) (block opening' e' a' no_else) (e_alike, inr round) env s =
+        turned_round opening opening' e e' a a' (otherwise b) no_else env s e_alike round.0 (beside_nothing a round.1 env) (statements_alike b a' round.2 env)
+    statement_alike (block opening e a no_else) (block opening' e' a' no_else) (e_alike, inl same) env s =
+        straight opening opening' e e' a a' no_else no_else env s e_alike same.0 (statements_alike a a' same.1) (neither)
+    statement_alike (block opening e a no_else) (block opening' e' a' no_else) (e_alike, inr round) env s =
+        turned_round opening opening' e e' a a' no_else no_else env s e_alike round.0 (beside_nothing a round.1 env) (nothing_beside a' round.2 env)
     statement_alike _ _ h env s = absurd h
-
-    others_alike : (a b : Else) → OthersAlike from.source from'.source a b → (env : Environment) (s : States V T) → OutcomesAlike (else_means calls i from a env s) (else_means calls i from' b env s)
-    others_alike no_else no_else h env s = outcome_itself (text_outcome [] s)
-    others_alike no_else (otherwise b) h env s = nothing_beside b h env s
-    others_alike (otherwise a) no_else h env s = beside_nothing a h env s
-    others_alike (otherwise a) (otherwise b) h env s = statements_alike a b h env s
 
     pub statements_alike : (ts us : Statements) → StatementsAlike from.source from'.source ts us → (env : Environment) (s : States V T) → Means ts us env s
     statements_alike no_statements no_statements h env s = outcome_itself (text_outcome [] s)

@@ -22,10 +22,10 @@ loop_reads_x = inl (inr (inl (inl refl)))
 
 x_bound : (table : Table) (names : List (List ℕ)) → NeedsBy table loop_tree names (a_name (codes "x")) → ⊥
 x_bound table [] (inl (inl same)) = absurd (cc)
-x_bound table [] (inl (inr (inl (free, begins)))) = free (inr refl)
+x_bound table [] (inl (inr (inl (free, begins)))) = free (inr (inl refl))
 x_bound table [] (inl (inr (inr none))) = none
 x_bound table [] (inr none) = none
-x_bound table (via ∷ names) (inl (inl (free, passes)), more) = free (inr refl)
+x_bound table (via ∷ names) (inl (inl (free, passes)), more) = free (inr (inl refl))
 x_bound table (via ∷ names) (inl (inr none), more) = none
 x_bound table (via ∷ names) (inr none, more) = none
 
@@ -50,7 +50,9 @@ include_needs_a table holds = (codes "t" ∷ [], (inl refl, (one, holds, inl ref
 -- `{% with user as a %}{% include "t" %}{% endwith %}` needs no `a`, whatever t is
 bound_include : (table : Table) (names : List (List ℕ)) → NeedsBy table (statements (with (base (name 8 (codes "user"))) (word 16 (codes "a")) (statements (include (quoted 31 (codes "t")) None ∷ [])) ∷ [])) names (a_name (codes "a")) → ⊥
 bound_include table [] (inl (inl same)) = absurd (cc)
-bound_include table [] (inl (inr (free, begins))) = free refl
+bound_include table [] (inl (inr (inl (free, begins)))) = free (inl refl)
+bound_include table [] (inl (inr (inr none))) = none
 bound_include table [] (inr none) = none
-bound_include table (via ∷ names) (inl (free, passes), more) = free refl
+bound_include table (via ∷ names) (inl (inl (free, passes)), more) = free (inl refl)
+bound_include table (via ∷ names) (inl (inr none), more) = none
 bound_include table (via ∷ names) (inr none, more) = none

@@ -2,9 +2,10 @@
 use Rattle.std.proofs.Common.{List, [], ◌∷◌, Option, Some, None}
 use Rattle.upon_types.specs.declared.types.Span.{Span}
 use Rattle.upon_types.specs.Expression.{Expression, base, filtered, Base, var, literal, list, mapping, paren, call, Bases, no_bases, base_then, Items, no_items, item_then, Arguments, no_arguments, arguments}
-use Rattle.upon_types.specs.Path.{Access, by_index, by_key, Member, LoopVars, item, key_value}
-use Rattle.upon_types.specs.Tree.{Statement, raw, inline_expr, include, if_else, for_loop, with, Statements, no_statements, statement_then, Else, no_else, otherwise}
-use Rattle.upon_types.specs.TreeSpans.{SelectorSpans, StepSpans, StepsSpans, LoopNamesSpans, ExpressionSpans, BaseSpans, BasesSpans, ItemsSpans, ArgumentsSpans, GivenSpans, StatementSpans, StatementsSpans, ElseSpans}
+use Rattle.upon_types.specs.Path.{Access, by_index, by_key, Member}
+use Rattle.upon_types.specs.Tree.{Statement, raw, inline_expr, include, block, Statements, no_statements, statement_then, Else, no_else, otherwise}
+use Rattle.upon_types.specs.TreeSpans.{SelectorSpans, StepSpans, StepsSpans, ExpressionSpans, BaseSpans, BasesSpans, ItemsSpans, ArgumentsSpans, GivenSpans, StatementSpans, StatementsSpans, ElseSpans}
+use Rattle.upon_meaning_spec.proofs.Turns.{of_opening}
 
 module _ (P : Span → Type 0) (all : (span : Span) → P span) where
   of_selector : (selector : Access) → SelectorSpans P selector
@@ -17,10 +18,6 @@ module _ (P : Span → Type 0) (all : (span : Span) → P span) where
   of_steps : (steps : List Member) → StepsSpans P steps
   of_steps [] = tt
   of_steps (step ∷ steps) = (of_step step, of_steps steps)
-
-  of_names : (names : LoopVars) → LoopNamesSpans P names
-  of_names (item name) = all name.span
-  of_names (key_value key value both) = (all key.span, all value.span, all both)
 
   mutual
     of_expression : (e : Expression) → ExpressionSpans P e
@@ -56,9 +53,7 @@ module _ (P : Span → Type 0) (all : (span : Span) → P span) where
     of_statement (raw span) = all span
     of_statement (inline_expr e span) = (of_expression e, all span)
     of_statement (include word value) = (all word.span, of_given value)
-    of_statement (if_else negated e body other) = (of_expression e, of_statements body, of_else other)
-    of_statement (for_loop names e body other) = (of_names names, of_expression e, of_statements body, of_else other)
-    of_statement (with e word body) = (of_expression e, all word.span, of_statements body)
+    of_statement (block opening e body other) = (of_opening P all opening, of_expression e, of_statements body, of_else other)
 
     pub of_statements : (ts : Statements) → StatementsSpans P ts
     of_statements no_statements = tt

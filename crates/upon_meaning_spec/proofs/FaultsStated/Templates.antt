@@ -1,15 +1,16 @@
 -- A rendering ends well, because includes are nested too deep, or with one of the stated faults, at an offset of the template that runs.
-use Rattle.std.proofs.Common.{◌≡◌, ℕ, zero, suc, ◌+◌, List, [], ◌∷◌, length, Option, Some, None, Bool, true, false, refl, ap, option_map}
+use Rattle.std.proofs.Common.{◌≡◌, ℕ, zero, suc, List, [], ◌∷◌, Option, Some, None, Bool, true, false, refl, ap, option_map}
 use Rattle.upon_types.specs.declared.types.Span.{Span}
 use Rattle.upon_types.specs.Expression.{Expression, expression_span}
 use Rattle.upon_types.specs.Fault.{render, Fault}
 use Rattle.upon_types.specs.Path.{Ident, LoopVars, item, key_value}
 use Rattle.upon_types.specs.Picture.{picture}
-use Rattle.upon_types.specs.Tree.{Statement, raw, inline_expr, include, if_else, for_loop, with, Statements, no_statements, statement_then, Else, no_else, otherwise}
-use Rattle.upon_types.specs.TreeSpans.{LoopNamesSpans, ExpressionSpans, StatementSpans, StatementsSpans, ElseSpans}
+use Rattle.upon_types.specs.BlockKinds.{Opening, opened_kind, may_have_else, LoopNamesSpans, OpeningSpans}
+use Rattle.upon_types.specs.Tree.{Statement, raw, inline_expr, include, block, Statements, no_statements, statement_then, Else, no_else, otherwise}
+use Rattle.upon_types.specs.TreeSpans.{ExpressionSpans, StatementSpans, StatementsSpans, ElseSpans}
 use Rattle.upon_types.specs.Val.{Val, none_val, bool_val, int_val, text_val, list_val, map_val}
 use Rattle.upon_types.proofs.ExpressionSpans.{Covers, expression_place}
-use Rattle.upon_lookup.specs.Environment.{Binding, Environment, Root, root_environment, alone_over, with_name, iteration}
+use Rattle.upon_lookup.specs.Environment.{Binding, Environment, Root, root_environment, alone_over, bind_all}
 use Rattle.upon_lookup.specs.Finding.{Finding, found, at_fault}
 use Rattle.upon_lookup.specs.Items.{items_of}
 use Rattle.upon_lookup.specs.Source.{SourceAnswer, says, refuses}
@@ -17,10 +18,11 @@ use Rattle.upon_meaning_spec.specs.Alone.{running, on_template, included, alone_
 use Rattle.upon_meaning_spec.specs.Emission.{emit}
 use Rattle.upon_meaning_spec.specs.Engine.{Template, Calls, Resolver}
 use Rattle.upon_meaning_spec.specs.Evaluation.{Operand, evaluate}
-use Rattle.upon_meaning_spec.specs.Meaning.{RunningTemplate, fault_in, ends_in, Inclusion, Body, choose, condition, each, each_of, each_or, on_value, statement_means, statements_mean, else_means}
+use Rattle.upon_meaning_spec.specs.Meaning.{RunningTemplate, fault_in, ends_in, Inclusion, Body, turns_over, turns, each, each_or, on_value, statement_means, statements_mean, else_means}
 use Rattle.upon_meaning_spec.specs.Outcome.{End, good, fails, too_deep, Outcome, States, states, go_on, then_do}
 use Rattle.upon_meaning_spec.specs.RenderFaults.{IsStated, list_item_into_two, map_item_into_one, not_iterable, template_refused, Runs, itself, EndStated}
 use Rattle.upon_meaning_spec.specs.RenderFaults.{included as of_include}
+use Rattle.upon_meaning_spec.proofs.Turns.{turns_hold}
 use Rattle.upon_meaning_spec.proofs.FaultsStated.Emissions.{EndFine, emission_fine}
 use Rattle.upon_meaning_spec.proofs.FaultsStated.Expressions.{AtSpan, expression_fine}
 use Rattle.upon_meaning_spec.proofs.FaultsStated.Lookups.{Any, IsFine, FoundFine, wrong_fine}
@@ -40,6 +42,14 @@ module _ {V T : Type 0} (calls : Calls V) (resolve : Resolver T) where
   items_fine P (key_value key value both) (bool_val b) at h k = wrong_fine calls resolve P _ at (not_iterable (bool_val b)) k
   items_fine P (key_value key value both) (int_val z) at h k = wrong_fine calls resolve P _ at (not_iterable (int_val z)) k
   items_fine P (key_value key value both) (text_val s) at h k = wrong_fine calls resolve P _ at (not_iterable (text_val s)) k
+
+  turns_over_fine : (P : Span → Type 0) (x : Finding (List (List Binding))) → FoundFine calls resolve P Any x → FoundFine calls resolve P Any (turns_over x)
+  turns_over_fine P (found items) h = tt
+  turns_over_fine P (at_fault f) h = h
+
+  -- the turns of a block
+  turns_fine : (P : Span → Type 0) (opening : Opening) (v : Val) (at : Span) → OpeningSpans P opening → P at → FoundFine calls resolve P Any (turns opening at v)
+  turns_fine P opening v at h k = turns_hold P (FoundFine calls resolve P Any) opening v at h (λ names spans. turns_over_fine P (items_of names v at) (items_fine P names v at spans k)) (λ all. tt)
 
   module _ (Lies : List ℕ → Span → Type 0) (covers : (source : List ℕ) → Covers (Lies source)) (top : Template) (top_name : Option (List ℕ)) where
     abbrev Stated : End → Type 0
@@ -61,13 +71,9 @@ module _ {V T : Type 0} (calls : Calls V) (resolve : Resolver T) where
     then_stated : {Q : Type 0} (o : Outcome Q) (go : Q → Outcome Q) → Stated o.end → ((q : Q) → Stated (go q).end) → Stated (then_do o go).end
     then_stated o go h k = go_on_stated o.text o.end o.next go h k
 
-    each_stated : {Q : Type 0} (body : Body Q) → ((env : Environment) (q : Q) → Stated (body env q).end) → (count index : ℕ) (items : List (List Binding)) (env : Environment) (q : Q) → Stated (each body count index items env q).end
-    each_stated body h count index [] env q = tt
-    each_stated body h count index (bs ∷ items) env q = then_stated (body (iteration index count bs env) q) _ (h (iteration index count bs env) q) (each_stated body h count (index + 1) items env)
-
-    choose_stated : {Q : Type 0} (test : Bool) (f g : Q → Outcome Q) → ((q : Q) → Stated (f q).end) → ((q : Q) → Stated (g q).end) → (q : Q) → Stated (choose test f g q).end
-    choose_stated true f g h k q = h q
-    choose_stated false f g h k q = k q
+    each_stated : {Q : Type 0} (body : Body Q) → ((env : Environment) (q : Q) → Stated (body env q).end) → (turns : List (List Binding)) (env : Environment) (q : Q) → Stated (each body turns env q).end
+    each_stated body h [] env q = tt
+    each_stated body h (bs ∷ turns) env q = then_stated (body (bind_all bs env) q) _ (h (bind_all bs env) q) (each_stated body h turns env)
 
     template_stated : {Q : Type 0} (from : RunningTemplate) → Runs resolve top top_name from → (word : Ident) → Lies from.source word.span → (x : SourceAnswer Template) (q : Q) (go : Template → Q → Outcome Q) → ((text : List ℕ) → x ≡ refuses text → IsStated calls resolve render (Some text)) → ((t : Template) → x ≡ says t → Stated (go t q).end) → Stated (on_template from word x q go).end
     template_stated from runs word lies (says t) q go h k = k t refl
@@ -79,14 +85,10 @@ module _ {V T : Type 0} (calls : Calls V) (resolve : Resolver T) where
       value_stated (found o) s go x k = k o.value s
       value_stated (at_fault f) s go x k = told_stated from runs f x
 
-      items_stated : (body : Body (States V T)) → ((env : Environment) (s : States V T) → Stated (body env s).end) → (x : Finding (List (List Binding))) (env : Environment) (s : States V T) → FoundFine calls resolve (Lies from.source) Any x → Stated (each_of body from x env s).end
-      items_stated body k (found items) env s x = each_stated body k (length items) 0 items env s
-      items_stated body k (at_fault f) env s x = told_stated from runs f x
-
-      items_or_stated : (body other : Body (States V T)) → ((env : Environment) (s : States V T) → Stated (body env s).end) → ((env : Environment) (s : States V T) → Stated (other env s).end) → (x : Finding (List (List Binding))) (env : Environment) (s : States V T) → FoundFine calls resolve (Lies from.source) Any x → Stated (each_or body other from x env s).end
-      items_or_stated body other k l (found []) env s x = l env s
-      items_or_stated body other k l (found (bs ∷ items)) env s x = items_stated body k (found (bs ∷ items)) env s x
-      items_or_stated body other k l (at_fault f) env s x = told_stated from runs f x
+      each_or_stated : (body other : Body (States V T)) → ((env : Environment) (s : States V T) → Stated (body env s).end) → ((env : Environment) (s : States V T) → Stated (other env s).end) → (x : Finding (List (List Binding))) (env : Environment) (s : States V T) → FoundFine calls resolve (Lies from.source) Any x → Stated (each_or body other from x env s).end
+      each_or_stated body other k l (found []) env s x = l env s
+      each_or_stated body other k l (found (bs ∷ turns)) env s x = each_stated body k (bs ∷ turns) env s
+      each_or_stated body other k l (at_fault f) env s x = told_stated from runs f x
 
       in_expression : (e : Expression) (env : Environment) (s : States V T) (go : Val → States V T → Outcome (States V T)) → ExpressionSpans (Lies from.source) e → ((v : Val) (s : States V T) → Stated (go v s).end) → Stated (on_value from (evaluate calls e env s.values).answer (states (evaluate calls e env s.values).next s.templates) go).end
       in_expression e env s go x k = value_stated (evaluate calls e env s.values).answer _ go (expression_fine calls resolve (Lies from.source) (covers from.source) env e s.values x) k
@@ -97,19 +99,18 @@ module _ {V T : Type 0} (calls : Calls V) (resolve : Resolver T) where
         statement_stated (inline_expr e span) x env s = end_stated from runs (emit calls e env s.values).end (emission_fine calls resolve (Lies from.source) (covers from.source) env e s.values x.0)
         statement_stated (include word None) x env s = h word x.0 env s
         statement_stated (include word (Some e)) x env s = in_expression e env s _ x.1 (λ v s'. h word x.0 (alone_over v) s')
-        statement_stated (if_else n e a b) x env s = in_expression e env s _ x.0 (λ v s'. choose_stated (condition n v) _ _ (statements_stated a x.1 env) (else_stated b x.2 env) s')
-        statement_stated (for_loop names e body other) x env s =
+        statement_stated (block opening e body other) x env s =
             in_expression e env s _ x.1
-            (λ v s'. items_or_stated (statements_mean calls i from body) (else_means calls i from other) (statements_stated body x.2) (else_stated other x.3) (items_of names v (expression_span e)) env s' (items_fine (Lies from.source) names v (expression_span e) x.0 (expression_place (Lies from.source) (covers from.source) e x.1)))
-        statement_stated (with e word body) x env s = in_expression e env s _ x.0 (λ v s'. statements_stated body x.2 (with_name word v env) s')
+            (λ v s'. each_or_stated (statements_mean calls i from body) (else_means calls i from other (may_have_else (opened_kind opening))) (statements_stated body x.2) (else_stated other (may_have_else (opened_kind opening)) x.3) (turns opening (expression_span e) v) env s' (turns_fine (Lies from.source) opening v (expression_span e) x.0 (expression_place (Lies from.source) (covers from.source) e x.1)))
 
         statements_stated : (ts : Statements) → StatementsSpans (Lies from.source) ts → (env : Environment) (s : States V T) → Stated (statements_mean calls i from ts env s).end
         statements_stated no_statements x env s = tt
         statements_stated (statement_then t ts) x env s = then_stated (statement_means calls i from t env s) _ (statement_stated t x.0 env s) (statements_stated ts x.1 env)
 
-        else_stated : (t : Else) → ElseSpans (Lies from.source) t → (env : Environment) (s : States V T) → Stated (else_means calls i from t env s).end
-        else_stated no_else x env s = tt
-        else_stated (otherwise body) x env s = statements_stated body x env s
+        else_stated : (t : Else) (may : Bool) → ElseSpans (Lies from.source) t → (env : Environment) (s : States V T) → Stated (else_means calls i from t may env s).end
+        else_stated no_else may x env s = tt
+        else_stated (otherwise body) false x env s = tt
+        else_stated (otherwise body) true x env s = statements_stated body x env s
 
     -- includes, where the spans in the trees of all templates that answer are so
     module _ (lie : (q : T) (name : List ℕ) (t : Template) → (resolve q name).answer ≡ says t → StatementsSpans (Lies t.source) t.tree) where

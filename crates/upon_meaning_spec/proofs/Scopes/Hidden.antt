@@ -1,5 +1,5 @@
 -- An outer variable makes no difference to a whole `with` or `for` that binds its name, where the expression does not read it.
-use Rattle.std.proofs.Common.{◌≡◌, ◌⊎◌, inl, inr, ℕ, ◌+◌, List, [], ◌∷◌, ◌++◌, length, map, refl, sym, ap, ◌∙◌, subst, codes, bytes_eq, append_assoc}
+use Rattle.std.proofs.Common.{◌≡◌, ◌⊎◌, inl, inr, ℕ, ◌+◌, List, [], ◌∷◌, ◌++◌, length, map, refl, sym, ap, ◌∙◌, subst, codes, bytes_eq, append_assoc, Bool, true, false}
 use Rattle.std.proofs.lemmas.Slice.Eq.{bytes_eq-Decides}
 use Rattle.std.proofs.lemmas.Bool.{false_from_ne_true}
 use Rattle.upon_types.specs.declared.types.Span.{Span}
@@ -8,7 +8,7 @@ use Rattle.upon_types.specs.Expression.{Expression, expression_span}
 use Rattle.upon_types.specs.Path.{Ident, Access, by_index, by_key, Member, LoopVars, item, key_value}
 use Rattle.upon_types.specs.Tree.{Statements, Else, for_loop, with}
 use Rattle.upon_types.specs.Val.{Val, none_val, bool_val, int_val, text_val, list_val, map_val}
-use Rattle.upon_lookup.specs.Environment.{Bound, Binding, binding, plain, loop_state, Environment, bind, bind_all, with_name, iteration}
+use Rattle.upon_lookup.specs.Environment.{Bound, Binding, binding, plain, Environment, bind, bind_all}
 use Rattle.upon_lookup.specs.Finding.{Finding, found, at_fault}
 use Rattle.upon_lookup.specs.Items.{items_of, item_binds, entry_binds}
 use Rattle.upon_lookup.specs.Lookup.{maybe_bound, or_root, lookup}
@@ -18,7 +18,7 @@ use Rattle.upon_types.specs.Val.{entry_list}
 use Rattle.upon_meaning_spec.specs.Alone.{included}
 use Rattle.upon_meaning_spec.specs.Engine.{Calls, Resolver}
 use Rattle.upon_meaning_spec.specs.Evaluation.{evaluate}
-use Rattle.upon_meaning_spec.specs.Meaning.{RunningTemplate, with_value, each, each_of, each_or, over, statement_means, statements_mean, else_means}
+use Rattle.upon_meaning_spec.specs.Meaning.{RunningTemplate, with_value, loop_turns, turns_over, each, each_or, statement_means, statements_mean, else_means}
 use Rattle.upon_meaning_spec.specs.Names.{ExpressionReads}
 use Rattle.upon_meaning_spec.specs.Outcome.{Outcome, States, then_do}
 use Rattle.upon_meaning_spec.specs.Shadowing.{Binds, LoopBinds}
@@ -41,18 +41,18 @@ module _ {V : Type 0} (ask : Source V) (b : Binding) (bs : List Binding) (env : 
   others_alike : FoundAlike ask Others (bind_all bs (bind b env)) (bind_all bs env)
   others_alike first rest q known = others_by first.access first.op first.span rest q known
 
--- each item binds the name
+-- each turn binds the name
 abbrev EachBinds : List ℕ → List (List Binding) → Type 0
 EachBinds name [] = Unit {0}
-EachBinds name (bs ∷ items) = ((codes "loop" ≡ name) ⊎ Binds name bs) × EachBinds name items
+EachBinds name (bs ∷ turns) = Binds name bs × EachBinds name turns
 
 abbrev FoundBinds : List ℕ → Finding (List (List Binding)) → Type 0
-FoundBinds name (found items) = EachBinds name items
+FoundBinds name (found turns) = EachBinds name turns
 FoundBinds name (at_fault f) = Unit {0}
 
-all_bind : {A : Type 0} (name : List ℕ) (f : A → List Binding) (xs : List A) → ((a : A) → (codes "loop" ≡ name) ⊎ Binds name (f a)) → EachBinds name (map f xs)
-all_bind name f [] h = tt
-all_bind name f (a ∷ xs) h = (h a, all_bind name f xs h)
+all_bind : {A : Type 0} (name : List ℕ) (f : A → List Binding) (xs : List A) → ((a : A) → (codes "loop" ≡ name) ⊎ Binds name (f a)) → (count index : ℕ) → EachBinds name (loop_turns count index (map f xs))
+all_bind name f [] h count index = tt
+all_bind name f (a ∷ xs) h count index = (h a, all_bind name f xs h count (index + 1))
 
 by_item : (name : List ℕ) (word : Ident) (v : Val) → LoopBinds name (item word) → (codes "loop" ≡ name) ⊎ Binds name (item_binds word v)
 by_item name word v (inl state) = inl state
@@ -63,19 +63,19 @@ by_entry name key value both entry (inl state) = inl state
 by_entry name key value both entry (inr (inl same)) = inr (inl same)
 by_entry name key value both entry (inr (inr same)) = inr (inr (inl same))
 
-items_bind : (name : List ℕ) (names : LoopVars) (v : Val) (at : Span) → LoopBinds name names → FoundBinds name (items_of names v at)
-items_bind name (item word) (list_val vs) at h = all_bind name (item_binds word) (val_list vs) (λ v. by_item name word v h)
-items_bind name (item word) (map_val es) at h = tt
-items_bind name (item word) none_val at h = tt
-items_bind name (item word) (bool_val b) at h = tt
-items_bind name (item word) (int_val z) at h = tt
-items_bind name (item word) (text_val s) at h = tt
-items_bind name (key_value key value both) (map_val es) at h = all_bind name (entry_binds key value) (entry_list es) (λ entry. by_entry name key value both entry h)
-items_bind name (key_value key value both) (list_val vs) at h = tt
-items_bind name (key_value key value both) none_val at h = tt
-items_bind name (key_value key value both) (bool_val b) at h = tt
-items_bind name (key_value key value both) (int_val z) at h = tt
-items_bind name (key_value key value both) (text_val s) at h = tt
+turns_bind : (name : List ℕ) (names : LoopVars) (v : Val) (at : Span) → LoopBinds name names → FoundBinds name (turns_over (items_of names v at))
+turns_bind name (item word) (list_val vs) at h = all_bind name (item_binds word) (val_list vs) (λ v. by_item name word v h) _ 0
+turns_bind name (item word) (map_val es) at h = tt
+turns_bind name (item word) none_val at h = tt
+turns_bind name (item word) (bool_val b) at h = tt
+turns_bind name (item word) (int_val z) at h = tt
+turns_bind name (item word) (text_val s) at h = tt
+turns_bind name (key_value key value both) (map_val es) at h = all_bind name (entry_binds key value) (entry_list es) (λ entry. by_entry name key value both entry h) _ 0
+turns_bind name (key_value key value both) (list_val vs) at h = tt
+turns_bind name (key_value key value both) none_val at h = tt
+turns_bind name (key_value key value both) (bool_val b) at h = tt
+turns_bind name (key_value key value both) (int_val z) at h = tt
+turns_bind name (key_value key value both) (text_val s) at h = tt
 
 module _ {V T : Type 0} (calls : Calls V) (resolve : Resolver T) (left : ℕ) (running : RunningTemplate) (between : List Binding) (name : List ℕ) (outer : Bound) (env : Environment) where
   abbrev there : Environment
@@ -90,40 +90,35 @@ module _ {V T : Type 0} (calls : Calls V) (resolve : Resolver T) (left : ℕ) (r
   same_expression : (e : Expression) → (ExpressionReads name e → ⊥) → (q : V) → evaluate calls e there q ≡ evaluate calls e gone q
   same_expression e unread q = same_value calls (λ n. name ≡ n → ⊥) there gone (others_alike calls.ask (binding name outer) between env) e (λ n reads same. unread (subst (λ m. ExpressionReads m e) (sym same) reads)) q
 
-  -- in a turn of a loop
-  pub turn_hides : (body : Statements) (index count : ℕ) (bs : List Binding) (s : States V T) → (codes "loop" ≡ name) ⊎ Binds name bs → means body (iteration index count bs there) s ≡ means body (iteration index count bs gone) s
-  turn_hides body index count bs s binds =
-      let state = binding (codes "loop") (loop_state index count) in
+  -- in a turn that binds the name
+  turn_hides : (body : Statements) (bs : List Binding) (s : States V T) → Binds name bs → means body (bind_all bs there) s ≡ means body (bind_all bs gone) s
+  turn_hides body bs s binds =
       let b = binding name outer in
-      let all : Binds name (state ∷ (bs ++ between)) = binds_more name (state ∷ bs) between binds in
-      let with_it : iteration index count bs there ≡ bind_all (state ∷ (bs ++ between)) (bind b env) = λ i. record env { bindings = state ∷ sym (append_assoc bs between (b ∷ env.bindings)) i } in
-      let without_it : bind_all (state ∷ (bs ++ between)) env ≡ iteration index count bs gone = λ i. record env { bindings = state ∷ append_assoc bs between env.bindings i } in
+      let all : Binds name (bs ++ between) = binds_more name bs between binds in
+      let with_it : bind_all bs there ≡ bind_all (bs ++ between) (bind b env) = λ i. record env { bindings = sym (append_assoc bs between (b ∷ env.bindings)) i } in
+      let without_it : bind_all (bs ++ between) env ≡ bind_all bs gone = λ i. record env { bindings = append_assoc bs between env.bindings i } in
       ap (λ e. means body e s) with_it
-      ∙ alike_body calls resolve left running body (bind_all (state ∷ (bs ++ between)) (bind b env)) (bind_all (state ∷ (bs ++ between)) env) (hides calls.ask b (state ∷ (bs ++ between)) env all) s
+      ∙ alike_body calls resolve left running body (bind_all (bs ++ between) (bind b env)) (bind_all (bs ++ between) env) (hides calls.ask b (bs ++ between) env all) s
       ∙ ap (λ e. means body e s) without_it
 
-  each_hides : (body : Statements) (count index : ℕ) (items : List (List Binding)) (s : States V T) → EachBinds name items → each (means body) count index items there s ≡ each (means body) count index items gone s
-  each_hides body count index [] s all = refl
-  each_hides body count index (bs ∷ items) s all = λ i. then_do (turn_hides body index count bs s all.0 i) (λ s'. each_hides body count (index + 1) items s' all.1 i)
+  each_hides : (body : Statements) (turns : List (List Binding)) (s : States V T) → EachBinds name turns → each (means body) turns there s ≡ each (means body) turns gone s
+  each_hides body [] s all = refl
+  each_hides body (bs ∷ turns) s all = λ i. then_do (turn_hides body bs s all.0 i) (λ s'. each_hides body turns s' all.1 i)
 
-  found_hides : (body : Statements) (x : Finding (List (List Binding))) (s : States V T) → FoundBinds name x → each_of (means body) running x there s ≡ each_of (means body) running x gone s
-  found_hides body (found items) s all = each_hides body (length items) 0 items s all
-  found_hides body (at_fault f) s all = refl
-
-  found_or_hides : (body : Statements) (other : Else) (x : Finding (List (List Binding))) (s : States V T) → FoundBinds name x → each_or (means body) (else_means calls (included calls resolve left) running other) running x there s ≡ each_or (means body) (λ e. else_means calls (included calls resolve left) running other there) running x gone s
-  found_or_hides body other (found []) s all = refl
-  found_or_hides body other (found (bs ∷ items)) s all = found_hides body (found (bs ∷ items)) s all
-  found_or_hides body other (at_fault f) s all = refl
+  found_hides : (body : Statements) (other : Else) (x : Finding (List (List Binding))) (s : States V T) → FoundBinds name x → each_or (means body) (else_means calls (included calls resolve left) running other true) running x there s ≡ each_or (means body) (λ e. else_means calls (included calls resolve left) running other true there) running x gone s
+  found_hides body other (found []) s all = refl
+  found_hides body other (found (bs ∷ turns)) s all = each_hides body (bs ∷ turns) s all
+  found_hides body other (at_fault f) s all = refl
 
   pub for_hides : (names : LoopVars) (e : Expression) (body : Statements) (other : Else) (s : States V T) → LoopBinds name names → (ExpressionReads name e → ⊥) →
       statement_means calls (included calls resolve left) running (for_loop names e body other) there s
-      ≡ with_value running s.templates (evaluate calls e gone s.values) (λ v q. over (means body) (λ e. else_means calls (included calls resolve left) running other there) running names (expression_span e) gone v q)
+      ≡ with_value running s.templates (evaluate calls e gone s.values) (λ v q. each_or (means body) (λ e. else_means calls (included calls resolve left) running other true there) running (turns_over (items_of names v (expression_span e))) gone q)
   for_hides names e body other s binds unread =
       λ i. with_value running s.templates (same_expression e unread s.values i)
-      (λ v s'. found_or_hides body other (items_of names v (expression_span e)) s' (items_bind name names v (expression_span e) binds) i)
+      (λ v s'. found_hides body other (turns_over (items_of names v (expression_span e))) s' (turns_bind name names v (expression_span e) binds) i)
 
   pub with_hides : (e : Expression) (word : Ident) (body : Statements) (s : States V T) → word.text ≡ name → (ExpressionReads name e → ⊥) →
       statement_means calls (included calls resolve left) running (with e word body) there s ≡ statement_means calls (included calls resolve left) running (with e word body) gone s
   with_hides e word body s same unread =
       λ i. with_value running s.templates (same_expression e unread s.values i)
-      (λ v s'. alike_body calls resolve left running body (with_name word v there) (with_name word v gone) (hides calls.ask (binding name outer) (binding word.text (plain v) ∷ between) env (inl same)) s' i)
+      (λ v s'. each_hides body ((binding word.text (plain v) ∷ []) ∷ []) s' (inl same, tt) i)

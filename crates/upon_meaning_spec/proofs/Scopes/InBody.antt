@@ -1,18 +1,19 @@
 -- What a path in a body finds: the innermost binding of its name, whatever comes before it in the body.
-use Rattle.std.proofs.Common.{◌≡◌, ℕ, List, [], Some, refl, ap}
+use Rattle.std.proofs.Common.{◌≡◌, ℕ, List, [], Some, refl, ap, ◌∙◌, Bool, true, false}
 use Rattle.upon_types.specs.declared.types.Span.{Span}
 use Rattle.upon_types.specs.Expression.{Expression, base, var}
 use Rattle.upon_types.specs.Path.{Ident, Member, path_span}
-use Rattle.upon_types.specs.Tree.{Statement, Statements, inline_expr, include, statement_then, with}
+use Rattle.upon_types.specs.Tree.{Statement, Statements, inline_expr, include, statement_then, no_else, with}
 use Rattle.upon_lookup.specs.Environment.{Bound, Binding, binding, plain, Environment, bind, bind_all, with_name, alone_over}
 use Rattle.upon_lookup.specs.Lookup.{bound_value}
 use Rattle.upon_meaning_spec.specs.Emission.{emit_value}
 use Rattle.upon_meaning_spec.specs.Engine.{Calls}
 use Rattle.upon_meaning_spec.specs.Evaluation.{with_span, evaluate}
-use Rattle.upon_meaning_spec.specs.Meaning.{RunningTemplate, Inclusion, in_template, with_value, statement_means, statements_mean}
+use Rattle.upon_meaning_spec.specs.Meaning.{RunningTemplate, Inclusion, in_template, with_value, statement_means, statements_mean, else_means}
 use Rattle.upon_meaning_spec.specs.Names.{IsName}
 use Rattle.upon_meaning_spec.specs.Outcome.{States, then_do}
 use Rattle.upon_meaning_spec.specs.Shadowing.{Binds, path_shown}
+use Rattle.upon_meaning_spec.proofs.Turns.{with_turn}
 use Rattle.upon_meaning_spec.proofs.LoopNames.{innermost_answers}
 
 module _ {V T : Type 0} (calls : Calls V) (include_means : Inclusion V T) (running : RunningTemplate) where
@@ -37,7 +38,9 @@ module _ {V T : Type 0} (calls : Calls V) (include_means : Inclusion V T) (runni
       (λ v q. then_do (statement_means calls include_means running t (with_name word v env) q)
       (λ q'. then_do (path_shown calls running first rest (bound_value (plain v) rest) q') (statements_mean calls include_means running ts (with_name word v env))))
   in_with e word env t first rest span ts s is =
-      λ i. with_value running s.templates (evaluate calls e env s.values) (λ v q. in_body word.text [] (plain v) env t first rest span ts q is (λ none. none) i)
+      let body : Statements = statement_then t (statement_then (inline_expr (base (var first rest)) span) ts) in
+      λ i. with_value running s.templates (evaluate calls e env s.values)
+      (λ v q. (with_turn (statements_mean calls include_means running body) (else_means calls include_means running no_else false) running word v env q ∙ in_body word.text [] (plain v) env t first rest span ts q is (λ none. none)) i)
 
   -- an include with a value, in two environments in which the value is the same
   pub boundary : (word : Ident) (e : Expression) (env env' : Environment) (s : States V T) → evaluate calls e env s.values ≡ evaluate calls e env' s.values →

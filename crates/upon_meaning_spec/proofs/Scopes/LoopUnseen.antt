@@ -14,7 +14,7 @@ use Rattle.upon_lookup.specs.Source.{Source}
 use Rattle.upon_meaning_spec.specs.Alone.{included}
 use Rattle.upon_meaning_spec.specs.Engine.{Calls, Resolver}
 use Rattle.upon_meaning_spec.specs.Evaluation.{evaluate}
-use Rattle.upon_meaning_spec.specs.Meaning.{RunningTemplate, with_value, each, each_of, each_or, statement_means, statements_mean, else_means}
+use Rattle.upon_meaning_spec.specs.Meaning.{RunningTemplate, with_value, loop_turns, turns_over, each, each_or, statement_means, statements_mean, else_means}
 use Rattle.upon_meaning_spec.specs.Outcome.{Outcome, States, then_do}
 use Rattle.upon_meaning_spec.specs.Shadowing.{without, items_without}
 use Rattle.upon_meaning_spec.proofs.SameIncludes.{alike_body}
@@ -52,7 +52,7 @@ module _ {V T : Type 0} (calls : Calls V) (resolve : Resolver T) (left : ℕ) (r
   abbrev means : Environment → States V T → Outcome (States V T)
   means e s = statements_mean calls (included calls resolve left) running body e s
 
-  each_unseen : (count index : ℕ) (items : List (List Binding)) (s : States V T) → each means count index items env s ≡ each means count index (map (without (codes "loop")) items) env s
+  each_unseen : (count index : ℕ) (items : List (List Binding)) (s : States V T) → each means (loop_turns count index items) env s ≡ each means (loop_turns count index (map (without (codes "loop")) items)) env s
   each_unseen count index [] s = refl
   each_unseen count index (bs ∷ items) s =
       λ i. then_do
@@ -63,16 +63,14 @@ module _ {V T : Type 0} (calls : Calls V) (resolve : Resolver T) (left : ℕ) (r
   counted [] = refl
   counted (bs ∷ items) = ap suc (counted items)
 
-  found_unseen : (x : Finding (List (List Binding))) (s : States V T) → each_of means running x env s ≡ each_of means running (items_without (codes "loop") x) env s
-  found_unseen (found items) s = each_unseen (length items) 0 items s ∙ ap (λ n. each means n 0 (map (without (codes "loop")) items) env s) (counted items)
-  found_unseen (at_fault f) s = refl
-
-  found_or_unseen : (other : Environment → States V T → Outcome (States V T)) (x : Finding (List (List Binding))) (s : States V T) → each_or means other running x env s ≡ each_or means other running (items_without (codes "loop") x) env s
-  found_or_unseen other (found []) s = refl
-  found_or_unseen other (found (bs ∷ items)) s = found_unseen (found (bs ∷ items)) s
-  found_or_unseen other (at_fault f) s = refl
+  found_unseen : (other : Environment → States V T → Outcome (States V T)) (x : Finding (List (List Binding))) (s : States V T) → each_or means other running (turns_over x) env s ≡ each_or means other running (turns_over (items_without (codes "loop") x)) env s
+  found_unseen other (found []) s = refl
+  found_unseen other (found (bs ∷ items)) s =
+      let without_it : List (List Binding) = map (without (codes "loop")) (bs ∷ items) in
+      each_unseen (length (bs ∷ items)) 0 (bs ∷ items) s ∙ ap (λ n. each means (loop_turns n 0 without_it) env s) (counted (bs ∷ items))
+  found_unseen other (at_fault f) s = refl
 
   pub loop_unseen : (names : LoopVars) (e : Expression) (other : Else) (s : States V T) →
       statement_means calls (included calls resolve left) running (for_loop names e body other) env s
-      ≡ with_value running s.templates (evaluate calls e env s.values) (λ v q. each_or means (else_means calls (included calls resolve left) running other) running (items_without (codes "loop") (items_of names v (expression_span e))) env q)
-  loop_unseen names e other s = λ i. with_value running s.templates (evaluate calls e env s.values) (λ v q. found_or_unseen (else_means calls (included calls resolve left) running other) (items_of names v (expression_span e)) q i)
+      ≡ with_value running s.templates (evaluate calls e env s.values) (λ v q. each_or means (else_means calls (included calls resolve left) running other true) running (turns_over (items_without (codes "loop") (items_of names v (expression_span e)))) env q)
+  loop_unseen names e other s = λ i. with_value running s.templates (evaluate calls e env s.values) (λ v q. found_unseen (else_means calls (included calls resolve left) running other true) (items_of names v (expression_span e)) q i)

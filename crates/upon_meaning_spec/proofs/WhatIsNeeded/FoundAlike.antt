@@ -1,5 +1,5 @@
 -- Environments in which paths that begin so are found alike, under more and more bindings.
-use Rattle.std.proofs.Common.{◌≡◌, ◌⊎◌, ℕ, List, [], ◌∷◌, Bool, true, false, Some, inl, inr, refl, sym, bytes_eq, if◌then◌else◌}
+use Rattle.std.proofs.Common.{◌≡◌, ◌⊎◌, ℕ, List, [], ◌∷◌, map, Bool, true, false, Some, inl, inr, refl, sym, bytes_eq, if◌then◌else◌}
 use Rattle.std.proofs.lemmas.Slice.Eq.{bytes_eq-Decides}
 use Rattle.upon_types.specs.declared.types.Span.{Span}
 use Rattle.upon_types.specs.declared.types.ast.path.AccessOp.{AccessOp}
@@ -10,7 +10,7 @@ use Rattle.upon_lookup.specs.Finding.{Finding, found, at_fault}
 use Rattle.upon_lookup.specs.Lookup.{maybe_bound, bound_value, or_root, lookup}
 use Rattle.upon_lookup.specs.Walk.{as_some}
 use Rattle.upon_lookup.specs.Source.{Source}
-use Rattle.upon_meaning_spec.specs.Needs.{Start, a_name, an_index, IsStart, Hides}
+use Rattle.upon_meaning_spec.specs.Needs.{Start, a_name, an_index, IsStart, Hides, OneHides}
 
 -- how a path begins
 abbrev pub start_of : Access → Start
@@ -27,8 +27,7 @@ Within some starts = (start : Start) → some start → starts start
 
 -- one of the bindings hides it
 abbrev pub HiddenBy : List Binding → Start → Type 0
-HiddenBy [] start = ⊥
-HiddenBy (b ∷ bs) start = Hides b.name start ⊎ HiddenBy bs start
+HiddenBy bs start = OneHides (map (λ (b : Binding). b.name) bs) start
 
 pub begun : (starts : Start → Type 0) (access : Access) → Within (λ start. IsStart start access) starts → starts (start_of access)
 begun starts (by_index n span) h = h an_index tt

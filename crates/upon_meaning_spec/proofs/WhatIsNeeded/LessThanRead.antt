@@ -1,8 +1,9 @@
 -- What is needed is read.
-use Rattle.std.proofs.Common.{◌≡◌, ℕ, List, [], ◌∷◌, Some, None, inl, inr}
+use Rattle.std.proofs.Common.{◌≡◌, ℕ, List, [], ◌∷◌, Some, None, inl, inr, Bool, true, false}
 use Rattle.upon_types.specs.Expression.{Expression, base, filtered, Base, var, literal, list, mapping, paren, call, Bases, no_bases, base_then, Items, no_items, item_then, Arguments, no_arguments, arguments}
 use Rattle.upon_types.specs.Path.{Access, by_index, by_key}
-use Rattle.upon_types.specs.Tree.{Statement, raw, inline_expr, include, if_else, for_loop, with, Statements, no_statements, statement_then, Else, no_else, otherwise}
+use Rattle.upon_types.specs.BlockKinds.{opened_kind, may_have_else}
+use Rattle.upon_types.specs.Tree.{Statement, raw, inline_expr, include, block, Statements, no_statements, statement_then, Else, no_else, otherwise}
 use Rattle.upon_meaning_spec.specs.Engine.{Template, Table}
 use Rattle.upon_meaning_spec.specs.Includes.{StatementIncludes, Includes, ElseIncludes}
 use Rattle.upon_meaning_spec.specs.Names.{IsName, ExpressionReads, BaseReads, BasesRead, ItemsRead, ArgumentsRead, StatementReads, StatementsRead, ElseReads, ReachedTemplate, Reads}
@@ -47,23 +48,19 @@ module _ (name : List ℕ) where
     statement_read (inline_expr e span) h = expression_read e h
     statement_read (include word None) h = h
     statement_read (include word (Some e)) h = expression_read e h
-    statement_read (if_else negated e body other) (inl h) = inl (expression_read e h)
-    statement_read (if_else negated e body other) (inr (inl h)) = inr (inl (statements_read body h))
-    statement_read (if_else negated e body other) (inr (inr h)) = inr (inr (else_read other h))
-    statement_read (for_loop names e body other) (inl h) = inl (expression_read e h)
-    statement_read (for_loop names e body other) (inr (inl h)) = inr (inl (statements_read body h.1))
-    statement_read (for_loop names e body other) (inr (inr h)) = inr (inr (else_read other h))
-    statement_read (with e word body) (inl h) = inl (expression_read e h)
-    statement_read (with e word body) (inr h) = inr (statements_read body h.1)
+    statement_read (block opening e body other) (inl h) = inl (expression_read e h)
+    statement_read (block opening e body other) (inr (inl h)) = inr (inl (statements_read body h.1))
+    statement_read (block opening e body other) (inr (inr h)) = inr (inr (else_read other (may_have_else (opened_kind opening)) h))
 
     statements_read : (ts : Statements) → StatementsBegin (a_name name) ts → StatementsRead name ts
     statements_read no_statements h = h
     statements_read (statement_then t ts) (inl h) = inl (statement_read t h)
     statements_read (statement_then t ts) (inr h) = inr (statements_read ts h)
 
-    else_read : (other : Else) → ElseBegins (a_name name) other → ElseReads name other
-    else_read no_else h = h
-    else_read (otherwise body) h = statements_read body h
+    else_read : (other : Else) (may : Bool) → ElseBegins (a_name name) other may → ElseReads name other may
+    else_read no_else may h = h
+    else_read (otherwise body) false h = h
+    else_read (otherwise body) true h = statements_read body h
 
 -- what is passed on is included
 module _ (start : Start) (via : List ℕ) where
@@ -73,20 +70,18 @@ module _ (start : Start) (via : List ℕ) where
     statement_includes (inline_expr e span) h = h
     statement_includes (include word None) h = h
     statement_includes (include word (Some e)) h = absurd h
-    statement_includes (if_else negated e body other) (inl h) = inl (statements_include body h)
-    statement_includes (if_else negated e body other) (inr h) = inr (else_includes other h)
-    statement_includes (for_loop names e body other) (inl h) = inl (statements_include body h.1)
-    statement_includes (for_loop names e body other) (inr h) = inr (else_includes other h)
-    statement_includes (with e word body) h = statements_include body h.1
+    statement_includes (block opening e body other) (inl h) = inl (statements_include body h.1)
+    statement_includes (block opening e body other) (inr h) = inr (else_includes other (may_have_else (opened_kind opening)) h)
 
-    statements_include : (ts : Statements) → StatementsPass start via ts → Includes via ts
+    pub statements_include : (ts : Statements) → StatementsPass start via ts → Includes via ts
     statements_include no_statements h = h
     statements_include (statement_then t ts) (inl h) = inl (statement_includes t h)
     statements_include (statement_then t ts) (inr h) = inr (statements_include ts h)
 
-    else_includes : (other : Else) → ElsePasses start via other → ElseIncludes via other
-    else_includes no_else h = h
-    else_includes (otherwise body) h = statements_include body h
+    else_includes : (other : Else) (may : Bool) → ElsePasses start via other may → ElseIncludes via other may
+    else_includes no_else may h = h
+    else_includes (otherwise body) false h = h
+    else_includes (otherwise body) true h = statements_include body h
 
 module _ (table : Table) (name : List ℕ) where
   abbrev ReadFar : Statements → Type 0

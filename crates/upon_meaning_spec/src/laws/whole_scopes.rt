@@ -1,6 +1,6 @@
 // Variables, in whole statements: which a `with` or a `for` hides, what its body finds, and what an include with a
 // value sees.
-ghost use Rattle.std.specs.Prelude.{◌≡◌, ℕ, List, Some, codes};
+ghost use Rattle.std.specs.Prelude.{◌≡◌, ℕ, List, Some, true, codes};
 ghost use Rattle.upon_types.specs.declared.types.Span.{Span};
 ghost use Rattle.upon_types.specs.Expression.{Expression, base, var, expression_span};
 ghost use Rattle.upon_types.specs.Path.{Ident, Member, LoopVars};
@@ -12,7 +12,7 @@ ghost use Rattle.upon_lookup.specs.Walk.{walk};
 ghost use Rattle.upon_meaning_spec.specs.Alone.{included};
 ghost use Rattle.upon_meaning_spec.specs.Engine.{Calls, Resolver};
 ghost use Rattle.upon_meaning_spec.specs.Evaluation.{evaluate};
-ghost use Rattle.upon_meaning_spec.specs.Meaning.{RunningTemplate, Inclusion, with_value, each_or, over, statement_means, statements_mean, else_means};
+ghost use Rattle.upon_meaning_spec.specs.Meaning.{RunningTemplate, Inclusion, with_value, turns_over, each_or, statement_means, statements_mean, else_means};
 ghost use Rattle.upon_meaning_spec.specs.Names.{IsName, ExpressionReads};
 ghost use Rattle.upon_meaning_spec.specs.Outcome.{States, then_do};
 ghost use Rattle.upon_meaning_spec.specs.Shadowing.{Binds, LoopBinds, items_without, path_shown};
@@ -38,10 +38,10 @@ pub fn for_hides<V, T>()
         → statement_means calls (included calls resolve left) running (for_loop names e body other)
         (bind_all between (bind (binding name outer) env)) s
         ≡ with_value running s.templates (evaluate calls e (bind_all between env) s.values)
-        (λ v q. over (statements_mean calls (included calls resolve left) running body)
-        (λ _. else_means calls (included calls resolve left) running other
+        (λ v q. each_or (statements_mean calls (included calls resolve left) running body)
+        (λ _. else_means calls (included calls resolve left) running other true
         (bind_all between (bind (binding name outer) env)))
-        running names (expression_span e) (bind_all between env) v q) }
+        running (turns_over (items_of names v (expression_span e))) (bind_all between env) q) }
 {}
 
 /// In the body of a `with`, after any statement, a path that begins with its name is one in its value. So a variable
@@ -97,8 +97,8 @@ pub fn loop_variable_hidden<V, T>()
         → statement_means calls (included calls resolve left) running (for_loop names e body other) env s
         ≡ with_value running s.templates (evaluate calls e env s.values)
         (λ v q. each_or (statements_mean calls (included calls resolve left) running body)
-        (else_means calls (included calls resolve left) running other) running
-        (items_without (codes "loop") (items_of names v (expression_span e))) env q) }
+        (else_means calls (included calls resolve left) running other true) running
+        (turns_over (items_without (codes "loop") (items_of names v (expression_span e)))) env q) }
 {}
 
 /// States that an include with a value means the same in all environments in which the value is the same: nothing else

@@ -69,7 +69,7 @@ abbrev inner_plan : List Planned
 inner_plan = planned (codes "tree") (scope_over page) ∷ planned (codes "tree") (inside leaf) ∷ planned (codes "tree") (inside never) ∷ []
 
 inner_closed : IsClosed declared (held inner_tree) inner_plan
-inner_closed = ((refl, ((((refl, tt), tt), tt), tt)), ((refl, ((((refl, tt), tt), tt), tt)), ((refl, ((((refl, tt), tt), tt), tt)), tt)))
+inner_closed = ((refl, (((((refl, tt), tt), tt), tt), tt)), ((refl, (((((refl, tt), tt), tt), tt), tt)), ((refl, (((((refl, tt), tt), tt), tt), tt)), tt)))
 
 inner_grown : AcceptedBy declared inner_plan (template (includes (codes "tree") ∷ [])) page
 inner_grown = (refl, tt)

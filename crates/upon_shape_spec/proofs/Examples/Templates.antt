@@ -64,7 +64,7 @@ maybe_first_text = (refl, tt)
 
 -- `{% with user.name as n %}{{ n }}{% endwith %}`
 with_a_name : accepted (with_as (path (codes "user") (dot (codes "name") ∷ [])) (codes "n") (show (name (codes "n")) ∷ []) ∷ []) user
-with_a_name = ((refl, tt), tt)
+with_a_name = (((refl, tt), tt), tt)
 
 -- `{% for x in [1, "a"] %}{{ x }}{% endfor %}`
 list_of_two_kinds : accepted (for_each (codes "x") (list_literal (number (pos 1) ∷ quote (codes "a") ∷ [])) (show (name (codes "x")) ∷ []) ∷ []) user
@@ -72,7 +72,7 @@ list_of_two_kinds = (((refl, tt), tt), tt)
 
 -- `{% with {"a": 1} as m %}{{ m.a }}{% endwith %}`
 map_literal_key : accepted (with_as (map_literal ((codes "a", number (pos 1)) ∷ [])) (codes "m") (show (path (codes "m") (dot (codes "a") ∷ [])) ∷ []) ∷ []) user
-map_literal_key = ((refl, tt), tt)
+map_literal_key = (((refl, tt), tt), tt)
 
 -- `{{ user.name | upper }}`, where `upper` takes a text
 a_filter : accepted (shows (filter_of (path (codes "user") (dot (codes "name") ∷ [])) (codes "upper")) ∷ []) user

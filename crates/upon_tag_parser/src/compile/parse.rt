@@ -3,6 +3,7 @@ pub mod base;
 pub mod brackets;
 pub mod expression;
 pub mod instructions;
+pub mod kind;
 pub mod list;
 pub mod path;
 pub mod scalar;

@@ -1,55 +1,25 @@
 // The blocks that are open at an offset of a template, and what a tag does to them.
 ghost use Rattle.std.specs.Prelude.{◌≡◌, [], ◌∷◌, ◌++◌, true, false, option_map, string_bytes, codes, IfOk};
 ghost use Rattle.std.specs.Prelude.{MatchOption};
-ghost use Rattle.upon_language_spec.specs.Blocks.{takes, block_takes, if_takes, for_takes, after_closer, outermost, block_word};
-ghost use Rattle.upon_language_spec.specs.Blocks.{closer_words, plain_else, end_if};
+ghost use Rattle.upon_types.specs.BlockKinds.{Block, block_word};
+ghost use Rattle.upon_language_spec.specs.Blocks.{takes, block_takes, after_closer, outermost};
+ghost use Rattle.upon_language_spec.specs.Blocks.{closer_words, plain_else, end_of};
 ghost use Rattle.upon_language_spec.specs.Wanted.{in_quotes};
-ghost use Rattle.upon_tag_parser.specs.BlockTags.{BlockTag, Keeps};
-ghost use Rattle.upon_syntax.specs.OpenBlocks.{block_kind, closer_view, block_of, new_block, after_tag, HasEffect, IsTaken};
-ghost use Rattle.upon_syntax.specs.OpenBlocks.{IsUntaken};
+ghost use Rattle.upon_tag_parser.specs.BlockTags.{BlockTag, Keeps, block_kind};
+ghost use Rattle.upon_syntax.specs.OpenBlocks.{closer_view, block_of, new_block, after_tag, HasEffect, IsTaken, IsUntaken};
 
 use std::alloc::{AllocError, Global};
+use upon_tag_parser::compile::parse::kind::Kind;
 use upon_tag_parser::compile::parse::tag::Tag;
 use upon_types::types::Span;
-
-/// A kind of block.
-#[derive(Clone, Copy, Debug, PartialEq, Eq)]
-pub enum Kind {
-    If,
-    For,
-    With,
-}
-
-impl Kind {
-    // The word that begins its tag.
-    fn word(self) -> &'static str
-        ensures { result.now ≡ block_word (block_kind self) }
-    {
-        match self {
-            Kind::If => "if",
-            Kind::For => "for",
-            Kind::With => "with",
-        }
-    }
-
-    /// Returns the reason if the text ends with such a block open.
-    pub fn reason(self, alloc: Global) -> Result<String, AllocError>
-        ensures { IfOk result (λ reason. string_bytes reason
-            ≡ codes "unclosed " ++ (in_quotes (block_word (block_kind self)) ++ codes " block")) }
-    {
-        let word = self.word();
-        format!(in alloc; "unclosed `{word}` block")
-    }
-}
 
 /// A tag that closes a block, or one of its branches.
 #[derive(Clone, Copy, Debug, PartialEq, Eq)]
 pub enum Closing {
     ElseIf,
     Else,
-    EndIf,
-    EndFor,
-    EndWith,
+    /// The last tag of a block of this kind.
+    End(Kind),
 }
 
 impl Closing {
@@ -60,9 +30,7 @@ impl Closing {
         match self {
             Closing::ElseIf => "else if",
             Closing::Else => "else",
-            Closing::EndIf => "endif",
-            Closing::EndFor => "endfor",
-            Closing::EndWith => "endwith",
+            Closing::End(kind) => kind.end_word(),
         }
     }
 
@@ -97,9 +65,7 @@ pub fn effect_of(tag: &Tag) -> Effect
         Tag::With(_) => Effect::Opens(Kind::With),
         Tag::ElseIf(_) => Effect::Closes(Closing::ElseIf),
         Tag::Else => Effect::Closes(Closing::Else),
-        Tag::EndIf => Effect::Closes(Closing::EndIf),
-        Tag::EndFor => Effect::Closes(Closing::EndFor),
-        Tag::EndWith => Effect::Closes(Closing::EndWith),
+        Tag::End(kind) => Effect::Closes(Closing::End(*kind)),
         Tag::Include(_) => Effect::Nothing,
         Tag::IncludeWith(_) => Effect::Nothing,
     }
@@ -118,37 +84,20 @@ impl OpenBlock {
     fn takes(self, closer: Closing) -> bool
         ensures { result ≡ block_takes (block_kind self.kind) self.has_else (closer_view closer) }
     {
-        match self.kind {
-            Kind::If => if_takes(self.has_else, closer),
-            Kind::For => for_takes(self.has_else, closer),
-            Kind::With => matches!(closer, Closing::EndWith),
+        match closer {
+            Closing::ElseIf => !self.has_else && self.kind.may_have_else_if(),
+            Closing::Else => !self.has_else && self.kind.may_have_else(),
+            Closing::End(ended) => self.kind == ended,
         }
     }
-}
 
-// Whether a `for` takes a closing tag.
-fn for_takes(has_else: bool, closer: Closing) -> bool
-    ensures { result ≡ for_takes has_else (closer_view closer) }
-{
-    match closer {
-        Closing::EndFor => true,
-        Closing::Else => !has_else,
-        Closing::ElseIf => false,
-        Closing::EndIf => false,
-        Closing::EndWith => false,
-    }
-}
-
-// Whether an `if` takes a closing tag.
-fn if_takes(has_else: bool, closer: Closing) -> bool
-    ensures { result ≡ if_takes has_else (closer_view closer) }
-{
-    match closer {
-        Closing::EndIf => true,
-        Closing::ElseIf => !has_else,
-        Closing::Else => !has_else,
-        Closing::EndFor => false,
-        Closing::EndWith => false,
+    /// Returns the reason if the text ends with it open.
+    pub fn reason(self, alloc: Global) -> Result<String, AllocError>
+        ensures { IfOk result (λ reason. string_bytes reason
+            ≡ codes "unclosed " ++ (in_quotes (block_word (block_kind self.kind)) ++ codes " block")) }
+    {
+        let word = self.kind.word();
+        format!(in alloc; "unclosed `{word}` block")
     }
 }
 
@@ -200,9 +149,7 @@ impl OpenBlocks {
         match closer {
             Closing::ElseIf => {}
             Closing::Else => self.begin_else(),
-            Closing::EndIf => self.pop(),
-            Closing::EndFor => self.pop(),
-            Closing::EndWith => self.pop(),
+            Closing::End(_) => self.pop(),
         }
     }
 
@@ -252,7 +199,7 @@ impl OpenBlocks {
 
     // The innermost block is closed.
     fn pop(&mut self)
-        ensures { stack_of self.new ≡ after_closer end_if (stack_of self.old) }
+        ensures { (kind : Block) → stack_of self.new ≡ after_closer (end_of kind) (stack_of self.old) }
     {
         self.blocks.pop();
     }

@@ -5,15 +5,17 @@ ghost use Rattle.upon_types.specs.Span.{LiesIn};
 ghost use Rattle.upon_types.specs.Error.{fault_of};
 ghost use Rattle.upon_types.specs.Fault.{OrMemory};
 ghost use Rattle.upon_types.specs.declared.types.token.Token.TheVariants.{BeginExpr, BeginBlock};
-ghost use Rattle.upon_language_spec.specs.Blocks.{block_word, closer_words};
+ghost use Rattle.upon_types.specs.BlockKinds.{block_word};
+ghost use Rattle.upon_language_spec.specs.Blocks.{closer_words};
 ghost use Rattle.upon_language_spec.specs.Cut.{Lexeme};
 ghost use Rattle.upon_language_spec.specs.Faults.{span_of};
 ghost use Rattle.upon_language_spec.specs.Lexing.{LexerState};
 ghost use Rattle.upon_language_spec.specs.Wanted.{in_quotes};
 ghost use Rattle.upon_lexer.specs.Lexers.{lexer_text};
 ghost use Rattle.upon_delimiters.specs.Searcher.{searcher_delimiters};
+ghost use Rattle.upon_tag_parser.specs.BlockTags.{block_kind};
 ghost use Rattle.upon_syntax.specs.CommentReasons.{comment_reason};
-ghost use Rattle.upon_syntax.specs.OpenBlocks.{block_kind, closer_view};
+ghost use Rattle.upon_syntax.specs.OpenBlocks.{closer_view};
 ghost use Rattle.upon_syntax.specs.declared.compile.parse.piece.Piece.TheVariants.{InlineExpr, Block};
 ghost use Rattle.upon_syntax.specs.TagEnds.{syntax_fault};
 ghost use Rattle.upon_syntax.specs.TagReaders.{reader_text};
@@ -221,7 +223,7 @@ impl<'a> PieceReader<'a> {
             (codes "unclosed " ++ (in_quotes (block_word (block_kind block.kind)) ++ codes " block")))
             (fault_of result) }
     {
-        let reason = block.kind.reason(self.alloc);
+        let reason = block.reason(self.alloc);
         syntax_error(self.alloc, self.source, block.span, reason)
     }
 

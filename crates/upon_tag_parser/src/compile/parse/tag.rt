@@ -14,12 +14,13 @@ ghost use Rattle.upon_tag_parser.specs.WholeTags.{LeadsToEnd, HoldsInline, Holds
 ghost use Rattle.upon_tag_parser.specs.WholeTags.{ReadsLoopVars, IsTooLong, NoOpeningWord};
 
 use crate::compile::parse::instructions::show;
+use crate::compile::parse::kind::Kind;
 use crate::compile::parse::path::{Failure, Parsed, TagParser, take};
 use crate::compile::parse::want::Want;
 use upon_instructions::types::program::Instr;
 use upon_literals::literal::Lexed;
 use upon_types::types::ast::{self, Ident, KeyValue, LoopVars};
-use upon_types::types::{Span, Token};
+use upon_types::types::{Span, Token, slice};
 
 /// What is in the tag of a block, without its expression: the instructions of that are appended.
 #[derive(Drop)]
@@ -29,13 +30,12 @@ pub enum Tag {
     /// Whether `not` is before the condition.
     ElseIf(bool),
     Else,
-    EndIf,
     /// The loop's variables, and where the iterable is.
     For(Box<LoopVars>, Span),
-    EndFor,
     /// The name of the value.
     With(Ident),
-    EndWith,
+    /// The kind of the block that ends.
+    End(Kind),
     /// The name of a template that sees all names.
     Include(ast::String),
     /// The name of a template that sees a value alone.
@@ -125,15 +125,12 @@ impl<'a> TagParser<'a> {
         ensures stuck { NoOpeningWord self.now.source.now (lexemes_of tokens.now)
             → IfStuck result (IsStuck self.now.source.now (block_word ∷ []) tokens.now) }
     {
-        if let Some((_, rest)) = self.take_keyword("endif", tokens) {
-            return Ok((Tag::EndIf, rest));
-        }
-        if let Some((_, rest)) = self.take_keyword("endfor", tokens) {
-            return Ok((Tag::EndFor, rest));
-        }
-        match self.take_keyword("endwith", tokens) {
+        let Some((span, rest)) = take(Token::Keyword, tokens) else {
+            return Err(Failure::Stuck(Want::BlockWord, tokens));
+        };
+        match Kind::ended_by(slice(self.source, span)) {
             None => Err(Failure::Stuck(Want::BlockWord, tokens)),
-            Some((_, rest)) => Ok((Tag::EndWith, rest)),
+            Some(kind) => Ok((Tag::End(kind), rest)),
         }
     }
 

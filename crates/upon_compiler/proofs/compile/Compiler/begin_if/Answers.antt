@@ -5,7 +5,7 @@ use Rattle.upon_compiler.specs.declared.compile.OpenBlock.TheVariants.{If}
 use Rattle.upon_compiler.proofs.compile.Compiler.begin_if.Goals as goal
 
 pub returns-clause-state : goal.returns-clause-state
-returns-clause-state c =
+returns-clause-state c = λ at.
     same_state _ _ _ _
     (c.enter.ensures.code ∙ c.in_ok-push.ensures.code ∙ ap (λ x. x ++ jump 0 ∷ []) c.in_ok-append.ensures.code)
     (one_block (If c.args.not) _ _ _ _ _ c.in_ok-enter.ensures.blocks (c.len-start.ensures ∙ ap length c.in_ok-append.ensures.code)

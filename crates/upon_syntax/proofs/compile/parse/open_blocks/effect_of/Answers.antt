@@ -17,14 +17,8 @@ returns-in-ElseIf c = λ told keeps. let kept = rw c.in-ElseIf.is at keeps in (a
 pub returns-in-Else : goal.returns-in-Else
 returns-in-Else c = λ told keeps. let kept = rw c.in-Else.is at keeps in (ap opened_by kept, ap closed_by kept)
 
-pub returns-in-EndIf : goal.returns-in-EndIf
-returns-in-EndIf c = λ told keeps. let kept = rw c.in-EndIf.is at keeps in (ap opened_by kept, ap closed_by kept)
-
-pub returns-in-EndFor : goal.returns-in-EndFor
-returns-in-EndFor c = λ told keeps. let kept = rw c.in-EndFor.is at keeps in (ap opened_by kept, ap closed_by kept)
-
-pub returns-in-EndWith : goal.returns-in-EndWith
-returns-in-EndWith c = λ told keeps. let kept = rw c.in-EndWith.is at keeps in (ap opened_by kept, ap closed_by kept)
+pub returns-in-End : goal.returns-in-End
+returns-in-End c = λ told keeps. let kept = rw c.in-End.is at keeps in (ap opened_by kept, ap closed_by kept)
 
 pub returns-in-Include : goal.returns-in-Include
 returns-in-Include c = λ told keeps. let kept = rw c.in-Include.is at keeps in (ap opened_by kept, ap closed_by kept)

@@ -1,9 +1,11 @@
 use Rattle.std.proofs.Common.{ap, sym, ◌∙◌}
 use Rattle.std.proofs.lemmas.Result.{IfOk-equal}
 use Rattle.upon_types.specs.AstPath.{ident_of, loop_vars_of, string_of}
+use Rattle.upon_types.specs.BlockKinds.{if_tag, for_tag, with_tag}
+use Rattle.upon_types.specs.Expression.{expression_span}
 use Rattle.upon_compiler.specs.After.{after_event}
 use Rattle.upon_compiler.specs.Compiler.{compiler_state}
-use Rattle.upon_compiler.specs.Events.{if_event, else_if_event, for_event, with_event, include_with_event}
+use Rattle.upon_compiler.specs.Events.{else_if_event, opening_event, include_with_event}
 use Rattle.upon_tag_parser.specs.BlockTags.{tag_code}
 use Rattle.upon_syntax.specs.Told.{tag_event}
 use Rattle.upon_syntax.proofs.Told.{holds_on_ok, none_left}
@@ -13,8 +15,9 @@ pub returns-in-If-clause-state : goal.returns-in-If-clause-state
 returns-in-If-clause-state c = λ told keeps code.
     let kept = rw c.in-If.is at keeps in
     let old = compiler_state c.args.compiler.now in
-    let event = ap (if_event c.in-If.not) (code ∙ ap tag_code kept.1) ∙ ap tag_event (sym kept.1) in
-    IfOk-equal c.begin_if.result _ _ _ c.begin_if.ensures.state (ap (λ e. after_event e old) event)
+    let at = expression_span kept.0 in
+    let event = ap (opening_event (if_tag c.in-If.not) at) (code ∙ ap tag_code kept.1) ∙ ap tag_event (sym kept.1) in
+    IfOk-equal c.begin_if.result _ _ _ (c.begin_if.ensures.state at) (ap (λ e. after_event e old) event)
 
 pub returns-in-ElseIf-clause-state : goal.returns-in-ElseIf-clause-state
 returns-in-ElseIf-clause-state c = λ told keeps code.
@@ -34,54 +37,33 @@ returns-in-Else-clause-moved c = λ told keeps code.
     let kept = rw c.in-Else.is at keeps in
     holds_on_ok c.begin_else.result (none_left c.args.code.now.items (code ∙ ap tag_code kept))
 
-pub returns-in-EndIf-clause-state : goal.returns-in-EndIf-clause-state
-returns-in-EndIf-clause-state c = λ told keeps code.
-    let kept = rw c.in-EndIf.is at keeps in
-    let old = compiler_state c.args.compiler.now in
-    c.end_if.ensures ∙ ap (λ t. after_event (tag_event t) old) (sym kept)
-
-pub returns-in-EndIf-clause-moved : goal.returns-in-EndIf-clause-moved
-returns-in-EndIf-clause-moved c = λ told keeps code.
-    let kept = rw c.in-EndIf.is at keeps in
-    none_left c.args.code.now.items (code ∙ ap tag_code kept)
-
 pub returns-in-For-clause-state : goal.returns-in-For-clause-state
 returns-in-For-clause-state c = λ told keeps code.
     let kept = rw c.in-For.is at keeps in
     let old = compiler_state c.args.compiler.now in
     let names = loop_vars_of c.in-For.vars.value in
     let all = code ∙ ap tag_code kept.1 in
-    let event = (λ i. for_event names (kept.2 i) (all i)) ∙ ap tag_event (sym kept.1) in
+    let event = (λ i. opening_event (for_tag names) (kept.2 i) (all i)) ∙ ap tag_event (sym kept.1) in
     IfOk-equal c.begin_for.result _ _ _ c.begin_for.ensures.state (ap (λ e. after_event e old) event)
 
-pub returns-in-EndFor-clause-state : goal.returns-in-EndFor-clause-state
-returns-in-EndFor-clause-state c = λ told keeps code.
-    let kept = rw c.in-EndFor.is at keeps in
+pub returns-in-End-clause-state : goal.returns-in-End-clause-state
+returns-in-End-clause-state c = λ told keeps code.
+    let kept = rw c.in-End.is at keeps in
     let old = compiler_state c.args.compiler.now in
-    IfOk-equal c.end_for.result _ _ _ c.end_for.ensures (ap (λ t. after_event (tag_event t) old) (sym kept))
+    IfOk-equal c.tell_end.result _ _ _ c.tell_end.ensures (ap (λ t. after_event (tag_event t) old) (sym kept))
 
-pub returns-in-EndFor-clause-moved : goal.returns-in-EndFor-clause-moved
-returns-in-EndFor-clause-moved c = λ told keeps code.
-    let kept = rw c.in-EndFor.is at keeps in
-    holds_on_ok c.end_for.result (none_left c.args.code.now.items (code ∙ ap tag_code kept))
+pub returns-in-End-clause-moved : goal.returns-in-End-clause-moved
+returns-in-End-clause-moved c = λ told keeps code.
+    let kept = rw c.in-End.is at keeps in
+    holds_on_ok c.tell_end.result (none_left c.args.code.now.items (code ∙ ap tag_code kept))
 
 pub returns-in-With-clause-state : goal.returns-in-With-clause-state
 returns-in-With-clause-state c = λ told keeps code.
     let kept = rw c.in-With.is at keeps in
     let old = compiler_state c.args.compiler.now in
-    let event = ap (with_event (ident_of c.in-With.name)) (code ∙ ap tag_code kept.1) ∙ ap tag_event (sym kept.1) in
-    IfOk-equal c.begin_with.result _ _ _ c.begin_with.ensures.state (ap (λ e. after_event e old) event)
-
-pub returns-in-EndWith-clause-state : goal.returns-in-EndWith-clause-state
-returns-in-EndWith-clause-state c = λ told keeps code.
-    let kept = rw c.in-EndWith.is at keeps in
-    let old = compiler_state c.args.compiler.now in
-    IfOk-equal c.end_with.result _ _ _ c.end_with.ensures (ap (λ t. after_event (tag_event t) old) (sym kept))
-
-pub returns-in-EndWith-clause-moved : goal.returns-in-EndWith-clause-moved
-returns-in-EndWith-clause-moved c = λ told keeps code.
-    let kept = rw c.in-EndWith.is at keeps in
-    holds_on_ok c.end_with.result (none_left c.args.code.now.items (code ∙ ap tag_code kept))
+    let at = expression_span kept.0 in
+    let event = ap (opening_event (with_tag (ident_of c.in-With.name)) at) (code ∙ ap tag_code kept.1) ∙ ap tag_event (sym kept.1) in
+    IfOk-equal c.begin_with.result _ _ _ (c.begin_with.ensures.state at) (ap (λ e. after_event e old) event)
 
 pub returns-in-Include-clause-state : goal.returns-in-Include-clause-state
 returns-in-Include-clause-state c = λ told keeps code.

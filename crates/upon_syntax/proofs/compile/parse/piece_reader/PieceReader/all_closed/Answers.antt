@@ -1,10 +1,11 @@
 use Rattle.std.proofs.Common.{ℕ, List, sym, subst, codes, ◌++◌}
 use Rattle.std.specs.Str.{IsUtf8}
 use Rattle.std.proofs.lemmas.Str.{IsUtf8-had}
-use Rattle.upon_language_spec.specs.Blocks.{block_word}
+use Rattle.upon_types.specs.BlockKinds.{block_word}
 use Rattle.upon_language_spec.specs.Wanted.{in_quotes}
-use Rattle.upon_syntax.specs.declared.compile.parse.open_blocks.Kind.{Kind}
-use Rattle.upon_syntax.specs.OpenBlocks.{block_kind, block_of}
+use Rattle.upon_tag_parser.specs.declared.compile.parse.kind.Kind.{Kind}
+use Rattle.upon_tag_parser.specs.BlockTags.{block_kind}
+use Rattle.upon_syntax.specs.OpenBlocks.{block_of}
 use Rattle.upon_syntax.specs.PieceReading.{text_of_reader, pieces_delimiters, pieces_state, pieces_blocks}
 use Rattle.upon_syntax.proofs.BlockFaults.{first_lies_in, none_open, unclosed_first}
 use Rattle.upon_syntax.proofs.NextTokens.{said_first}

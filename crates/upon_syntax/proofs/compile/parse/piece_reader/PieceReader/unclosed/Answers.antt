@@ -1,9 +1,9 @@
 use Rattle.std.proofs.Common.{ℕ, List, ◌++◌, sym, subst, codes}
 use Rattle.upon_types.specs.Error.{fault_of}
 use Rattle.upon_types.specs.Fault.{OrMemory}
-use Rattle.upon_language_spec.specs.Blocks.{block_word}
+use Rattle.upon_types.specs.BlockKinds.{block_word}
 use Rattle.upon_language_spec.specs.Wanted.{in_quotes}
-use Rattle.upon_syntax.specs.OpenBlocks.{block_kind}
+use Rattle.upon_tag_parser.specs.BlockTags.{block_kind}
 use Rattle.upon_syntax.specs.TagEnds.{syntax_fault}
 use Rattle.upon_syntax.proofs.compile.parse.piece_reader.PieceReader.unclosed.Goals as goal
 

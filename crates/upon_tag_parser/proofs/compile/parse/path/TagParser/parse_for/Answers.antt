@@ -11,7 +11,8 @@ use Rattle.std.proofs.Common.{codes}
 use Rattle.upon_types.specs.AstPath.{loop_vars_of}
 use Rattle.upon_language_spec.specs.Wanted.{an_in}
 use Rattle.upon_language_spec.proofs.Wanted.ExpressionsLead.{leads_then, leads_key}
-use Rattle.upon_tag_parser.specs.BlockTags.{for_tag}
+use Rattle.upon_tag_parser.specs.BlockTags.{opening_tag}
+use Rattle.upon_types.specs.BlockKinds.{for_tag}
 use Rattle.upon_tag_parser.proofs.Stuck.{stuck_here, stuck_then}
 use Rattle.upon_tag_parser.proofs.BaseStarts.{base_starts}
 use Rattle.upon_tag_parser.proofs.Tags.{for_reads}
@@ -38,9 +39,9 @@ returns-in_ok-names-in-Some-clause-tag c before g =
     let x = c.in_ok-span-in-Some.ensures.expression in
     let vars = loop_vars_of c.in_ok-vars.vars in
     record {
-      tree = for_tag vars x.tree;
+      tree = opening_tag (for_tag vars) x.tree;
       reads = for_reads c.args.self.now.source.now vars x.tree before (lexemes_of c.args.tokens.now) (lexemes_of c.in_ok-vars.rest.now) (lexemes_of c.in-Some.rest.now) (lexemes_of c.in_ok-span-in-Some.left.now) g c.in_ok-vars.ensures.vars (_, c.in-Some.ensures.word) x.reads;
-      keeps = (x.tree, ap (λ v. for_tag (loop_vars_of v) x.tree) (sym c.in_ok-names-in-Some.ensures.ok), x.is_at);
+      keeps = (x.tree, ap (λ v. opening_tag (for_tag (loop_vars_of v)) x.tree) (sym c.in_ok-names-in-Some.ensures.ok), x.is_at);
       code = x.code;
     }
 

@@ -13,7 +13,8 @@ use Rattle.upon_tag_parser.proofs.Stops.{rest_on}
 use Rattle.std.proofs.Common.{codes, append-nil}
 use Rattle.upon_language_spec.specs.Tokens.{GoesKeyword}
 use Rattle.upon_language_spec.proofs.Wanted.ExpressionsLead.{leads_key}
-use Rattle.upon_tag_parser.specs.BlockTags.{if_tag}
+use Rattle.upon_tag_parser.specs.BlockTags.{opening_tag}
+use Rattle.upon_types.specs.BlockKinds.{if_tag}
 use Rattle.upon_tag_parser.specs.WholeTags.{TagRead, ClosingRead}
 use Rattle.upon_tag_parser.proofs.Stuck.{stuck_then}
 use Rattle.upon_tag_parser.proofs.Tags.{if_reads}
@@ -31,7 +32,7 @@ returns-in-Some-clause-tag c =
     let x = c.in_ok-not.ensures.condition in
     let negated = c.in_ok-not.not in
     record {
-      tree = if_tag negated x.tree;
+      tree = opening_tag (if_tag negated) x.tree;
       reads = if_reads c.args.self.now.source.now negated x.tree (lexemes_of c.args.tokens.now) (lexemes_of c.in-Some.rest.now) (lexemes_of c.in_ok-not.left.now) (_, c.in-Some.ensures.word) x.reads;
       keeps = (x.tree, refl);
       code = x.code;

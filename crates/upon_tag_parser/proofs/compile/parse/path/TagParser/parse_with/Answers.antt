@@ -10,7 +10,8 @@ use Rattle.upon_tag_parser.specs.TagParsing.{IsStuck, IsRefused}
 use Rattle.upon_tag_parser.specs.Brackets.{StuckFrom}
 use Rattle.upon_tag_parser.proofs.TagTokens.{rest_then, tokens_rest}
 use Rattle.upon_tag_parser.proofs.Stuck.{handed_on}
-use Rattle.upon_tag_parser.specs.BlockTags.{with_tag}
+use Rattle.upon_tag_parser.specs.BlockTags.{opening_tag}
+use Rattle.upon_types.specs.BlockKinds.{with_tag}
 use Rattle.upon_tag_parser.proofs.Stuck.{stuck_then, refused_here}
 use Rattle.upon_tag_parser.proofs.BaseStarts.{base_starts}
 use Rattle.upon_tag_parser.proofs.Tags.{with_reads, as_leads, as_stuck, as_name_refused}
@@ -49,7 +50,7 @@ returns-in_ok-name-in-Some-clause-tag c before g =
     let x = c.in_ok-rest.ensures.expression in
     let name = ident_of c.in_ok-name-in-Some.name in
     record {
-      tree = with_tag x.tree name;
+      tree = opening_tag (with_tag name) x.tree;
       reads = with_reads c.args.self.now.source.now x.tree name before (lexemes_of c.args.tokens.now) (lexemes_of c.in_ok-rest.rest.now) (lexemes_of c.in-Some.rest.now) (lexemes_of c.in_ok-name-in-Some.left.now) g x.reads (_, c.in-Some.ensures.word) c.in_ok-name-in-Some.ensures.name;
       keeps = (x.tree, refl);
       code = x.code;
