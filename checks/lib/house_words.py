@@ -1,6 +1,12 @@
 """What checks/house counts in words: the files that speak of each kind of statement, and long lines."""
+import glob
+import os
 import re
 
+TOP = os.path.dirname(os.path.dirname(os.path.dirname(os.path.abspath(__file__))))
+# Where a kind of statement may be named: in code, in definitions, and in what is about these.
+CODE, DEFINITIONS = "crates/*/src/**/*.rt", "crates/*/specs/**/*.antt"
+ABOUT_THEM = ("crates/*/proofs/**/*.antt", "conformance/**/*.py", "docs/**/*.md")
 # What is no name: comments, and the samples of templates in pages, cases and tests.
 ASIDE = re.compile(r"\{%.*?%\}|^ *(?:--|//).*$", re.M)
 IMPORT = re.compile(r" *(?:ghost |pub )*use ")
@@ -23,18 +29,27 @@ KINDS = (
 UNTOUCHED = ("crates/upon_before_spec/", "docs/proof/DEFINITIONS.md")
 
 
-def name_each_kind(sources):
+def sources(*patterns):
+    """Returns the files of some patterns below the top, each with its text, in order."""
+    found = []
+    for path in sorted(path for pattern in patterns for path in glob.glob(pattern, root_dir=TOP, recursive=True)):
+        with open(os.path.join(TOP, path), encoding="utf-8") as file:
+            found.append((path, file.read()))
+    return found
+
+
+def name_each_kind(files):
     """The files that name each kind of statement: a new one, which is a kind more, touches these."""
-    for path, text in sources:
+    for path, text in files:
         code = ASIDE.sub("", text)
         if not path.startswith(UNTOUCHED) and all(it.search(code) for it in KINDS):
             yield path
 
 
-def long_lines(sources, most):
+def long_lines(files, most):
     """The lines that have more columns than that: those that bring in no names, and those that do."""
     found, imports = [], []
-    for path, text in sources:
+    for path, text in files:
         for number, line in enumerate(text.split("\n"), 1):
             if len(line) > most:
                 (imports if IMPORT.match(line) else found).append(f"{path}:{number}: {len(line)} columns")
