@@ -332,14 +332,15 @@ pub struct Syntax {
     ghost is_trie: { nodes_list nodes ≡ nodes_of (entries_list entries) },
 }
 
-impl Syntax {
+impl Default for Syntax {
     ghost use Rattle.upon_delimiters.specs.DefaultSyntax.{IsDefault};
     ghost use Rattle.upon_delimiters.specs.Syntax.{syntax_delimiters};
-    ghost use Rattle.upon_delimiters.specs.Builder.{builder_texts};
+
+    ghost is_default = { λ syntax. IsDefault syntax };
 
     /// Creates the default syntax: `{{ }}`, `{% %}` and `{# #}`, each also with a hyphen inside. It is the same as the
     /// syntax that is built of these pairs.
-    pub fn default() -> Syntax
+    fn default() -> Syntax
         ensures list { syntax_delimiters result ≡ default_delimiters }
         ensures built { syntax_delimiters result ≡ built_delimiters usual_texts }
         ensures itself { IsDefault result }
@@ -349,6 +350,12 @@ impl Syntax {
             nodes: Nodes::Default,
         }
     }
+}
+
+impl Syntax {
+    ghost use Rattle.upon_delimiters.specs.DefaultSyntax.{IsDefault};
+    ghost use Rattle.upon_delimiters.specs.Syntax.{syntax_delimiters};
+    ghost use Rattle.upon_delimiters.specs.Builder.{builder_texts};
 
     /// Creates a builder of a syntax, in which nothing is set.
     pub fn builder<'a>() -> SyntaxBuilder<'a>

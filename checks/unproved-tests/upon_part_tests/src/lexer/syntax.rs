@@ -26,6 +26,18 @@ fn usual_pairs_are_the_default(rt: HostRuntime) -> Result<(), Fail> {
     Ok(())
 }
 
+// The default of a type, by its trait alone.
+fn default_of<T: Default>() -> T {
+    T::default()
+}
+
+#[test]
+fn default_by_its_trait(rt: HostRuntime) -> Result<(), Fail> {
+    let default: Syntax = default_of();
+    assert!(rt; default == Syntax::default());
+    Ok(())
+}
+
 #[test]
 fn order_of_setting(rt: HostRuntime) -> Result<(), Fail> {
     let mut builder = Syntax::builder();
