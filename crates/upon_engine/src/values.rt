@@ -98,7 +98,7 @@ impl<'r, T: TemplateSource<'r>> Values<'r, T> for Context<'r> {
         templates: T,
         out: &mut W,
     ) -> (Result<Ending, Failure>, Self, T) {
-        let stack: Stack<'r, NoSource> = Stack::new(alloc, self.value);
+        let stack: Stack<'r, NoSource> = Stack::over(alloc, self.value);
         let programs = Programs { templates };
         let (ended, _, programs) = render(alloc, callables, running, stack, programs, out);
         (ended, self, programs.templates)
@@ -191,7 +191,7 @@ impl<'r, S: ValueSource, T: TemplateSource<'r>> Values<'r, T> for SourceValues<S
         templates: T,
         out: &mut W,
     ) -> (Result<Ending, Failure>, Self, T) {
-        let stack: Stack<'r, S> = Stack::with_value_fn(alloc, self.source);
+        let stack: Stack<'r, S> = Stack::over_source(alloc, self.source);
         let programs = Programs { templates };
         let (ended, stack, programs) = render(alloc, callables, running, stack, programs, out);
         let Some(source) = stack.into_source() else {

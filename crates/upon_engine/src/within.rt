@@ -203,7 +203,7 @@ impl<'e> Engine<'e> {
             name,
             left: depth.max(1) - 1,
         };
-        let stack: Stack<'r, NoSource> = Stack::new(alloc, value);
+        let stack: Stack<'r, NoSource> = Stack::over(alloc, value);
         let templates = EngineTemplates { engine: self };
         let programs = Programs { templates };
         let (ended, _, _) = render_within(alloc, &self, running, stack, programs, *limits, out);

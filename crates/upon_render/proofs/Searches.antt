@@ -17,35 +17,35 @@ use Rattle.upon_lookup.specs.Seen.{FindsMade, LooksUp, RootTells, made_view}
 use Rattle.upon_lookup.specs.Lookup.{or_root, root_value, lookup}
 use Rattle.upon_lookup.specs.Settled.{SettledPath, known_path, root_settles, or_root_settles, Settles, FindsSettled}
 use Rattle.upon_lookup.specs.Source.{Source}
-use Rattle.upon_render.specs.declared.stack.State.{State}
+use Rattle.upon_render.specs.declared.stack.Frame.{Frame}
 use Rattle.upon_lookup.specs.declared.value.Made.{Made}
 use Rattle.upon_render.proofs.Known.{bound_to-nil}
 
 -- ---- one frame more
-pub frames_over-push : (env : Environment) (frames : List State) (frame : State) → frames_over env (frames ++ frame ∷ []) ≡ frame_over frame (frames_over env frames)
+pub frames_over-push : (env : Environment) (frames : List Frame) (frame : Frame) → frames_over env (frames ++ frame ∷ []) ≡ frame_over frame (frames_over env frames)
 frames_over-push env [] frame = refl
 frames_over-push env (f ∷ frames) frame = frames_over-push (frame_over f env) frames frame
 
-frames_lend-push : (lent : Bool) (frames : List State) (frame : State) (selector : Access)
+frames_lend-push : (lent : Bool) (frames : List Frame) (frame : Frame) (selector : Access)
     → frames_lend lent (frames ++ frame ∷ []) selector ≡ frame_lends frame selector (frames_lend lent frames selector)
 frames_lend-push lent [] frame selector = refl
 frames_lend-push lent (f ∷ frames) frame selector = frames_lend-push (frame_lends f selector lent) frames frame selector
 
-abbrev pub known_by_frames : Environment → Bool → List State → Member → List Member → SettledPath
+abbrev pub known_by_frames : Environment → Bool → List Frame → Member → List Member → SettledPath
 known_by_frames env lent frames first rest = known_path (frames_over env frames) (frames_lend lent frames first.access) first rest
 
-abbrev pub known_by_frame : State → Environment → Bool → List State → Member → List Member → SettledPath
+abbrev pub known_by_frame : Frame → Environment → Bool → List Frame → Member → List Member → SettledPath
 known_by_frame frame env lent frames first rest =
     known_path (frame_over frame (frames_over env frames)) (frame_lends frame first.access (frames_lend lent frames first.access)) first rest
 
-known-push : (env : Environment) (lent : Bool) (frames : List State) (frame : State) (first : Member) (rest : List Member)
+known-push : (env : Environment) (lent : Bool) (frames : List Frame) (frame : Frame) (first : Member) (rest : List Member)
     → known_by_frames env lent (frames ++ frame ∷ []) first rest ≡ known_by_frame frame env lent frames first rest
 known-push env lent frames frame first rest =
     ap (λ e. known_path e (frames_lend lent (frames ++ frame ∷ []) first.access) first rest) (frames_over-push env frames frame)
     ∙ ap (λ l. known_path (frame_over frame (frames_over env frames)) l first rest) (frames_lend-push lent frames frame first.access)
 
 -- the frame at k, ahead of those below it
-known-take : (env : Environment) (lent : Bool) (frames : List State) (n k : ℕ) (frame : State) (first : Member) (rest : List Member)
+known-take : (env : Environment) (lent : Bool) (frames : List Frame) (n k : ℕ) (frame : Frame) (first : Member) (rest : List Member)
     → n ≡ k + 1 → n ≤ length frames → frame ≡ get_or frames k frame
     → known_by_frames env lent (take n frames) first rest ≡ known_by_frame frame env lent (take k frames) first rest
 known-take env lent frames n k frame first rest next within is =
@@ -54,14 +54,14 @@ known-take env lent frames n k frame first rest next within is =
     ap (λ fs. known_by_frames env lent fs first rest) took ∙ known-push env lent (take k frames) frame first rest
 
 -- what all frames say, by the frame at k ahead of those below it
-pub known-step : (env : Environment) (lent : Bool) (frames : List State) (n k : ℕ) (frame : State) (first : Member) (rest : List Member)
+pub known-step : (env : Environment) (lent : Bool) (frames : List Frame) (n k : ℕ) (frame : Frame) (first : Member) (rest : List Member)
     → n ≡ k + 1 → n ≤ length frames → frame ≡ get_or frames k frame
     → known_by_frames env lent frames first rest ≡ known_by_frames env lent (take n frames) first rest
     → known_by_frames env lent frames first rest ≡ known_by_frame frame env lent (take k frames) first rest
 known-step env lent frames n k frame first rest next within is same = same ∙ known-take env lent frames n k frame first rest next within is
 
 -- where that frame binds nothing, by those below it
-pub known-passed : (env : Environment) (lent : Bool) (frames : List State) (n k : ℕ) (frame : State) (first : Member) (rest : List Member)
+pub known-passed : (env : Environment) (lent : Bool) (frames : List Frame) (n k : ℕ) (frame : Frame) (first : Member) (rest : List Member)
     → n ≡ k + 1 → n ≤ length frames → frame ≡ get_or frames k frame
     → known_by_frames env lent frames first rest ≡ known_by_frames env lent (take n frames) first rest
     → known_by_frame frame env lent (take k frames) first rest ≡ known_by_frames env lent (take k frames) first rest
@@ -126,27 +126,27 @@ lookup_lends source ask env lent first rest q r (o, (is, answers, lends)) lent_i
     subst P (sym (or_root_settled _ ask env.root first rest q o is)) (lends lent_is)
 
 -- ---- what a search through frames says
-pub some_known : (source : List ℕ) (env : Environment) (lent : Bool) (fs gs : List State) (first : Member) (rest : List Member) (r : Result (Option ValueCow) Error) (o : Option ValueCow) (value : ValueCow)
+pub some_known : (source : List ℕ) (env : Environment) (lent : Bool) (fs gs : List Frame) (first : Member) (rest : List Member) (r : Result (Option ValueCow) Error) (o : Option ValueCow) (value : ValueCow)
     → gs ≡ fs → r ≡ Ok o → o ≡ Some value → FindsSettled source (known_by_frames env lent gs first rest) (known_path env lent first rest) r
     → Settles source (known_by_frames env lent fs first rest) (Ok value)
 some_known source env lent fs gs first rest r o value same is some h =
-    let P : List State → Type 0 = λ l. FindsSettled source (known_by_frames env lent l first rest) (known_path env lent first rest) r in
+    let P : List Frame → Type 0 = λ l. FindsSettled source (known_by_frames env lent l first rest) (known_path env lent first rest) r in
     let R : Result (Option ValueCow) Error → Type 0 = λ x. FindsSettled source (known_by_frames env lent fs first rest) (known_path env lent first rest) x in
     subst R (is ∙ ap (λ (x : Option ValueCow). Ok x) some) (subst P same h)
 
-pub none_known : (source : List ℕ) (env : Environment) (lent : Bool) (fs gs : List State) (first : Member) (rest : List Member) (r : Result (Option ValueCow) Error) (o : Option ValueCow)
+pub none_known : (source : List ℕ) (env : Environment) (lent : Bool) (fs gs : List Frame) (first : Member) (rest : List Member) (r : Result (Option ValueCow) Error) (o : Option ValueCow)
     → gs ≡ fs → r ≡ Ok o → o ≡ None → FindsSettled source (known_by_frames env lent gs first rest) (known_path env lent first rest) r
     → known_by_frames env lent fs first rest ≡ known_path env lent first rest
 none_known source env lent fs gs first rest r o same is none h =
-    let P : List State → Type 0 = λ l. FindsSettled source (known_by_frames env lent l first rest) (known_path env lent first rest) r in
+    let P : List Frame → Type 0 = λ l. FindsSettled source (known_by_frames env lent l first rest) (known_path env lent first rest) r in
     let R : Result (Option ValueCow) Error → Type 0 = λ x. FindsSettled source (known_by_frames env lent fs first rest) (known_path env lent first rest) x in
     subst R (is ∙ ap (λ (x : Option ValueCow). Ok x) none) (subst P same h)
 
-pub error_known : (source : List ℕ) (env : Environment) (lent : Bool) (fs gs : List State) (first : Member) (rest : List Member) (r : Result (Option ValueCow) Error) (error : Error)
+pub error_known : (source : List ℕ) (env : Environment) (lent : Bool) (fs gs : List Frame) (first : Member) (rest : List Member) (r : Result (Option ValueCow) Error) (error : Error)
     → gs ≡ fs → r ≡ Err error → FindsSettled source (known_by_frames env lent gs first rest) (known_path env lent first rest) r
     → Settles source (known_by_frames env lent fs first rest) (Err error)
 error_known source env lent fs gs first rest r error same is h =
-    let P : List State → Type 0 = λ l. FindsSettled source (known_by_frames env lent l first rest) (known_path env lent first rest) r in
+    let P : List Frame → Type 0 = λ l. FindsSettled source (known_by_frames env lent l first rest) (known_path env lent first rest) r in
     let R : Result (Option ValueCow) Error → Type 0 = λ x. FindsSettled source (known_by_frames env lent fs first rest) (known_path env lent first rest) x in
     subst R is (subst P same h)
 
@@ -156,11 +156,11 @@ pub lookup_settled : {Q : Type 0} (ask : Source Q) (env : Environment) (lent : B
 lookup_settled ask env lent first rest q o is = or_root_settled _ ask env.root first rest q o is
 
 -- a value that all frames settle
-pub looks_up_here : {Q : Type 0} (ask : Source Q) (env : Environment) (lent : Bool) (fs gs : List State) (first : Member) (rest : List Member) (q : Q) (v : Val)
+pub looks_up_here : {Q : Type 0} (ask : Source Q) (env : Environment) (lent : Bool) (fs gs : List Frame) (first : Member) (rest : List Member) (q : Q) (v : Val)
     → gs ≡ fs → (known_by_frames env lent gs first rest).settled ≡ Some (found v) → lookup ask (frames_over env fs) first rest q ≡ reply (found v) q
 looks_up_here ask env lent fs gs first rest q v same is =
     lookup_settled ask (frames_over env fs) (frames_lend lent fs first.access) first rest q (found v)
-    (subst (λ (l : List State). (known_by_frames env lent l first rest).settled ≡ Some (found v)) same is)
+    (subst (λ (l : List Frame). (known_by_frames env lent l first rest).settled ≡ Some (found v)) same is)
 
 -- one that the root has, where no frame binds the path
 pub looks_up_root : {Q : Type 0} (ask : Source Q) (env : Environment) (root : Root) (lent own : Bool) (first : Member) (rest : List Member) (q : Q) (r : Option (Bor Value))
@@ -169,7 +169,7 @@ looks_up_root ask env root lent own first rest q None same h = tt
 looks_up_root ask env root lent own first rest q (Some v) same h = lookup_in_root ask env root lent own first rest q same ∙ h
 
 -- what a loop among them says of itself
-pub looks_up_made : {Q : Type 0} (ask : Source Q) (env : Environment) (lent : Bool) (fs gs : List State) (first : Member) (rest : List Member) (q : Q) (r : Option Made)
+pub looks_up_made : {Q : Type 0} (ask : Source Q) (env : Environment) (lent : Bool) (fs gs : List Frame) (first : Member) (rest : List Member) (q : Q) (r : Option Made)
     → gs ≡ fs → FindsMade (known_by_frames env lent gs first rest) r → LooksUp made_view ask (frames_over env fs) first rest q r
 looks_up_made ask env lent fs gs first rest q None same h = tt
 looks_up_made ask env lent fs gs first rest q (Some made) same h = looks_up_here ask env lent fs gs first rest q (made_view made) same h

@@ -1,5 +1,5 @@
 // Loops: the items that a loop goes over, and what a path finds at the item that it is at.
-ghost use Rattle.std.specs.Prelude.{◌≡◌, ◌∷◌, [], ◌+◌, ◌^◌, ◌<◌, true, Some, None, length, map, option_map, IfOk};
+ghost use Rattle.std.specs.Prelude.{◌≡◌, ◌↔◌, ◌∷◌, [], ◌+◌, ◌^◌, ◌<◌, true, IsTrue, Some, None, length, map, option_map, IfOk};
 ghost use Rattle.upon_types.specs.AstPath.{member_of, first_member, rest_members, loop_vars_of, ident_of};
 ghost use Rattle.upon_types.specs.Cow.{cow_view};
 ghost use Rattle.upon_types.specs.Path.{item};
@@ -7,7 +7,7 @@ ghost use Rattle.upon_types.specs.Span.{LiesIn};
 ghost use Rattle.upon_types.specs.View.{view};
 ghost use Rattle.upon_lookup.specs.Answer.{AnswersAlways, Answers, TellsFault, maybe_view, is_borrowed_value, IsLentIfAny, Lends};
 ghost use Rattle.upon_lookup.specs.Environment.{first_bound};
-ghost use Rattle.upon_render.specs.Cursor.{advance, has_begun, loop_bindings, loop_walk, lends_bound};
+ghost use Rattle.upon_render.specs.Cursor.{advance, is_over, has_begun, loop_bindings, loop_walk, lends_bound};
 ghost use Rattle.upon_lookup.specs.Items.{items_of};
 ghost use Rattle.upon_lookup.specs.Lookup.{bindings_walk, maybe_bound, key_walk, state_map, state_walk};
 ghost use Rattle.upon_render.specs.declared.items.Item.TheVariants.{Lone};
@@ -109,6 +109,14 @@ impl<'a> LoopState<'a> {
             }
         }
         Some(())
+    }
+
+    /// Returns whether no item is left, so that the loop is at its last one, or has none. It takes no memory.
+    pub fn is_empty(&self) -> bool
+        ensures over { result ≡ is_over (cursor self.now) }
+        ensures end { IsTrue result ↔ (advance (cursor self.now) ≡ None) }
+    {
+        self.rest.len() == 0
     }
 
     /// Returns whether the loop is at an item: not before its first one. It takes no memory.

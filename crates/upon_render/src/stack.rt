@@ -1,5 +1,5 @@
 // The frames of a running template, and what a path finds in them.
-ghost use Rattle.std.specs.Prelude.{◌≡◌, ◌≢◌, ◌∷◌, [], ◌++◌, ◌<◌, List, Some, IfOk, IfSome, IsSome, IsTrue, OnOk, OnErr, true, Bool, MatchOption, length, map};
+ghost use Rattle.std.specs.Prelude.{◌≡◌, ◌≢◌, ◌∷◌, [], ◌++◌, ◌<◌, List, Some, IfOk, IfSome, IsSome, IsTrue, IsOkAnd, OnOk, OnErr, true, Bool, MatchOption, length, map};
 ghost use Rattle.upon_types.specs.AstPath.{member_of, first_member, rest_members, ident_of};
 ghost use Rattle.upon_types.specs.Cow.{cow_view};
 ghost use Rattle.upon_types.specs.Span.{LiesIn};
@@ -8,7 +8,7 @@ ghost use Rattle.upon_lookup.specs.Answer.{Answers, maybe_view, is_borrowed_valu
 ghost use Rattle.upon_render.specs.Cursor.{lends_bound};
 ghost use Rattle.upon_render.specs.Loop.{cursor};
 ghost use Rattle.upon_lookup.specs.Environment.{Environment, value_source, binding, plain, binding_of};
-ghost use Rattle.upon_render.specs.Frames.{frame_over, frames_over, frame_lends, frames_lend};
+ghost use Rattle.upon_render.specs.Frames.{framed, frame_over, frames_over, frame_lends, frames_lend};
 ghost use Rattle.upon_lookup.specs.Seen.{FindsMade, FindsSeen, LooksUp, RootTells, TellsSeen, made_view};
 ghost use Rattle.upon_lookup.specs.Lookup.{lookup, root_value, bindings_walk, or_not_in_scope};
 ghost use Rattle.upon_lookup.specs.PathSpans.{MembersLieIn};
@@ -21,7 +21,7 @@ use crate::entry::{find_in_entry, lookup_in_entry};
 use crate::iter::LoopState;
 use std::alloc::{AllocError, Global};
 use upon_lookup::faults;
-use upon_lookup::source::{SourceError, ValueSource, members};
+use upon_lookup::source::{NoSource, SourceError, ValueSource, members};
 use upon_lookup::value::{
     Found, Made, find_bound, find_in_context, lookup_bound, lookup_in_context,
 };
@@ -29,9 +29,37 @@ use upon_types::error::Result;
 use upon_types::types::ast::{Access, Ident, Member, String as Quoted, Var};
 use upon_types::value::{Value, ValueCow};
 
-/// A frame.
+/// A frame that a caller pushes.
 #[derive(Drop)]
 pub enum State<'a> {
+    /// A context.
+    Scope(ValueCow<'a>),
+    /// A name with its value.
+    Var(&'a Ident, ValueCow<'a>),
+    /// A loop.
+    Loop(LoopState<'a>),
+    /// Nothing below it is seen.
+    Boundary,
+}
+
+impl<'a> State<'a> {
+    // The frame that it is.
+    #[inline(always)]
+    fn into_frame(self) -> Frame<'a>
+        ensures { result ≡ framed self.entry }
+    {
+        match self {
+            State::Scope(context) => Frame::Scope(context),
+            State::Var(name, value) => Frame::Var(name, value),
+            State::Loop(state) => Frame::Loop(state),
+            State::Boundary => Frame::Boundary,
+        }
+    }
+}
+
+/// A frame as a stack holds it: each state is one, and so is an entry, which only the machine pushes.
+#[derive(Drop)]
+pub enum Frame<'a> {
     /// A context.
     Scope(ValueCow<'a>),
     /// A context of one entry: its key, and its value, which is lent.
@@ -55,14 +83,25 @@ enum Root<'a, V> {
 #[derive(Drop)]
 pub struct Stack<'a, V> {
     root: Root<'a, V>,
-    frames: Vec<State<'a>>,
+    frames: Vec<Frame<'a>>,
 }
 
-impl<'a, V: ValueSource> Stack<'a, V> {
-    ghost use Rattle.upon_render.specs.Stack.{stack_environment, root_of, frames_of, stack_lends, top, IsScope, IsVar, IsLoop, IsBoundary, Iterates};
+impl<'a> Stack<'a, NoSource> {
+    ghost use Rattle.upon_render.specs.Stack.{root_of, frames_of};
 
-    /// No frame, over a context.
-    pub fn new(alloc: Global, context: &'a Value) -> Stack<'a, V>
+    /// Creates a stack of no frame over a context. It takes no memory, and never fails.
+    pub fn new(
+        alloc: Global,
+        context: &'a Value,
+    ) -> std::result::Result<Stack<'a, NoSource>, AllocError>
+        ensures frames { IsOkAnd result (λ stack. frames_of stack ≡ []) }
+        ensures root { IsOkAnd result (λ stack. root_of stack ≡ Root.Value context.entry) }
+    {
+        Ok(Stack::over(alloc, context))
+    }
+
+    /// Returns the same stack as `new`, and no result.
+    pub fn over(alloc: Global, context: &'a Value) -> Stack<'a, NoSource>
         ensures frames { frames_of result ≡ [] }
         ensures root { root_of result ≡ Root.Value context.entry }
     {
@@ -71,9 +110,21 @@ impl<'a, V: ValueSource> Stack<'a, V> {
             frames: Vec::new(alloc),
         }
     }
+}
 
-    /// No frame, over a source of values.
-    pub fn with_value_fn(alloc: Global, values: V) -> Stack<'a, V>
+impl<'a, V: ValueSource> Stack<'a, V> {
+    ghost use Rattle.upon_render.specs.Stack.{stack_environment, root_of, frames_of, stack_lends, top, IsScope, IsVar, IsLoop, IsBoundary, Iterates};
+
+    /// Creates a stack of no frame over a source of values. It takes no memory, and never fails.
+    pub fn with_value_fn(alloc: Global, values: V) -> std::result::Result<Stack<'a, V>, AllocError>
+        ensures frames { IsOkAnd result (λ stack. frames_of stack ≡ []) }
+        ensures root { IsOkAnd result (λ stack. root_of stack ≡ Root.Source values) }
+    {
+        Ok(Stack::over_source(alloc, values))
+    }
+
+    /// Returns the same stack as `with_value_fn`, and no result.
+    pub fn over_source(alloc: Global, values: V) -> Stack<'a, V>
         ensures frames { frames_of result ≡ [] }
         ensures root { root_of result ≡ Root.Source values }
     {
@@ -190,9 +241,21 @@ impl<'a, V: ValueSource> Stack<'a, V> {
         }
     }
 
-    /// One frame more, the innermost. If there is no memory, nothing changes.
+    /// Pushes one frame more, the innermost. If there is no memory, nothing changes.
     #[inline(always)]
-    pub fn push(&mut self, frame: State<'a>) -> std::result::Result<(), AllocError>
+    pub fn push(&mut self, state: State<'a>) -> std::result::Result<(), AllocError>
+        ensures ok { OnOk result (frames_of self.new ≡ frames_of self.old ++ framed state.entry ∷ []) }
+        ensures environment { OnOk result (stack_environment self.new
+            ≡ frame_over (framed state.entry) (stack_environment self.old)) }
+        ensures err { OnErr result (frames_of self.new ≡ frames_of self.old) }
+        ensures root { root_of self.new ≡ root_of self.old }
+    {
+        self.push_frame(state.into_frame())
+    }
+
+    /// Does the same with a frame as the stack holds it.
+    #[inline(always)]
+    pub fn push_frame(&mut self, frame: Frame<'a>) -> std::result::Result<(), AllocError>
         ensures ok { OnOk result (frames_of self.new ≡ frames_of self.old ++ frame.entry ∷ []) }
         ensures environment { OnOk result (stack_environment self.new
             ≡ frame_over frame.entry (stack_environment self.old)) }
@@ -207,7 +270,7 @@ impl<'a, V: ValueSource> Stack<'a, V> {
     /// Removes the innermost frame.
     pub fn drop_frame(&mut self)
         requires { 0 < length (frames_of self.old) }
-        ensures frames { (frame : State) × (frames_of self.old ≡ frames_of self.new ++ frame ∷ []) }
+        ensures frames { (frame : Frame) × (frames_of self.old ≡ frames_of self.new ++ frame ∷ []) }
         ensures root { root_of self.new ≡ root_of self.old }
     {
         let last = self.frames.len() - 1;
@@ -217,75 +280,75 @@ impl<'a, V: ValueSource> Stack<'a, V> {
     /// Removes the innermost frame, which is a scope, and returns its context.
     pub fn pop_scope(&mut self) -> ValueCow<'a>
         requires { IsScope (top (frames_of self.old)) }
-        ensures frames { frames_of self.old ≡ frames_of self.new ++ State.Scope result ∷ [] }
+        ensures frames { frames_of self.old ≡ frames_of self.new ++ Frame.Scope result ∷ [] }
         ensures root { root_of self.new ≡ root_of self.old }
     {
         match self.pop() {
-            State::Scope(context) => context,
-            State::Entry(_, _) => unreachable!(),
-            State::Var(_, _) => unreachable!(),
-            State::Loop(_) => unreachable!(),
-            State::Boundary => unreachable!(),
+            Frame::Scope(context) => context,
+            Frame::Entry(_, _) => unreachable!(),
+            Frame::Var(_, _) => unreachable!(),
+            Frame::Loop(_) => unreachable!(),
+            Frame::Boundary => unreachable!(),
         }
     }
 
     /// Removes the innermost frame, which is a variable, and returns its name and its value.
     pub fn pop_var(&mut self) -> (&'a Ident, ValueCow<'a>)
         requires { IsVar (top (frames_of self.old)) }
-        ensures frames { frames_of self.old ≡ frames_of self.new ++ State.Var result.0 result.1 ∷ [] }
+        ensures frames { frames_of self.old ≡ frames_of self.new ++ Frame.Var result.0 result.1 ∷ [] }
         ensures root { root_of self.new ≡ root_of self.old }
     {
         match self.pop() {
-            State::Var(name, value) => (name, value),
-            State::Scope(_) => unreachable!(),
-            State::Entry(_, _) => unreachable!(),
-            State::Loop(_) => unreachable!(),
-            State::Boundary => unreachable!(),
+            Frame::Var(name, value) => (name, value),
+            Frame::Scope(_) => unreachable!(),
+            Frame::Entry(_, _) => unreachable!(),
+            Frame::Loop(_) => unreachable!(),
+            Frame::Boundary => unreachable!(),
         }
     }
 
     /// Removes the innermost frame, which is a loop, and returns the loop.
     pub fn pop_loop_state(&mut self) -> LoopState<'a>
         requires { IsLoop (top (frames_of self.old)) }
-        ensures frames { frames_of self.old ≡ frames_of self.new ++ State.Loop result ∷ [] }
+        ensures frames { frames_of self.old ≡ frames_of self.new ++ Frame.Loop result ∷ [] }
         ensures root { root_of self.new ≡ root_of self.old }
     {
         match self.pop() {
-            State::Loop(state) => state,
-            State::Scope(_) => unreachable!(),
-            State::Entry(_, _) => unreachable!(),
-            State::Var(_, _) => unreachable!(),
-            State::Boundary => unreachable!(),
+            Frame::Loop(state) => state,
+            Frame::Scope(_) => unreachable!(),
+            Frame::Entry(_, _) => unreachable!(),
+            Frame::Var(_, _) => unreachable!(),
+            Frame::Boundary => unreachable!(),
         }
     }
 
     /// Takes the innermost frame away, which is a boundary.
     pub fn pop_boundary(&mut self)
         requires { IsBoundary (top (frames_of self.old)) }
-        ensures frames { frames_of self.old ≡ frames_of self.new ++ State.Boundary ∷ [] }
+        ensures frames { frames_of self.old ≡ frames_of self.new ++ Frame.Boundary ∷ [] }
         ensures root { root_of self.new ≡ root_of self.old }
     {
         match self.pop() {
-            State::Boundary => {}
-            State::Scope(_) => unreachable!(),
-            State::Entry(_, _) => unreachable!(),
-            State::Var(_, _) => unreachable!(),
-            State::Loop(_) => unreachable!(),
+            Frame::Boundary => {}
+            Frame::Scope(_) => unreachable!(),
+            Frame::Entry(_, _) => unreachable!(),
+            Frame::Var(_, _) => unreachable!(),
+            Frame::Loop(_) => unreachable!(),
         }
     }
 
     /// Returns the loop of the innermost frame, which is a loop.
     pub fn last_loop_state_mut(&mut self) -> &mut LoopState<'a>
         requires { IsLoop (top (frames_of self.old)) }
-        ensures { top (frames_of self.old) ≡ Some (State.Loop result.now) }
+        ensures { top (frames_of self.old) ≡ Some (Frame.Loop result.now) }
     {
         let last = self.frames.len() - 1;
         match &mut self.frames[last] {
-            State::Loop(current) => current,
-            State::Scope(_) => unreachable!(),
-            State::Entry(_, _) => unreachable!(),
-            State::Var(_, _) => unreachable!(),
-            State::Boundary => unreachable!(),
+            Frame::Loop(current) => current,
+            Frame::Scope(_) => unreachable!(),
+            Frame::Entry(_, _) => unreachable!(),
+            Frame::Var(_, _) => unreachable!(),
+            Frame::Boundary => unreachable!(),
         }
     }
 
@@ -298,26 +361,26 @@ impl<'a, V: ValueSource> Stack<'a, V> {
         if count == 0 {
             return false;
         }
-        matches!(&self.frames[count - 1], State::Loop(_))
+        matches!(&self.frames[count - 1], Frame::Loop(_))
     }
 
     /// Moves the loop of the innermost frame, which is a loop, to its next item; at the end it stays at the last one.
     pub fn iterate_loop(&mut self) -> Option<()>
         requires { IsLoop (top (frames_of self.old)) }
-        ensures frames { (below : List State) (state : LoopState) → frames_of self.old ≡ below ++ State.Loop state ∷ []
+        ensures frames { (below : List Frame) (state : LoopState) → frames_of self.old ≡ below ++ Frame.Loop state ∷ []
             → Iterates
             result
             state
-            (λ next. frames_of self.new ≡ below ++ State.Loop next ∷ []) }
+            (λ next. frames_of self.new ≡ below ++ Frame.Loop next ∷ []) }
         ensures root { root_of self.new ≡ root_of self.old }
     {
         let last = self.frames.len() - 1;
         match &mut self.frames[last] {
-            State::Loop(state) => state.iterate(),
-            State::Scope(_) => unreachable!(),
-            State::Entry(_, _) => unreachable!(),
-            State::Var(_, _) => unreachable!(),
-            State::Boundary => unreachable!(),
+            Frame::Loop(state) => state.iterate(),
+            Frame::Scope(_) => unreachable!(),
+            Frame::Entry(_, _) => unreachable!(),
+            Frame::Var(_, _) => unreachable!(),
+            Frame::Boundary => unreachable!(),
         }
     }
 
@@ -335,7 +398,7 @@ impl<'a, V: ValueSource> Stack<'a, V> {
         }
     }
 
-    fn pop(&mut self) -> State<'a>
+    fn pop(&mut self) -> Frame<'a>
         requires { IsSome (top (frames_of self.old)) }
         ensures frames { frames_of self.old ≡ frames_of self.new ++ result ∷ [] }
         ensures root { root_of self.new ≡ root_of self.old }
@@ -439,7 +502,7 @@ fn ask_source<'a, V: ValueSource>(
 fn search<'a>(
     alloc: Global,
     source: &str,
-    frames: &[State<'a>],
+    frames: &[Frame<'a>],
     var: &Var,
 ) -> Result<Option<ValueCow<'a>>>
     requires { MembersLieIn source.now (first_member var.now ∷ rest_members var.now) }
@@ -464,7 +527,7 @@ fn search<'a>(
 
 // What the frames have at the path, the innermost first, where it is.
 #[inline(always)]
-fn find_in_frames<'s, 'a>(frames: &'s [State<'a>], var: &Var) -> Found<'s, 'a>
+fn find_in_frames<'s, 'a>(frames: &'s [Frame<'a>], var: &Var) -> Found<'s, 'a>
     ensures { (env : Environment) (lent : Bool) → FindsSeen
         (known_path (frames_over env frames.now) (frames_lend lent frames.now (first_member var.now).access)
         (first_member var.now) (rest_members var.now))
@@ -485,7 +548,7 @@ fn find_in_frames<'s, 'a>(frames: &'s [State<'a>], var: &Var) -> Found<'s, 'a>
 }
 
 // What the innermost frame that binds the path says of itself, if that is a loop.
-fn made_in_frames<'s>(frames: &'s [State<'_>], var: &Var) -> Option<Made<'s>>
+fn made_in_frames<'s>(frames: &'s [Frame<'_>], var: &Var) -> Option<Made<'s>>
     ensures { (env : Environment) (lent : Bool) → FindsMade
         (known_path (frames_over env frames.now) (frames_lend lent frames.now (first_member var.now).access)
         (first_member var.now) (rest_members var.now))
@@ -496,7 +559,7 @@ fn made_in_frames<'s>(frames: &'s [State<'_>], var: &Var) -> Option<Made<'s>>
         left -= 1;
         match (find_in_frame(&frames[left], var), &frames[left]) {
             (Found::Below, _) => {}
-            (Found::Unknown, State::Loop(state)) => return state.find_made(var),
+            (Found::Unknown, Frame::Loop(state)) => return state.find_made(var),
             _ => return None,
         }
     }
@@ -505,7 +568,7 @@ fn made_in_frames<'s>(frames: &'s [State<'_>], var: &Var) -> Option<Made<'s>>
 
 // What the frame has at the path, where it is.
 #[inline(always)]
-fn find_in_frame<'s, 'a>(frame: &'s State<'a>, var: &Var) -> Found<'s, 'a>
+fn find_in_frame<'s, 'a>(frame: &'s Frame<'a>, var: &Var) -> Found<'s, 'a>
     ensures { (env : Environment) (lent : Bool) → FindsSeen
         (known_path (frame_over frame.now env) (frame_lends frame.now (first_member var.now).access lent)
         (first_member var.now) (rest_members var.now))
@@ -513,7 +576,7 @@ fn find_in_frame<'s, 'a>(frame: &'s State<'a>, var: &Var) -> Found<'s, 'a>
         result }
 {
     match frame {
-        State::Scope(context) => match context {
+        Frame::Scope(context) => match context {
             ValueCow::Borrowed(context) => {
                 match find_in_context(*context, var.first(), var.rest()) {
                     Some(value) => Found::Lent(value),
@@ -527,15 +590,15 @@ fn find_in_frame<'s, 'a>(frame: &'s State<'a>, var: &Var) -> Found<'s, 'a>
                 }
             }
         },
-        State::Entry(key, value) => {
+        Frame::Entry(key, value) => {
             match find_in_entry(*key, *value, var.first(), var.rest()) {
                 Some(value) => Found::Lent(value),
                 None => Found::Unknown,
             }
         }
-        State::Var(ident, value) => find_named(*ident, value, var),
-        State::Loop(state) => state.find(var),
-        State::Boundary => Found::Unknown,
+        Frame::Var(ident, value) => find_named(*ident, value, var),
+        Frame::Loop(state) => state.find(var),
+        Frame::Boundary => Found::Unknown,
     }
 }
 
@@ -560,7 +623,7 @@ fn find_named<'s, 'a>(ident: &Ident, value: &'s ValueCow<'a>, var: &Var) -> Foun
 fn lookup_frame<'a>(
     alloc: Global,
     source: &str,
-    frame: &State<'a>,
+    frame: &Frame<'a>,
     var: &Var,
 ) -> Result<Option<ValueCow<'a>>>
     requires { MembersLieIn source.now (first_member var.now ∷ rest_members var.now) }
@@ -572,21 +635,21 @@ fn lookup_frame<'a>(
         result }
 {
     match frame {
-        State::Scope(context) => {
+        Frame::Scope(context) => {
             match lookup_context(alloc, source, context, var.first(), var.rest()) {
                 Ok(value) => Ok(Some(value)),
                 Err(error) => Err(error),
             }
         }
-        State::Entry(key, value) => {
+        Frame::Entry(key, value) => {
             match lookup_in_entry(alloc, source, *key, *value, var.first(), var.rest()) {
                 Ok(value) => Ok(Some(value)),
                 Err(error) => Err(error),
             }
         }
-        State::Var(ident, value) => lookup_named(alloc, source, *ident, value, var),
-        State::Loop(state) => state.lookup_var(alloc, source, var),
-        State::Boundary => Err(faults::not_in_scope(alloc, source, var.first().span)),
+        Frame::Var(ident, value) => lookup_named(alloc, source, *ident, value, var),
+        Frame::Loop(state) => state.lookup_var(alloc, source, var),
+        Frame::Boundary => Err(faults::not_in_scope(alloc, source, var.first().span)),
     }
 }
 

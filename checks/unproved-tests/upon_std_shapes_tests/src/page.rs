@@ -1,6 +1,5 @@
 // The example of the page on standard functions: a template that calls some, and is known not to fail.
 use std::alloc::Global;
-use std::borrow::CowStr;
 use std::test::Fail;
 use upon::{Engine, Value};
 use upon_accepts::accepts::accepts;
@@ -13,10 +12,10 @@ fn is_sure(alloc: Global, source: &'static str, sample: &Value) -> upon::Result<
     let mut engine = Engine::new(alloc);
     let mut declared = Declared::new(alloc, Shape::shown());
     for function in ALL.as_slice() {
-        engine.add_function(CowStr::Borrowed(function.name()), Box::new(alloc, *function)?)?;
+        engine.add_function(function.name().into(), Box::new(alloc, *function)?)?;
     }
     declare_standard(alloc, ALL.as_slice(), &mut declared)?;
-    engine.add_template(CowStr::Borrowed("page"), CowStr::Borrowed(source))?;
+    engine.add_template("page".into(), source.into())?;
     let shape = Shape::of(alloc, sample)?;
     Ok(accepts(alloc, &engine, &declared, "page", &shape).is_ok())
 }

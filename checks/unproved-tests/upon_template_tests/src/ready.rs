@@ -1,6 +1,5 @@
 // The examples of docs/STANDARD.md, docs/QUOTING.md and docs/DATA.md.
 use std::alloc::Global;
-use std::borrow::CowStr;
 use std::test::Fail;
 use upon::{Engine, Result, value};
 use upon_data::parts::Data;
@@ -13,7 +12,7 @@ use upon_std::table::ALL;
 fn prices(alloc: Global) -> Result<String> {
     let mut engine = Engine::new(alloc);
     for function in ALL.as_slice() {
-        engine.add_function(CowStr::Borrowed(function.name()), Box::new(alloc, *function)?)?;
+        engine.add_function(function.name().into(), Box::new(alloc, *function)?)?;
     }
     let context = value! { in alloc; rows: [{name: "tea", cents: 350}, {name: "milk", cents: 95}] }?;
     let source = "{% for row in rows %}{{ row.name | upper }} {{ decimal(row.cents, 2) }}\
@@ -23,9 +22,9 @@ fn prices(alloc: Global) -> Result<String> {
 
 fn quoted(alloc: Global) -> Result<String> {
     let mut engine = Engine::new(alloc);
-    engine.add_formatter(CowStr::Borrowed("json"), Box::new(alloc, Json)?)?;
-    engine.add_formatter(CowStr::Borrowed("yaml"), Box::new(alloc, Yaml)?)?;
-    engine.add_formatter(CowStr::Borrowed("shell"), Box::new(alloc, Shell)?)?;
+    engine.add_formatter("json".into(), Box::new(alloc, Json)?)?;
+    engine.add_formatter("yaml".into(), Box::new(alloc, Yaml)?)?;
+    engine.add_formatter("shell".into(), Box::new(alloc, Shell)?)?;
     let context = value! { in alloc; text: "it's \"é\"\n" }?;
     let source = "{\"text\": \"{{ text | json }}\"}\ntext: \"{{ text | yaml }}\"\necho {{ text | shell }}\n";
     engine.render_text(source, &context)

@@ -5,7 +5,6 @@ use crate::render::stack::{
 use std::alloc::Global;
 use std::process::Abort;
 use std::test::Fail;
-use upon_lookup::source::NoSource;
 use upon_render::iter::LoopState;
 use upon_render::stack::{Stack, State};
 use upon_types::value::{Value, ValueCow};
@@ -16,7 +15,7 @@ const INDEX: &str = "{{ loop.index }}";
 fn a_boundary_is_taken_away(rt: HostRuntime) -> Result<(), Fail> {
     let alloc = rt.alloc();
     let context = Value::Map(entry(alloc, "a", Value::Integer(1))?);
-    let mut stack: Stack<NoSource> = Stack::new(alloc, &context);
+    let mut stack = Stack::new(alloc, &context)?;
     stack.push(State::Boundary)?;
     stack.pop_boundary();
     let rows: [Row; 1] = [("{{ a }}", 3, &[(DOT, "a")], "Integer(1)")];
@@ -28,7 +27,7 @@ fn a_context_is_taken_away(rt: HostRuntime) -> Result<(), Fail> {
     let alloc = rt.alloc();
     let context = Value::Map(entry(alloc, "a", Value::Integer(1))?);
     let inner = Value::Map(entry(alloc, "a", Value::Integer(2))?);
-    let mut stack: Stack<NoSource> = Stack::new(alloc, &context);
+    let mut stack = Stack::new(alloc, &context)?;
     stack.push(State::Scope(ValueCow::Owned(inner)))?;
     let taken = stack.pop_scope();
     assert!(&rt; matches!(&taken, ValueCow::Owned(Value::Map(_))));
@@ -41,7 +40,7 @@ fn a_name_is_taken_away(rt: HostRuntime) -> Result<(), Fail> {
     let alloc = rt.alloc();
     let name = ident(alloc, "a", 3)?;
     let context = Value::Map(entry(alloc, "a", Value::Integer(1))?);
-    let mut stack: Stack<NoSource> = Stack::new(alloc, &context);
+    let mut stack = Stack::new(alloc, &context)?;
     stack.push(State::Var(&name, ValueCow::Owned(Value::Integer(2))))?;
     stack.push(State::Var(&name, ValueCow::Owned(Value::Integer(3))))?;
     stack.drop_frame();
@@ -52,6 +51,30 @@ fn a_name_is_taken_away(rt: HostRuntime) -> Result<(), Fail> {
     assert_eq!(&rt; shown(alloc, Ok(value))?.as_str(), "Integer(2)");
     let outer: [Row; 1] = [("{{ a }}", 3, &[(DOT, "a")], "Integer(1)")];
     all_found(&rt, alloc, &mut stack, &outer)
+}
+
+// Which of the four kinds a state is of.
+fn kind_of(state: &State<'_>) -> &'static str {
+    match state {
+        State::Scope(_) => "scope",
+        State::Var(_, _) => "name",
+        State::Loop(_) => "loop",
+        State::Boundary => "boundary",
+    }
+}
+
+#[test]
+fn a_state_is_of_four_kinds(rt: HostRuntime) -> Result<(), Fail> {
+    let alloc = rt.alloc();
+    let name = ident(alloc, "a", 3)?;
+    let items = numbers(alloc, 3, 4)?;
+    let vars = one_name(alloc, "x")?;
+    let state = at_item(&rt, alloc, &vars, ValueCow::Borrowed(&items), 1)?;
+    assert_eq!(&rt; kind_of(&State::Scope(ValueCow::Borrowed(&items))), "scope");
+    assert_eq!(&rt; kind_of(&State::Var(&name, ValueCow::Borrowed(&items))), "name");
+    assert_eq!(&rt; kind_of(&State::Loop(state)), "loop");
+    assert_eq!(&rt; kind_of(&State::Boundary), "boundary");
+    Ok(())
 }
 
 // Whether `loop.index` is this, as it is shown.
@@ -76,7 +99,7 @@ fn the_innermost_loop(rt: HostRuntime) -> Result<(), Fail> {
     let items = numbers(alloc, 3, 4)?;
     let vars = one_name(alloc, "x")?;
     let context = Value::None;
-    let mut stack: Stack<NoSource> = Stack::new(alloc, &context);
+    let mut stack = Stack::new(alloc, &context)?;
     let state = at_item(&rt, alloc, &vars, ValueCow::Borrowed(&items), 1)?;
     assert!(&rt; !stack.is_in_loop());
     stack.push(State::Boundary)?;
@@ -85,7 +108,10 @@ fn the_innermost_loop(rt: HostRuntime) -> Result<(), Fail> {
     assert!(&rt; stack.is_in_loop());
     let innermost = stack.last_loop_state_mut();
     assert!(&rt; index_is(&rt, alloc, innermost, "Integer(0)")?);
+    assert!(&rt; !innermost.is_empty());
     assert!(&rt; innermost.iterate().is_some());
     assert!(&rt; index_is(&rt, alloc, innermost, "Integer(1)")?);
+    assert!(&rt; innermost.is_empty());
+    assert!(&rt; innermost.iterate().is_none());
     Ok(())
 }

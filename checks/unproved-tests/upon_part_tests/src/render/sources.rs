@@ -91,7 +91,7 @@ fn asked_once_each(rt: HostRuntime) -> Result<(), Fail> {
         name: Name::from_str(alloc, "a")?,
         span: upon_types::types::Span { m: 7, n: 8 },
     };
-    let mut stack = Stack::with_value_fn(alloc, &mut counter);
+    let mut stack = Stack::with_value_fn(alloc, &mut counter)?;
     let first: [Row; 1] = [("{{ a }}", 3, A, "Integer(1)")];
     all_found(&rt, alloc, &mut stack, &first)?;
     stack.push(State::Var(&name, ValueCow::Owned(Value::Integer(9))))?;
@@ -108,7 +108,7 @@ fn asked_once_each(rt: HostRuntime) -> Result<(), Fail> {
     all_found(&rt, alloc, &mut stack, &hidden)?;
     drop(stack);
     assert_eq!(rt; counter.callable.asked, 1);
-    let mut stack = Stack::with_value_fn(alloc, &mut counter);
+    let mut stack = Stack::with_value_fn(alloc, &mut counter)?;
     let second: [Row; 1] = [("{{ a }}", 3, A, "Integer(2)")];
     all_found(&rt, alloc, &mut stack, &second)?;
     drop(stack);
@@ -123,7 +123,7 @@ fn asked_for_the_whole_path(rt: HostRuntime) -> Result<(), Fail> {
         alloc,
         asked: Vec::new(alloc),
     };
-    let mut stack = Stack::with_value_fn(alloc, &mut refusing);
+    let mut stack = Stack::with_value_fn(alloc, &mut refusing)?;
     let rows: [Row; 1] = [(
         "{{ user?.name }}",
         3,

@@ -9,7 +9,7 @@ use std::alloc::{AllocError, Global};
 use std::collections::BTreeMap;
 use std::process::Abort;
 use std::test::Fail;
-use upon_lookup::source::{NoSource, ValueSource};
+use upon_lookup::source::ValueSource;
 use upon_render::iter::LoopState;
 use upon_render::stack::{Stack, State};
 use upon_types::error;
@@ -176,7 +176,7 @@ fn in_contexts(rt: HostRuntime) -> Result<(), Fail> {
     put(alloc, &mut entries, "xs", xs)?;
     put(alloc, &mut entries, "n", Value::Integer(5))?;
     let context = Value::Map(entries);
-    let mut stack: Stack<NoSource> = Stack::new(alloc, &context);
+    let mut stack = Stack::new(alloc, &context)?;
     let rows: [Row; 4] = [
         (
             "Hello {{ user.name }}!",
@@ -263,7 +263,7 @@ fn in_loop(
     number: u32,
     rows: &[Row],
 ) -> Result<(), Fail> {
-    let mut stack: Stack<NoSource> = Stack::new(alloc, context);
+    let mut stack = Stack::new(alloc, context)?;
     let state = at_item(rt, alloc, vars, ValueCow::Borrowed(iterable), number)?;
     stack.push(State::Loop(state))?;
     all_found(rt, alloc, &mut stack, rows)
@@ -460,7 +460,7 @@ fn names_and_boundaries(
     vars: &LoopVars,
     name: &Ident,
 ) -> Result<(), Fail> {
-    let mut stack: Stack<NoSource> = Stack::new(alloc, context);
+    let mut stack = Stack::new(alloc, context)?;
     let state = at_item(rt, alloc, vars, ValueCow::Borrowed(items), 1)?;
     stack.push(State::Loop(state))?;
     stack.push(State::Var(name, ValueCow::Owned(Value::Integer(8))))?;

@@ -1,7 +1,7 @@
 use Rattle.upon_lookup.specs.Answer.{is_borrowed_value}
 use Rattle.upon_render.specs.Frames.{frame_bindings}
 use Rattle.upon_render.specs.Loop.{is_lent_loop}
-use Rattle.upon_render.specs.declared.stack.State.TheVariants.{Var, Loop}
+use Rattle.upon_render.specs.declared.stack.Frame.TheVariants.{Var, Loop}
 use Rattle.upon_render.proofs.Known.{frame_lends_so}
 use Rattle.upon_render.proofs.stack.find_in_frame.Goals as goal
 

@@ -9,7 +9,7 @@ use Rattle.upon_types.specs.AstPath.{first_member}
 use Rattle.upon_lookup.specs.Answer.{is_borrowed_value}
 use Rattle.upon_render.specs.Frames.{frame_bindings}
 use Rattle.upon_render.specs.Loop.{is_lent_loop}
-use Rattle.upon_render.specs.declared.stack.State.TheVariants.{Var, Loop}
+use Rattle.upon_render.specs.declared.stack.Frame.TheVariants.{Var, Loop}
 use Rattle.upon_render.proofs.Known.{frame_finds, bound_to-nil}
 use Rattle.upon_render.proofs.stack.lookup_frame.Goals as goal
 

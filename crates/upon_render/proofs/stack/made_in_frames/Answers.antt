@@ -4,7 +4,7 @@ use Rattle.upon_render.specs.Frames.{frame_bindings, frames_over, frames_lend}
 use Rattle.upon_render.specs.Loop.{is_lent_loop}
 use Rattle.upon_lookup.specs.Seen.{FindsMade}
 use Rattle.upon_lookup.specs.Settled.{SettledPath}
-use Rattle.upon_render.specs.declared.stack.State.TheVariants.{Loop}
+use Rattle.upon_render.specs.declared.stack.Frame.TheVariants.{Loop}
 use Rattle.upon_render.proofs.Known.{frame_makes}
 use Rattle.upon_render.proofs.Searches.{known-step, known-passed, known_by_frame}
 use Rattle.upon_render.proofs.stack.made_in_frames.Goals as goal

@@ -19,8 +19,8 @@ pub returns-clause-means : goal.returns-clause-means
 returns-clause-means g c =
     let ended = c.render_within-ended in
     write_said _ _ c.args.self.now c.args.limits.now (template_of c.args.template.now) (option_map (λ n. n.now) c.args.name) c.args.value ended.result.0
-    (g.O.Output.given c.args.out.now) (g.O.Output.given ended.new.out) (states tt tt) (root_of c.new-stack.result) c.depth-depth.result c.max.result c.reported_within.result
+    (g.O.Output.given c.args.out.now) (g.O.Output.given ended.new.out) (states tt tt) (root_of c.over-stack.result) c.depth-depth.result c.max.result c.reported_within.result
     (g.O.Output.mark ended.new.out) (g.O.Output.mark c.reported_within.new.out) (g.O.Output.given c.reported_within.new.out)
-    c.new-stack.ensures.root c.depth-depth.ensures c.max.ensures
-    (ended.ensures.ran (template_of c.args.template.now) refuses_all tt c.program_of.ensures (never_asks (root_of c.new-stack.result)))
+    c.over-stack.ensures.root c.depth-depth.ensures c.max.ensures
+    (ended.ensures.ran (template_of c.args.template.now) refuses_all tt c.program_of.ensures (never_asks (root_of c.over-stack.result)))
     c.reported_within.ensures.report c.reported_within.ensures.mark c.reported_within.ensures.given

@@ -10,4 +10,4 @@ returns-clause-ran g c t is =
     at_value (λ _. refuses_all) (λ _. tt) c.render-ended.result.0 (g.W.Output.given c.args.out.now) (g.W.Output.given c.render-ended.new.out)
     (λ ask. calls_on (g.C.Callables.callables c.args.callables.now) (g.C.Callables.default_formatter c.args.callables.now) ask)
     (g.T.TemplateSource.resolve c.args.templates) c.args.running.left t _ (g.T.TemplateSource.template_state c.args.templates) _
-    refuses_all tt _ (root_of c.render-ended.result.1) _ c.new-stack.ensures.root (λ s. refl) (λ ask q asks. c.render-ended.ensures.ran t ask q is asks)
+    refuses_all tt _ (root_of c.render-ended.result.1) _ c.over-stack.ensures.root (λ s. refl) (λ ask q asks. c.render-ended.ensures.ran t ask q is asks)

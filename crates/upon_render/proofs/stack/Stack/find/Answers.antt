@@ -5,7 +5,7 @@ use Rattle.upon_lookup.specs.Environment.{root_environment}
 use Rattle.upon_render.specs.Roots.{pure_root, root_lends}
 use Rattle.upon_lookup.specs.Settled.{known_path}
 use Rattle.upon_render.specs.Stack.{stack_environment, root_of, frames_of, stack_lends}
-use Rattle.upon_render.specs.declared.stack.State.{State}
+use Rattle.upon_render.specs.declared.stack.Frame.{Frame}
 use Rattle.upon_render.proofs.Searches.{known_by_frames, looks_up_here, looks_up_root}
 use Rattle.upon_render.proofs.stack.Stack.find.Goals as goal
 
@@ -31,5 +31,5 @@ returns-in-Below g c ask q =
     let root = root_of stack in
     let env = root_environment (pure_root root) in
     let lent = root_lends root in
-    let below = subst (λ (l : List State). known_by_frames env lent l first rest ≡ known_path env lent first rest) c.as_slice.ensures.value (c.in-Below.ensures env lent) in
+    let below = subst (λ (l : List Frame). known_by_frames env lent l first rest ≡ known_path env lent first rest) c.as_slice.ensures.value (c.in-Below.ensures env lent) in
     looks_up_root ask (stack_environment stack) (pure_root root) (stack_lends stack first.access) lent first rest q _ below (c.find_in_root.ensures ask q)

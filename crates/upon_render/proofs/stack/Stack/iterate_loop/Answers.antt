@@ -3,29 +3,29 @@ use Rattle.upon_render.specs.Stack.{IsLoop}
 use Rattle.upon_render.specs.Cursor.{advance}
 use Rattle.upon_render.specs.Loop.{cursor, is_lent_loop}
 use Rattle.upon_render.specs.declared.iter.LoopState.{LoopState}
-use Rattle.upon_render.specs.declared.stack.State.{State}
-use Rattle.upon_render.specs.declared.stack.State.TheVariants.{Loop}
+use Rattle.upon_render.specs.declared.stack.Frame.{Frame}
+use Rattle.upon_render.specs.declared.stack.Frame.TheVariants.{Loop}
 use Rattle.upon_render.proofs.Tops.{last_is, same_top, set_last}
 use Rattle.upon_render.proofs.stack.Stack.iterate_loop.Goals as goal
 
 pub unreachable-requires : goal.unreachable-requires
 unreachable-requires g c =
-    let P : State → Type 0 = λ frame. IsLoop (Some frame) in
+    let P : Frame → Type 0 = λ frame. IsLoop (Some frame) in
     subst P c.in-Scope.is (last_is IsLoop c.args.self.now.frames c.len-last.result c.index_mut.result.now c.len-last.ensures c.index_mut.ensures.value c.requires c.requires)
 
 pub unreachable-requires-in-Entry : goal.unreachable-requires-in-Entry
 unreachable-requires-in-Entry g c =
-    let P : State → Type 0 = λ frame. IsLoop (Some frame) in
+    let P : Frame → Type 0 = λ frame. IsLoop (Some frame) in
     subst P c.in-Entry.is (last_is IsLoop c.args.self.now.frames c.len-last.result c.index_mut.result.now c.len-last.ensures c.index_mut.ensures.value c.requires c.requires)
 
 pub unreachable-requires-in-Var : goal.unreachable-requires-in-Var
 unreachable-requires-in-Var g c =
-    let P : State → Type 0 = λ frame. IsLoop (Some frame) in
+    let P : Frame → Type 0 = λ frame. IsLoop (Some frame) in
     subst P c.in-Var.is (last_is IsLoop c.args.self.now.frames c.len-last.result c.index_mut.result.now c.len-last.ensures c.index_mut.ensures.value c.requires c.requires)
 
 pub unreachable-requires-in-Boundary : goal.unreachable-requires-in-Boundary
 unreachable-requires-in-Boundary g c =
-    let P : State → Type 0 = λ frame. IsLoop (Some frame) in
+    let P : Frame → Type 0 = λ frame. IsLoop (Some frame) in
     subst P c.in-Boundary.is (last_is IsLoop c.args.self.now.frames c.len-last.result c.index_mut.result.now c.len-last.ensures c.index_mut.ensures.value c.requires c.requires)
 
 same_loop : (state next : LoopState) → Loop state ≡ Loop next → state ≡ next
