@@ -1,0 +1,3 @@
+pub mod Trees
+pub mod Weights
+pub mod StatementWeights

@@ -1,0 +1,4 @@
+pub mod AstExpression
+pub mod Ast
+pub mod Weight
+pub mod StatementWeight
