@@ -1,10 +1,10 @@
 -- What a rendering writes follows what was there.
 use Rattle.std.proofs.Common.{◌≡◌, ◌∙◌, ◌++◌, [], ℕ, List, Bool, Option, Some, Result, Ok, Err, unwrap_or, ap, sym, inl, inr}
 use Rattle.std.proofs.lemmas.List.{append-nil}
-use Rattle.upon_types.specs.declared.error.Error.{Error}
-use Rattle.upon_meaning_spec.specs.Engine.{Template}
-use Rattle.upon_meaning_spec.specs.Outcome.{Outcome}
-use Rattle.upon_vm.specs.Reports.{IsAnyIo, WritesReported, WritesAndLeaves}
+use Rattle.upon.specs.DeclaredError.{Error}
+use Rattle.upon.specs.Engine.{Template}
+use Rattle.upon.specs.Outcome.{Outcome}
+use Rattle.upon.specs.Reports.{IsAnyIo, WritesReported, WritesAndLeaves}
 use Rattle.upon_store.specs.Stored.{RendersStored}
 use Rattle.upon_store.specs.declared.store.StoreError.{StoreError}
 use Rattle.upon_store.specs.declared.store.StoreError.TheVariants.{BadPath, NotFound, Engine, OutOfMemory}

@@ -1,10 +1,10 @@
 -- What the callables of the tests answer.
 use Rattle.std.specs.Prelude.{ℤ, List, [], ◌∷◌, None, Some, codes}
 use Rattle.std.specs.Int.{w64, int_wrapping_add}
-use Rattle.upon_functions.specs.Outcome.{Returned, value, refusal}
-use Rattle.upon_types.specs.Answers.{Formatted, refused, well}
-use Rattle.upon_types.specs.Val.{Val, int_val, list_val, no_vals, none_val}
-use Rattle.upon_meaning_spec.specs.DefaultFormat.{default_format}
+use Rattle.upon.specs.FunctionOutcome.{Returned, value, refusal}
+use Rattle.upon.specs.Answers.{Formatted, refused, well}
+use Rattle.upon.specs.Val.{Val, int_val, list_val, no_vals, none_val}
+use Rattle.upon.specs.DefaultFormat.{default_format}
 
 -- the sum of two integers of 64 bits, which wraps
 abbrev pub wrapped : ℤ → ℤ → Returned

@@ -1,9 +1,9 @@
 -- What the formatters of the examples write.
 use Rattle.std.specs.Prelude.{[], ◌++◌, Some, codes}
 use Rattle.std.specs.Fmt.{signed_decimal}
-use Rattle.upon_types.specs.Answers.{Formatted, well, refused}
-use Rattle.upon_types.specs.Val.{Val, none_val, int_val, text_val}
-use Rattle.upon_meaning_spec.specs.DefaultFormat.{default_format}
+use Rattle.upon.specs.Answers.{Formatted, well, refused}
+use Rattle.upon.specs.Val.{Val, none_val, int_val, text_val}
+use Rattle.upon.specs.DefaultFormat.{default_format}
 
 -- a text in quotation marks, all else as by default
 abbrev pub quoted : Val → Formatted

@@ -1,7 +1,7 @@
 -- What the functions of the examples answer.
 use Rattle.std.specs.Prelude.{ℕ, ℤ, pos, List, [], ◌∷◌, ◌++◌, length, nat_lt, int_lt, codes, if◌then◌else◌}
-use Rattle.upon_functions.specs.Outcome.{Returned, value, refusal}
-use Rattle.upon_types.specs.Val.{Val, bool_val, int_val, text_val}
+use Rattle.upon.specs.FunctionOutcome.{Returned, value, refusal}
+use Rattle.upon.specs.Val.{Val, bool_val, int_val, text_val}
 
 -- whether a text has more bytes than a number
 abbrev pub is_longer : List Val → Returned

@@ -1,7 +1,7 @@
 // Functions and formatters of the tests.
 ghost use Rattle.std.specs.Prelude.{◌≡◌, Some, false};
-ghost use Rattle.upon_fmt.specs.Error.{message_of};
-ghost use Rattle.upon_fmt.specs.Formatter.{is_marked, text_of};
+ghost use Rattle.upon.specs.FormatError.{message_of};
+ghost use Rattle.upon.specs.Formatter.{is_marked, text_of};
 ghost use Rattle.upon_examples.specs.Callables.{added, declined, doubled, echoed, listed_nothing};
 
 use std::alloc::{AllocError, Global};

@@ -2,8 +2,8 @@
 use serde::Serialize;
 use std::alloc::{AllocError, Global};
 use std::collections::BTreeMap;
-use upon_lookup::source::{SourceError, ValueMember, ValueSource};
-use upon_serde::{Result, Value, to_value, value};
+use upon::render::{SourceError, ValueSource};
+use upon::{Result, Value, ValueMember, to_value, value};
 
 /// Returns John, written out.
 pub fn john(alloc: Global) -> Result<Value> {
@@ -75,9 +75,9 @@ pub struct Placeholder {
 
 impl ValueSource for Placeholder {
     ghost use Rattle.std.specs.Prelude.{[], string_bytes};
-    ghost use Rattle.upon_types.specs.Val.{text_val};
-    ghost use Rattle.upon_lookup.specs.Finding.{reply};
-    ghost use Rattle.upon_lookup.specs.Source.{says};
+    ghost use Rattle.upon.specs.Val.{text_val};
+    ghost use Rattle.upon.specs.Finding.{reply};
+    ghost use Rattle.upon.specs.Source.{says};
 
     ghost State = { Unit {0} };
 

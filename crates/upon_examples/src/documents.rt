@@ -1,7 +1,7 @@
 // The examples of docs/STORE.md.
 ghost use Rattle.std.specs.Prelude.{◌≡◌, ◌++◌, ℕ, List, Err, IfErr, IfOk, OnErr, Some, false, true};
-ghost use Rattle.upon_syntax.specs.TagReading.{IsSyntaxError};
-ghost use Rattle.upon_engine.specs.Engine.{engine_syntax};
+ghost use Rattle.upon.specs.TagReading.{IsSyntaxError};
+ghost use Rattle.upon.specs.EngineParts.{engine_syntax};
 ghost use Rattle.upon_store.specs.Paths.{is_path};
 ghost use Rattle.upon_store.specs.Stored.{stored, AllStay, EndsAdding, HoldsTemplate, OthersStay};
 

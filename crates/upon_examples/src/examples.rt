@@ -3,7 +3,6 @@ ghost use Rattle.std.specs.Prelude.{string_bytes};
 ghost use Rattle.upon_examples.specs.Functions.{after_text};
 
 use std::alloc::{AllocError, Global};
-use std::borrow::CowStr;
 use std::collections::BTreeMap;
 use upon::functions::{Call1S, Fn1S};
 use upon::render::{OneTemplate, TemplateMap};
@@ -13,9 +12,9 @@ use upon::{Engine, Result, Syntax, value};
 pub fn page(alloc: Global) -> Result<String> {
     let mut engine = Engine::new(alloc);
     let row = "<li>{{ post.title }}{% if post.likes %} ({{ post.likes }}){% endif %}</li>\n";
-    engine.add_template(CowStr::Borrowed("row"), CowStr::Borrowed(row))?;
+    engine.add_template("row".into(), row.into())?;
     let page = "<ul>\n{% for post in posts %}{% include \"row\" %}{% endfor %}</ul>\n";
-    engine.add_template(CowStr::Borrowed("page"), CowStr::Borrowed(page))?;
+    engine.add_template("page".into(), page.into())?;
     let context =
         value! { in alloc; posts: [{title: "Hello", likes: 2}, {title: "More", likes: 0}] }?;
     engine.template("page").render_from(&context).to_string()
@@ -29,7 +28,7 @@ pub fn mail(alloc: Global, name: &str) -> Result<String> {
     engine.set_syntax(builder.build(alloc)?);
     let text = "Dear << name >>,\n<% if is_late %>\n{{ your bill is late }}\n<% endif %>";
     let context = value! { in alloc; name: name, is_late: true }?;
-    let template = engine.compile(CowStr::Borrowed(text))?;
+    let template = engine.compile(text.into())?;
     template.render_from(&engine, &context).to_string()
 }
 
@@ -54,21 +53,21 @@ pub fn getters(alloc: Global) -> Result<String> {
     let text = String::from_str(alloc, "get_")?;
     let getter = Box::new(alloc, Fn1S::new(Prefix { text }))?;
     let mut engine = Engine::new(alloc);
-    engine.add_function(CowStr::Borrowed("getter"), getter)?;
+    engine.add_function("getter".into(), getter)?;
     let source = "{% for name, kind in fields -%}
 fn {{ name | getter }}(&self) -> {{ kind }};
 {% endfor -%}";
     let context = value! { in alloc; fields: {width: "u32", height: "u32"} }?;
-    let template = engine.compile(CowStr::Borrowed(source))?;
+    let template = engine.compile(source.into())?;
     template.render_from(&engine, &context).to_string()
 }
 
 /// Renders a configuration, with one template under each name.
 pub fn configuration(alloc: Global) -> Result<String> {
     let engine = Engine::new(alloc);
-    let entry = engine.compile(CowStr::Borrowed("{{ key }} = {{ value }}\n"))?;
+    let entry = engine.compile("{{ key }} = {{ value }}\n".into())?;
     let loop_over = "{% for key, value in settings %}{% include \"entry\" %}{% endfor %}";
-    let file = engine.compile(CowStr::Borrowed(loop_over))?;
+    let file = engine.compile(loop_over.into())?;
     let context = value! { in alloc; settings: {port: 80, host: "localhost"} }?;
     file.render_from(&engine, &context)
         .with_template_fn(OneTemplate::new(&entry))
@@ -79,10 +78,10 @@ pub fn configuration(alloc: Global) -> Result<String> {
 pub fn letter(alloc: Global) -> Result<String> {
     let engine = Engine::new(alloc);
     let mut parts = BTreeMap::new(alloc);
-    let head = engine.compile(CowStr::Borrowed("Dear {{ name }},\n"))?;
+    let head = engine.compile("Dear {{ name }},\n".into())?;
     parts.insert(String::from_str(alloc, "head")?, head)?;
     let text = "{% include \"head\" %}thank you.\n";
-    let letter = engine.compile(CowStr::Borrowed(text))?;
+    let letter = engine.compile(text.into())?;
     let context = value! { in alloc; name: "Ann" }?;
     let templates = TemplateMap::new(alloc, &parts);
     let letter = letter
@@ -95,9 +94,9 @@ pub fn letter(alloc: Global) -> Result<String> {
 pub fn greeting(alloc: Global, theirs: &str) -> Result<String> {
     let mut engine = Engine::new(alloc);
     engine.set_max_include_depth(2);
-    engine.add_template(CowStr::Borrowed("theirs"), CowStr::Borrowed(theirs))?;
+    engine.add_template("theirs".into(), theirs.into())?;
     let source = "{% include \"theirs\" with {\"name\": name} %}";
     let context = value! { in alloc; name: "Ann", secret: "xyz" }?;
-    let template = engine.compile(CowStr::Borrowed(source))?;
+    let template = engine.compile(source.into())?;
     template.render_from(&engine, &context).to_string()
 }

@@ -1,11 +1,10 @@
 // The formatters of docs/FUNCTIONS.md, as they are there.
 ghost use Rattle.std.specs.Prelude.{◌≡◌, Some, codes, false};
-ghost use Rattle.upon_fmt.specs.Error.{message_of};
-ghost use Rattle.upon_fmt.specs.Formatter.{is_marked, text_of};
+ghost use Rattle.upon.specs.FormatError.{message_of};
+ghost use Rattle.upon.specs.Formatter.{is_marked, text_of};
 ghost use Rattle.upon_examples.specs.Formatters.{dashed, demanded, numbered, quoted};
 
 use std::alloc::Global;
-use std::borrow::CowStr;
 use upon::fmt::{self, Format, Formatter};
 use upon::{Engine, Result, Value, value};
 
@@ -29,7 +28,7 @@ impl Format for Quoted {
 /// Renders two values in quotation marks, if they are texts.
 pub fn quotation(alloc: Global) -> Result<String> {
     let mut engine = Engine::new(alloc);
-    engine.add_formatter(CowStr::Borrowed("quoted"), Box::new(alloc, Quoted)?)?;
+    engine.add_formatter("quoted".into(), Box::new(alloc, Quoted)?)?;
     let context = value! { in alloc; title: "Hamlet", year: 1603 }?;
     engine.render_text("{{ title | quoted }}, {{ year | quoted }}", &context)
 }
@@ -56,7 +55,7 @@ impl Format for Numbered {
 /// Renders two values, a number after `No. `.
 pub fn entry(alloc: Global) -> Result<String> {
     let mut engine = Engine::new(alloc);
-    engine.add_formatter(CowStr::Borrowed("numbered"), Box::new(alloc, Numbered)?)?;
+    engine.add_formatter("numbered".into(), Box::new(alloc, Numbered)?)?;
     let context = value! { in alloc; number: 7, title: "Hamlet" }?;
     engine.render_text("{{ number | numbered }}, {{ title | numbered }}", &context)
 }
@@ -117,7 +116,7 @@ fn missing(f: &mut Formatter) -> fmt::Error
 /// Renders a name, and refuses that there is no mail.
 pub fn address(alloc: Global) -> Result<String> {
     let mut engine = Engine::new(alloc);
-    engine.add_formatter(CowStr::Borrowed("demanded"), Box::new(alloc, Demanded)?)?;
+    engine.add_formatter("demanded".into(), Box::new(alloc, Demanded)?)?;
     let context = value! { in alloc; name: "Ann", mail: None }?;
     engine.render_text("{{ name | demanded }}: {{ mail | demanded }}", &context)
 }

@@ -1,8 +1,8 @@
 // The examples of docs/FUNCTIONS.md, and functions of integers of 64 bits.
 ghost use Rattle.std.specs.Prelude.{◌∷◌, [], string_bytes};
-ghost use Rattle.upon_function_adapters.specs.Adapters.{adapter_answer};
-ghost use Rattle.upon_types.specs.Misfits.{integer_misfit};
-ghost use Rattle.upon_functions.specs.Integers.{i64_range};
+ghost use Rattle.upon.specs.Adapters.{adapter_answer};
+ghost use Rattle.upon.specs.Misfits.{integer_misfit};
+ghost use Rattle.upon.specs.Integers.{i64_range};
 ghost use Rattle.upon_examples.specs.Callables.{added, doubled, echoed};
 ghost use Rattle.upon_examples.specs.Functions.{after_text, is_longer, positive};
 
@@ -10,7 +10,7 @@ use std::alloc::{AllocError, Global};
 use upon::functions::{
     Call1, Call1S, Call1V, Call2, Call2SO, CallError, Function, Meaning, call_1,
 };
-use upon_types::value::{Value, ValueCow};
+use upon::value::{Value, ValueCow};
 
 /// Twice an integer.
 #[derive(Drop)]

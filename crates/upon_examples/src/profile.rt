@@ -1,7 +1,6 @@
 // The first example of docs/CONTEXTS.md, as it is there.
 use serde::Serialize;
 use std::alloc::Global;
-use std::borrow::CowStr;
 use upon::{Engine, Result};
 
 /// A person, with the headlines of what was posted.
@@ -22,6 +21,6 @@ pub struct Headline<'a> {
 pub fn page(alloc: Global, profile: &Profile<'_>) -> Result<String> {
     let engine = Engine::new(alloc);
     let text = "{{ name }}:{% for post in posts %} {{ post.title }} ({{ post.likes }}){% endfor %}";
-    let template = engine.compile(CowStr::Borrowed(text))?;
+    let template = engine.compile(text.into())?;
     template.render(&engine, profile).to_string()
 }

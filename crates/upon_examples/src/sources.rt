@@ -15,9 +15,9 @@ pub struct Counter {
 
 impl CallPath for Counter {
     ghost use Rattle.std.specs.Prelude.{ℕ, ◌+◌, ◌%◌, ◌^◌, pos};
-    ghost use Rattle.upon_types.specs.Val.{int_val};
-    ghost use Rattle.upon_lookup.specs.Finding.{reply};
-    ghost use Rattle.upon_lookup.specs.Source.{says};
+    ghost use Rattle.upon.specs.Val.{int_val};
+    ghost use Rattle.upon.specs.Finding.{reply};
+    ghost use Rattle.upon.specs.Source.{says};
 
     ghost State = { ℕ };
 
@@ -49,8 +49,8 @@ impl NoUser {
 
 impl CallPath for NoUser {
     ghost use Rattle.std.specs.Prelude.{codes};
-    ghost use Rattle.upon_lookup.specs.Finding.{reply};
-    ghost use Rattle.upon_lookup.specs.Source.{refuses};
+    ghost use Rattle.upon.specs.Finding.{reply};
+    ghost use Rattle.upon.specs.Source.{refuses};
 
     ghost State = { Unit {0} };
 
@@ -75,9 +75,9 @@ struct Counted<'r> {
 
 impl<'r> CallName<'r> for Counted<'r> {
     ghost use Rattle.std.specs.Prelude.{ℕ, ◌+◌, ◌%◌, ◌^◌};
-    ghost use Rattle.upon_lookup.specs.Finding.{reply};
-    ghost use Rattle.upon_lookup.specs.Source.{says};
-    ghost use Rattle.upon_engine.specs.declared.template.Template.{Template};
+    ghost use Rattle.upon.specs.Finding.{reply};
+    ghost use Rattle.upon.specs.Source.{says};
+    ghost use Rattle.upon.specs.DeclaredTemplate.{Template};
 
     ghost State = { Template × ℕ };
 
