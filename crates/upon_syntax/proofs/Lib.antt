@@ -1,5 +1,9 @@
+pub mod InPieces
 pub mod PieceTrees
 pub mod Told
+pub mod BuiltTrees
+pub mod KnownTrees
+pub mod TagExpressions
 pub mod OpenBlocks
 pub mod NextTokens
 pub mod BlockTags
@@ -8,6 +12,7 @@ pub mod PieceSteps
 pub mod TagSteps
 pub mod BlockFaults
 pub mod TagEnds
+pub mod KeptTokens
 pub mod CutParts
 pub mod TagTokenSteps
 pub mod LiteralSpans

@@ -160,8 +160,8 @@ module _ (delimiters : List DelimiterText) (s : List ℕ) (texts : HasTexts deli
     };
   }
 
-  pub found_on : (before after : LexerState) (stack next : List OpenBlock) (found : List TemplatePiece) (old new : List CodeInstr) (kept : CodePiece) (x : PiecesSoFar delimiters s before stack found) → PieceRead delimiters s before after stack next x.lexemes old new kept → PieceFound delimiters s before after next found old new kept
-  found_on before after stack next found old new kept x y = record { piece = y.piece; gone = so_far_on before after stack next found (y.piece ∷ []) x y.reads; keeps = y.keeps; code = y.code }
+  pub found_on : (before after : LexerState) (stack next : List OpenBlock) (found : List TemplatePiece) (tokens : List Lexeme) (old new : List CodeInstr) (kept : CodePiece) (x : PiecesSoFar delimiters s before stack found) → PieceRead delimiters s before after stack next x.lexemes tokens old new kept → PieceFound delimiters s before after next found tokens old new kept
+  found_on before after stack next found tokens old new kept x y = record { piece = y.piece; gone = so_far_on before after stack next found (y.piece ∷ []) x y.reads; keeps = y.keeps; holds = y.holds; code = y.code }
 
   -- all of them
   pub all_found : (left : LexerState) (stack : List OpenBlock) (found : List TemplatePiece) → PiecesSoFar delimiters s left stack found → left.offset ≡ length s → stack ≡ [] → HasPieces delimiters s found × LeaveOpen [] found []

@@ -1,6 +1,8 @@
 pub mod CommentReasons
 pub mod Pieces
 pub mod Told
+pub mod TreeTold
+pub mod TagExpressions
 pub mod TagReading
 pub mod TagReaders
 pub mod TagEnds

@@ -23,7 +23,8 @@ use Rattle.upon_syntax.specs.declared.compile.parse.piece_reader.Next.TheVariant
 use Rattle.upon_syntax.specs.OpenBlocks.{stack_of, kinds_of}
 use Rattle.upon_syntax.specs.TagEnds.{KeepsText}
 use Rattle.upon_syntax.specs.TagReading.{HasPieces, IsSyntaxError}
-use Rattle.upon_syntax.specs.Pieces.{TemplatePiece, KeepsPiece, piece_code, ArePieces, LeaveOpen}
+use Rattle.upon_syntax.specs.Pieces.{TemplatePiece, KeepsPiece, HoldsPiece, piece_code, ArePieces, LeaveOpen}
+use Rattle.upon_syntax.specs.TagReaders.{reader_tokens}
 use Rattle.upon_instructions.specs.Program.{program_view}
 use Rattle.upon_instructions.specs.declared.types.program.Instr.{Instr as CodeInstr}
 
@@ -42,6 +43,10 @@ pieces_state reader = lexer_state reader.lexer
 -- the blocks that are open there
 abbrev pub pieces_blocks : PieceReader → List OpenBlock
 pieces_blocks reader = stack_of reader.blocks
+
+-- the tokens of the tag that it read last
+abbrev pub pieces_tokens : PieceReader → List Lexeme
+pieces_tokens reader = reader_tokens reader.tags
 
 -- pieces, one after the other
 abbrev pub Pieces : Type 0
@@ -88,14 +93,16 @@ pub record ReadsOnPieces (delimiters : List DelimiterText) (s : List ℕ) (befor
       → ArePieces s pieces (significant (shown_lexemes s after.trims rest)) []
       → ArePieces s (found ++ pieces) (significant (shown_lexemes s before.trims (more ++ rest))) []
 
--- A reader has gone on over one piece, of which the code keeps this, and the instructions of the piece's expression are
--- appended.
+-- A reader has gone on over one piece, of which the code keeps this and, if it is a tag, these tokens, and the
+-- instructions of the piece's expression are appended.
 pub record PieceRead (delimiters : List DelimiterText) (s : List ℕ) (before after : LexerState)
-    (stack next : List OpenBlock) (ls : List Lexeme) (old new : List CodeInstr) (kept : CodePiece) : Type 0 where
-  pub piece : TemplatePiece
-  pub reads : ReadsOnPieces delimiters s before after stack next ls (piece ∷ [])
-  pub keeps : KeepsPiece kept piece
-  pub code : program_view new ≡ program_view old ++ piece_code piece
+    (stack next : List OpenBlock) (ls tokens : List Lexeme) (old new : List CodeInstr) (kept : CodePiece) : Type 0
+  where
+    pub piece : TemplatePiece
+    pub reads : ReadsOnPieces delimiters s before after stack next ls (piece ∷ [])
+    pub keeps : KeepsPiece kept piece
+    pub holds : HoldsPiece s piece tokens
+    pub code : program_view new ≡ program_view old ++ piece_code piece
 
 -- the begin of a comment was read last
 pub record AfterCommentBegin (delimiters : List DelimiterText) (s : List ℕ) (left : LexerState) (ls : List Lexeme)
@@ -143,13 +150,15 @@ pub record GoesFurther (delimiters : List DelimiterText) (s : List ℕ) (before 
   pub within : after.offset ≤ length s
   pub so_far : PiecesSoFar delimiters s after stack found
 
--- One piece more than these, from one offset to a later one: of it the code keeps this, and the instructions of its
--- expression are appended.
+-- One piece more than these, from one offset to a later one: of it the code keeps this and, if it is a tag, these
+-- tokens, and the instructions of its expression are appended.
 pub record PieceFound (delimiters : List DelimiterText) (s : List ℕ) (before after : LexerState)
-    (stack : List OpenBlock) (found : List TemplatePiece) (old new : List CodeInstr) (kept : CodePiece) : Type 0 where
+    (stack : List OpenBlock) (found : List TemplatePiece) (tokens : List Lexeme) (old new : List CodeInstr)
+    (kept : CodePiece) : Type 0 where
   pub piece : TemplatePiece
   pub gone : GoesFurther delimiters s before after stack (found ++ piece ∷ [])
   pub keeps : KeepsPiece kept piece
+  pub holds : HoldsPiece s piece tokens
   pub code : program_view new ≡ program_view old ++ piece_code piece
 
 -- ---- the same, of a reader
@@ -176,7 +185,7 @@ ReaderGoesOn reader after before ls found = ReadsOnPieces (pieces_delimiters rea
 abbrev pub ReadsPiece : PieceReader → PieceReader → LexerState → List Lexeme → List CodeInstr → List CodeInstr
     → CodePiece → Type 0
 ReadsPiece reader after before ls old new kept = PieceRead (pieces_delimiters reader) (text_of_reader reader) before
-    (pieces_state after) (pieces_blocks reader) (pieces_blocks after) ls old new kept
+    (pieces_state after) (pieces_blocks reader) (pieces_blocks after) ls (pieces_tokens after) old new kept
 
 -- the same of the piece that was read, if one was; a comment leaves the instructions
 abbrev pub ReadsFound : PieceReader → PieceReader → LexerState → List Lexeme → List CodeInstr → List CodeInstr
@@ -216,7 +225,7 @@ HasGone reader after found = GoesFurther (pieces_delimiters reader) (text_of_rea
 abbrev pub FindsPiece : PieceReader → PieceReader → List TemplatePiece → List CodeInstr → List CodeInstr → CodePiece
     → Type 0
 FindsPiece reader after found old new kept = PieceFound (pieces_delimiters reader) (text_of_reader reader)
-    (pieces_state reader) (pieces_state after) (pieces_blocks after) found old new kept
+    (pieces_state reader) (pieces_state after) (pieces_blocks after) found (pieces_tokens after) old new kept
 
 -- what it says that it found, if these pieces were found before
 abbrev pub FindsNext : PieceReader → PieceReader → List TemplatePiece → List CodeInstr → List CodeInstr → Next → Type 0

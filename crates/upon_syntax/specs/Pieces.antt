@@ -8,6 +8,11 @@ use Rattle.upon_types.specs.BlockKinds.{Block, opened_kind}
 use Rattle.upon_language_spec.specs.Blocks.{Closer, else_if, plain_else, end_of, block_takes}
 use Rattle.upon_language_spec.specs.Grammar.{IsStatement}
 use Rattle.upon_tag_parser.specs.BlockTags.{BlockTag, opening_tag, else_if_tag, else_tag, end_tag, include_tag, IsBlockTag, tag_code, Keeps}
+use Rattle.upon_tag_parser.specs.TagTokens.{EachTagToken}
+use Rattle.upon_types.specs.declared.types.token.Token.TheVariants.{EndExpr, EndBlock}
+use Rattle.upon_language_spec.specs.Parts.{a_base, filters, end_expr, block_word}
+use Rattle.upon_language_spec.specs.Wanted.{an_end_expression, an_end_block}
+use Rattle.upon_tag_parser.specs.WholeTags.{LeadsToEnd, IsInlineTag, IsTagInside}
 use Rattle.upon_machine_spec.specs.Code.{emission_code}
 use Rattle.upon_machine_spec.specs.Instr.{Instr}
 use Rattle.upon_syntax.specs.declared.compile.parse.piece.Piece.{Piece as CodePiece}
@@ -34,8 +39,22 @@ ArePieces s (piece ∷ pieces) before rest = (mid : List Lexeme) × IsPiece s pi
 -- what the code keeps of a piece beside the instructions of its expression
 abbrev pub KeepsPiece : CodePiece → TemplatePiece → Type 0
 KeepsPiece (code.Raw span) piece = piece ≡ raw_piece span
-KeepsPiece code.InlineExpr piece = (e : Expression) × (span : Span) × (piece ≡ inline_piece e span)
+KeepsPiece (code.InlineExpr span) piece = (e : Expression) × (piece ≡ inline_piece e span)
 KeepsPiece (code.Block kept) piece = (tag : BlockTag) × (piece ≡ block_piece tag) × Keeps kept tag
+
+-- the tokens lead to the end of an inline tag
+abbrev pub InlineLeads : List ℕ → List Lexeme → Type 0
+InlineLeads s tokens = LeadsToEnd s (a_base ∷ filters ∷ end_expr ∷ []) tokens EndExpr an_end_expression
+
+-- to the end of a tag of a block
+abbrev pub TagLeads : List ℕ → List Lexeme → Type 0
+TagLeads s tokens = LeadsToEnd s (block_word ∷ []) tokens EndBlock an_end_block
+
+-- between the begin and the end of a tag, the tokens are this piece; of a raw part nothing is said
+abbrev pub HoldsPiece : List ℕ → TemplatePiece → List Lexeme → Type 0
+HoldsPiece s (raw_piece span) tokens = Unit {0}
+HoldsPiece s (inline_piece e span) tokens = IsInlineTag s e tokens × InlineLeads s tokens × EachTagToken s None tokens
+HoldsPiece s (block_piece tag) tokens = IsTagInside s tag tokens × TagLeads s tokens × EachTagToken s None tokens
 
 -- the instructions of its expression, if it has one; those of an inline tag show the value too
 abbrev pub piece_code : TemplatePiece → List Instr

@@ -1,5 +1,5 @@
 -- What is known before and after the tokens of a tag are read, on top of what the lexer says.
-use Rattle.std.specs.Prelude.{◌≡◌, ◌⊎◌, ℕ, List, [], ◌∷◌, ◌++◌, Bool, false, length, Some}
+use Rattle.std.specs.Prelude.{◌≡◌, ◌⊎◌, ℕ, List, [], ◌∷◌, ◌++◌, Bool, false, length, Some, None}
 use Rattle.upon_types.specs.declared.types.Span.{Span}
 use Rattle.upon_types.specs.declared.error.Error.{Error}
 use Rattle.upon_types.specs.Error.{fault_of}
@@ -17,9 +17,12 @@ use Rattle.upon_language_spec.specs.Stages.{Stage, EndsAt}
 use Rattle.upon_lexer.specs.declared.compile.lex.Lexer.{Lexer}
 use Rattle.upon_lexer.specs.Lexers.{lexer_text, lexer_delimiters, lexer_state, ReadSoFar}
 use Rattle.upon_tag_parser.specs.declared.compile.parse.tag.Tag.{Tag}
+use Rattle.upon_tag_parser.specs.TagTokens.{EachTagToken}
 use Rattle.upon_tag_parser.specs.WholeTags.{HoldsInline, HoldsTag}
 use Rattle.upon_instructions.specs.declared.types.program.Instr.{Instr}
-use Rattle.upon_syntax.specs.Pieces.{TemplatePiece, ArePieces}
+use Rattle.upon_syntax.specs.declared.compile.parse.tag_reader.TagReader.{TagReader}
+use Rattle.upon_syntax.specs.TagReaders.{reader_tokens}
+use Rattle.upon_syntax.specs.Pieces.{TemplatePiece, ArePieces, InlineLeads, TagLeads}
 
 -- The lexer has read these tokens, and no fault holds before its offset; the last of them is the begin of a tag of this
 -- sort, with this span.
@@ -48,17 +51,30 @@ IsSyntaxError delimiters s e = (fault_of e ≡ out_of_memory) ⊎ ((span : Span)
     × IsFirstFault delimiters s span reason
     × (fault_of e ≡ fault_with_picture s (bare_fault syntax (Some reason) (Some span))))
 
--- If the begin of an inline tag was read before, the tag is read to its end, and the instructions that show its
--- expression are appended.
-abbrev pub ReadsInlineTag : Lexer → Lexer → Span → List Instr → List Instr → Type 0
-ReadsInlineTag before after begin old new = (ls : List Lexeme) → AfterBegin before expression begin ls → (end : ℕ)
-    × AfterEnd before after expression ls end (λ tokens. HoldsInline (lexer_text before) tokens old new)
+-- two things hold of the tokens of a tag of this text, and a reader of tags keeps them
+pub record KeepsTokens (s : List ℕ) (reader : TagReader) (P Q : List Lexeme → Type 0) (tokens : List Lexeme) : Type 0
+  where
+    pub holds : P tokens
+    pub leads : Q tokens
+    pub same : tokens ≡ reader_tokens reader
+    pub each : EachTagToken s None tokens
+
+-- If the begin of an inline tag was read before, the tag is read to where this span ends, and the instructions that
+-- show its expression are appended; the reader keeps its tokens.
+abbrev pub ReadsInlineTag : TagReader → Lexer → Lexer → Span → List Instr → List Instr → Span → Type 0
+ReadsInlineTag reader before after begin old new span = (ls : List Lexeme) → AfterBegin before expression begin ls
+    → AfterEnd before after expression ls span.n
+    (KeepsTokens (lexer_text before) reader (λ tokens. HoldsInline (lexer_text before) tokens old new)
+    (InlineLeads (lexer_text before)))
 
 -- If the begin of a block's tag was read before, the tag is read to where this span ends, and the code keeps this of
--- it; the instructions that leave the value of its expression, if it has one, are appended.
-abbrev pub ReadsBlockTag : Lexer → Lexer → Span → List Instr → List Instr → Tag → Span → Type 0
-ReadsBlockTag before after begin old new tag span = (ls : List Lexeme) → AfterBegin before block begin ls
-    → AfterEnd before after block ls span.n (λ tokens. HoldsTag (lexer_text before) tag tokens old new)
+-- it; the instructions that leave the value of its expression, if it has one, are appended, and the reader keeps its
+-- tokens.
+abbrev pub ReadsBlockTag : TagReader → Lexer → Lexer → Span → List Instr → List Instr → Tag → Span → Type 0
+ReadsBlockTag reader before after begin old new tag span = (ls : List Lexeme) → AfterBegin before block begin ls
+    → AfterEnd before after block ls span.n
+    (KeepsTokens (lexer_text before) reader (λ tokens. HoldsTag (lexer_text before) tag tokens old new)
+    (TagLeads (lexer_text before)))
 
 -- if the begin of a tag of this sort was read, the error reports the text's first fault, or that there was no memory
 abbrev pub RefusesTag : Lexer → Sort → Span → Error → Type 0

@@ -1,4 +1,4 @@
-// The steps from a template's text to its program.
+// The steps from a template's text to its program, and to its tree.
 pub mod parse;
 
 pub use upon_delimiters::search;

@@ -1,7 +1,7 @@
 -- A tag of a block, as the grammar has it, and as the code holds it.
-use Rattle.std.specs.Prelude.{◌≡◌, ℕ, List, [], Bool, Option, Some, None, codes}
+use Rattle.std.specs.Prelude.{◌≡◌, ℕ, ◌+◌, List, [], Bool, true, false, Option, Some, None, codes}
 use Rattle.upon_types.specs.BlockKinds.{Block, if_block, for_block, with_block, Opening, if_tag, for_tag, with_tag, end_word}
-use Rattle.upon_types.specs.Path.{Ident}
+use Rattle.upon_types.specs.Path.{Ident, LoopVars, item, key_value}
 use Rattle.upon_types.specs.Expression.{Expression, expression_span}
 use Rattle.upon_types.specs.Tree.{include}
 use Rattle.upon_types.specs.AstPath.{ident_of, string_of, loop_vars_of}
@@ -38,6 +38,25 @@ tag_code else_tag = []
 tag_code (end_tag kind) = []
 tag_code (include_tag name None) = []
 tag_code (include_tag name (Some e)) = expression_code e
+
+-- how many tokens there are of the `not` of a condition
+abbrev pub tokens_of_not : Bool → ℕ
+tokens_of_not false = 0
+tokens_of_not true = 1
+
+-- of the names that a loop binds
+abbrev pub tokens_of_names : LoopVars → ℕ
+tokens_of_names (item name) = 1
+tokens_of_names (key_value key value span) = 3
+
+-- how many tokens of a tag are before its expression; 0 if it has none
+abbrev pub tokens_before : BlockTag → ℕ
+tokens_before (opening_tag (if_tag negated) e) = 1 + tokens_of_not negated
+tokens_before (opening_tag (for_tag names) e) = 2 + tokens_of_names names
+tokens_before (opening_tag (with_tag name) e) = 1
+tokens_before (else_if_tag negated e) = 2 + tokens_of_not negated
+tokens_before (include_tag name (Some e)) = 3
+tokens_before tag = 0
 
 -- the kind of block that the code's kind denotes
 abbrev pub block_kind : Kind → Block

@@ -2,9 +2,9 @@
 use Rattle.std.specs.Prelude.{List, [], ◌∷◌, ◌++◌, map, reverse, Bool, true, Option, Some, None, if◌then◌else◌}
 use Rattle.std.specs.Option.{option_map}
 use Rattle.upon_types.specs.AstPath.{ident_of, loop_vars_of}
-use Rattle.upon_types.specs.BlockKinds.{Opening, if_tag, for_tag, with_tag}
+use Rattle.upon_types.specs.BlockKinds.{Block, Opening, if_tag, for_tag, with_tag, opened_kind, may_have_else}
 use Rattle.upon_types.specs.Expression.{Expression}
-use Rattle.upon_types.specs.Tree.{Statement, block, with, Statements, no_else, otherwise}
+use Rattle.upon_types.specs.Tree.{Statement, block, Statements, Else, no_else, otherwise}
 use Rattle.upon_tree.specs.Ast.{scope_tree, statement_tree, statements_from}
 use Rattle.upon_tree.specs.AstExpression.{expression_tree}
 use Rattle.upon_tree.specs.declared.ast.Scope.{Scope}
@@ -63,12 +63,14 @@ branch_begun so = so_far [] (Some (statements_from so.statements)) so.blocks
 abbrev pub tree_else_if_begun : Bool → Expression → TreeSoFar → TreeSoFar
 tree_else_if_begun negated e so = block_opened true (if_tag negated) e (branch_begun so)
 
--- a block with its branches: the last one, and the first, if it has two; a `with` has one
+-- the other branch of a block of this kind, if it may have one
+abbrev pub other_branch : Block → Statements → Else
+other_branch kind last = if may_have_else kind then otherwise last else no_else
+
+-- a block with its branches: the last one, and the first, if it has two
 abbrev pub whole_block : Opening → Expression → Option Statements → Statements → Statement
-whole_block (with_tag word) e None last = with e word last
-whole_block (with_tag word) e (Some first) last = with e word first
 whole_block opening e None last = block opening e last no_else
-whole_block opening e (Some first) last = block opening e first (otherwise last)
+whole_block opening e (Some first) last = block opening e first (other_branch (opened_kind opening) last)
 
 -- the innermost block ends, and with the `if` of an `else if` the one around it
 abbrev pub block_ended_in : List Statement → Option Statements → List BlockSoFar → TreeSoFar

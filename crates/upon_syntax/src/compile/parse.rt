@@ -1,9 +1,10 @@
-// From a template's text to its program.
+// From a template's text to its program, and to its tree.
 ghost use Rattle.std.specs.Prelude.{◌≡◌, IfOk, IfErr};
 ghost use Rattle.upon_types.specs.Tree.{Statements};
 ghost use Rattle.upon_types.specs.Error.{fault_of};
 ghost use Rattle.upon_types.specs.Fault.{syntax};
 ghost use Rattle.upon_language_spec.specs.Grammar.{HasTree};
+ghost use Rattle.upon_tree.specs.Ast.{tree_of};
 ghost use Rattle.upon_delimiters.specs.Searcher.{searcher_delimiters};
 ghost use Rattle.upon_machine_spec.specs.Code.{program_of};
 ghost use Rattle.upon_instructions.specs.Program.{program_view};
@@ -19,13 +20,16 @@ pub mod tag_faults;
 pub mod tag_reader;
 pub mod tag_tokens;
 mod tell;
+mod tree;
 
 use crate::compile::parse::program::read_program;
+use crate::compile::parse::tree::read_tree;
 use std::alloc::Global;
 use upon_delimiters::search::Searcher;
 use upon_instructions::types::program::Instr;
 pub use upon_literals::{literal, literal_fault};
 pub use upon_tag_parser::compile::parse::{base, expression, list, path, scalar, tag, want};
+use upon_tree::ast::Template;
 use upon_types::error::Result;
 
 /// Parses a template's text.
@@ -65,5 +69,20 @@ impl<'a> Parser<'a> {
             → (tree : Statements) → HasTree (syntax_of self.entry) (source_of self.entry) tree → ⊥) }
     {
         read_program(self.alloc, self.searcher, self.source)
+    }
+
+    /// Returns the text's tree, with its spans and parentheses. A text that has none is refused: the error reports its
+    /// first fault, at its span, as that of `compile_template` does. If memory is out, the error says that.
+    pub fn parse_template(self) -> Result<Template>
+        ensures tree { IfOk result
+            (λ template. HasTree (syntax_of self.entry) (source_of self.entry) (tree_of template)) }
+        ensures only_tree { IfOk result (λ template. (tree : Statements)
+            → HasTree (syntax_of self.entry) (source_of self.entry) tree → tree ≡ tree_of template) }
+        ensures fault { IfErr result (IsSyntaxError (syntax_of self.entry) (source_of self.entry)) }
+        ensures no_tree { IfErr result
+            (λ e. (fault_of e).kind ≡ syntax
+            → (tree : Statements) → HasTree (syntax_of self.entry) (source_of self.entry) tree → ⊥) }
+    {
+        read_tree(self.alloc, self.searcher, self.source)
     }
 }

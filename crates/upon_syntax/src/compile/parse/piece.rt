@@ -7,8 +7,8 @@ use upon_types::types::Span;
 pub enum Piece {
     /// Text outside tags: what trimming leaves of it.
     Raw(Span),
-    /// An inline tag.
-    InlineExpr,
+    /// An inline tag, from its begin to its end.
+    InlineExpr(Span),
     /// A tag of a block.
     Block(Tag),
 }

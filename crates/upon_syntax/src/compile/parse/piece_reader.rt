@@ -14,6 +14,7 @@ ghost use Rattle.upon_language_spec.specs.Wanted.{in_quotes};
 ghost use Rattle.upon_lexer.specs.Lexers.{lexer_text};
 ghost use Rattle.upon_delimiters.specs.Searcher.{searcher_delimiters};
 ghost use Rattle.upon_tag_parser.specs.BlockTags.{block_kind};
+ghost use Rattle.upon_tag_parser.specs.TagTokens.{lexemes_of};
 ghost use Rattle.upon_syntax.specs.CommentReasons.{comment_reason};
 ghost use Rattle.upon_syntax.specs.OpenBlocks.{closer_view};
 ghost use Rattle.upon_syntax.specs.declared.compile.parse.piece.Piece.TheVariants.{InlineExpr, Block};
@@ -29,6 +30,7 @@ use std::alloc::Global;
 use upon_delimiters::search::Searcher;
 use upon_instructions::types::program::Instr;
 use upon_lexer::compile::lex::Lexer;
+use upon_literals::literal::Lexed;
 use upon_tag_parser::compile::parse::tag::Tag;
 use upon_types::error::{Error, Result};
 use upon_types::types::{Span, Token};
@@ -58,7 +60,7 @@ pub struct PieceReader<'a> {
 }
 
 impl<'a> PieceReader<'a> {
-    ghost use Rattle.upon_syntax.specs.PieceReading.{text_of_reader, pieces_delimiters, pieces_state, pieces_blocks, Pieces, KeepsReading, IsBetween, IsGivenTo, ReadsPiece, ReadsFound, HasBegunComment, IsInComment, HasPassedEnd, HasPassedComment, HasFound, FindsNext, RefusesPieces};
+    ghost use Rattle.upon_syntax.specs.PieceReading.{text_of_reader, pieces_delimiters, pieces_state, pieces_blocks, pieces_tokens, Pieces, KeepsReading, IsBetween, IsGivenTo, ReadsPiece, ReadsFound, HasBegunComment, IsInComment, HasPassedEnd, HasPassedComment, HasFound, FindsNext, RefusesPieces};
 
     /// Creates a reader at the start of a text, over the delimiters of a searcher.
     pub fn new(alloc: Global, searcher: &'a Searcher, source: &'a str) -> PieceReader<'a>
@@ -98,6 +100,13 @@ impl<'a> PieceReader<'a> {
         }
     }
 
+    /// Returns the tokens of the tag that was read last, between its begin and its end.
+    pub fn tag_tokens(&self) -> &[Lexed]
+        ensures { lexemes_of result.now ≡ pieces_tokens self.now }
+    {
+        self.tags.tokens()
+    }
+
     // The piece that a token begins, or none for a comment.
     fn read_piece(
         &mut self,
@@ -117,21 +126,18 @@ impl<'a> PieceReader<'a> {
                 self.pass_comment()?;
                 Ok(None)
             }
-            Token::BeginExpr => {
-                self.read_inline(span, code)?;
-                Ok(Some(Piece::InlineExpr))
-            }
+            Token::BeginExpr => Ok(Some(Piece::InlineExpr(self.read_inline(span, code)?))),
             Token::BeginBlock => Ok(Some(Piece::Block(self.read_block(span, code)?))),
             _ => Ok(Some(Piece::Raw(span))),
         }
     }
 
     // The inline tag whose begin was read.
-    fn read_inline(&mut self, begin: Span, code: &mut Vec<Instr>) -> Result<()>
+    fn read_inline(&mut self, begin: Span, code: &mut Vec<Instr>) -> Result<Span>
         requires given { (before : LexerState) × (ls : List Lexeme) × IsGivenTo self.old before ls BeginExpr begin }
-        ensures tag { IfOk result (λ _. (before : LexerState) (ls : List Lexeme)
+        ensures tag { IfOk result (λ span. (before : LexerState) (ls : List Lexeme)
             → IsGivenTo self.old before ls BeginExpr begin
-            → ReadsPiece self.old self.new before ls code.old.items code.new.items InlineExpr) }
+            → ReadsPiece self.old self.new before ls code.old.items code.new.items (InlineExpr span)) }
         ensures fault { IfErr result (RefusesPieces self.old) }
         ensures keeps { KeepsReading self.old self.new }
     {

@@ -29,7 +29,8 @@ pub struct TagReader<'a> {
 }
 
 impl<'a> TagReader<'a> {
-    ghost use Rattle.upon_syntax.specs.TagReaders.{reader_text};
+    ghost use Rattle.upon_tag_parser.specs.TagTokens.{lexemes_of};
+    ghost use Rattle.upon_syntax.specs.TagReaders.{reader_text, reader_tokens};
 
     /// Creates a reader of the tags of a text.
     pub fn new(alloc: Global, source: &'a str) -> TagReader<'a>
@@ -42,16 +43,19 @@ impl<'a> TagReader<'a> {
         }
     }
 
-    /// Reads the inline tag whose begin was read, and appends the instructions that show its expression. The error
-    /// reports the text's first fault, or that there was no memory; after it the instructions can be any.
+    /// Reads the inline tag whose begin was read, appends the instructions that show its expression, and returns where
+    /// the whole tag is. The error reports the text's first fault, or that there was no memory; after it the
+    /// instructions can be any.
     pub fn read_inline(
         &mut self,
         lexer: &mut Lexer,
         begin: Span,
         code: &mut Vec<Instr>,
-    ) -> Result<()>
+    ) -> Result<Span>
         requires same { reader_text self.now ≡ lexer_text lexer.now }
-        ensures tag { IfOk result (λ _. ReadsInlineTag lexer.old lexer.new begin code.old.items code.new.items) }
+        ensures tag { IfOk result
+            (λ span. ReadsInlineTag self.new lexer.old lexer.new begin code.old.items code.new.items span) }
+        ensures start { IfOk result (λ span. span.m ≡ begin.m) }
         ensures fault { IfErr result (RefusesTag lexer.old expression begin) }
         ensures keeps { KeepsText lexer.old lexer.new }
         ensures reader { reader_text self.new ≡ reader_text self.old }
@@ -59,8 +63,8 @@ impl<'a> TagReader<'a> {
         let ended = read_tokens(self.source, lexer, &mut self.tokens)?;
         match self.parser().parse_inline_tag(&self.tokens, code) {
             Ok(()) => {
-                end_of(self.alloc, self.source, Want::EndExpr, ended)?;
-                Ok(())
+                let end = end_of(self.alloc, self.source, Want::EndExpr, ended)?;
+                Ok(Span { m: begin.m, n: end })
             }
             Err(failure) => Err(refuse_failure(self.alloc, self.source, failure, ended)),
         }
@@ -77,7 +81,7 @@ impl<'a> TagReader<'a> {
     ) -> Result<(Tag, Span)>
         requires same { reader_text self.now ≡ lexer_text lexer.now }
         ensures tag { IfOk result
-            (λ r. ReadsBlockTag lexer.old lexer.new begin code.old.items code.new.items r.0 r.1) }
+            (λ r. ReadsBlockTag self.new lexer.old lexer.new begin code.old.items code.new.items r.0 r.1) }
         ensures start { IfOk result (λ r. r.1.m ≡ begin.m) }
         ensures fault { IfErr result (RefusesTag lexer.old block begin) }
         ensures keeps { KeepsText lexer.old lexer.new }
@@ -95,6 +99,13 @@ impl<'a> TagReader<'a> {
             },
             Err(failure) => Err(refuse_failure(self.alloc, self.source, failure, ended)),
         }
+    }
+
+    /// Returns the tokens of the tag that was read last, between its begin and its end.
+    pub fn tokens(&self) -> &[Lexed]
+        ensures { lexemes_of result.now ≡ reader_tokens self.now }
+    {
+        &self.tokens
     }
 
     // The parser of the tokens.

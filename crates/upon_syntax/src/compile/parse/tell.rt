@@ -1,19 +1,30 @@
-// What the compiler is told of a piece of a template.
-ghost use Rattle.std.specs.Prelude.{◌≡◌, [], OnOk};
+// What a compiler is told of a piece of a template, and what a builder of a tree.
+ghost use Rattle.std.specs.Prelude.{◌≡◌, [], IfOk, OnOk};
+ghost use Rattle.upon_types.specs.Expression.{Expression};
 ghost use Rattle.upon_compiler.specs.After.{after_event};
 ghost use Rattle.upon_compiler.specs.Compiler.{compiler_state};
 ghost use Rattle.upon_compiler.specs.Events.{end_event};
 ghost use Rattle.upon_instructions.specs.Program.{program_view};
 ghost use Rattle.upon_tag_parser.specs.BlockTags.{BlockTag, Keeps, block_kind, tag_code};
-ghost use Rattle.upon_syntax.specs.Pieces.{TemplatePiece, KeepsPiece, piece_code};
+ghost use Rattle.upon_tag_parser.specs.TagTokens.{lexemes_of};
+ghost use Rattle.upon_tree.specs.AstExpression.{expression_tree};
+ghost use Rattle.upon_tree_parser.specs.Opened.{tree_reader_text};
+ghost use Rattle.upon_tree_parser.specs.Statements.{builder_state};
+ghost use Rattle.upon_syntax.specs.Pieces.{TemplatePiece, KeepsPiece, HoldsPiece, block_piece, piece_code};
+ghost use Rattle.upon_syntax.specs.TagExpressions.{HasExpressionAfter};
+ghost use Rattle.upon_syntax.specs.TreeTold.{tree_after, tree_after_tag};
 ghost use Rattle.upon_syntax.specs.Told.{event_of, tag_event};
 
 use crate::compile::parse::piece::Piece;
 use std::alloc::AllocError;
 use upon_compiler::compile::Compiler;
 use upon_instructions::types::program::Instr;
+use upon_literals::literal::Lexed;
 use upon_tag_parser::compile::parse::kind::Kind;
 use upon_tag_parser::compile::parse::tag::Tag;
+use upon_tree::ast::Expr;
+use upon_tree_parser::expression::TreeReader;
+use upon_tree_parser::statements::{Head, TreeBuilder};
 
 /// Tells a compiler of a piece, whose expression has these instructions if it has one, and leaves none of them
 /// behind. It fails if memory is out.
@@ -29,7 +40,7 @@ pub(crate) fn tell(
 {
     match piece {
         Piece::Raw(span) => compiler.raw(span),
-        Piece::InlineExpr => compiler.shown(code),
+        Piece::InlineExpr(_) => compiler.shown(code),
         Piece::Block(tag) => tell_tag(compiler, tag, code),
     }
 }
@@ -66,4 +77,70 @@ fn tell_end(compiler: &mut Compiler, kind: Kind) -> Result<(), AllocError>
         Kind::For => compiler.end_for(),
         Kind::With => compiler.end_with(),
     }
+}
+
+/// Tells a builder of a tree of a piece: if it is a tag, of these tokens. It fails if memory is out.
+pub(crate) fn tell_tree(
+    builder: &mut TreeBuilder,
+    piece: Piece,
+    trees: &TreeReader,
+    tokens: &[Lexed],
+) -> Result<(), AllocError>
+    requires { (told : TemplatePiece) × KeepsPiece piece told
+        × HoldsPiece (tree_reader_text trees.now) told (lexemes_of tokens.now) }
+    ensures { (told : TemplatePiece) → KeepsPiece piece told
+        → HoldsPiece (tree_reader_text trees.now) told (lexemes_of tokens.now)
+        → OnOk result (builder_state builder.new ≡ tree_after told (builder_state builder.old)) }
+{
+    match piece {
+        Piece::Raw(span) => builder.raw(span),
+        Piece::InlineExpr(span) => builder.inline_expr(expression_after(trees, 0, tokens)?, span),
+        Piece::Block(tag) => tell_tree_tag(builder, tag, trees, tokens),
+    }
+}
+
+// Does the same for a tag of a block.
+fn tell_tree_tag(
+    builder: &mut TreeBuilder,
+    tag: Tag,
+    trees: &TreeReader,
+    tokens: &[Lexed],
+) -> Result<(), AllocError>
+    requires { (told : BlockTag) × Keeps tag told
+        × HoldsPiece (tree_reader_text trees.now) (block_piece told) (lexemes_of tokens.now) }
+    ensures { (told : BlockTag) → Keeps tag told
+        → HoldsPiece (tree_reader_text trees.now) (block_piece told) (lexemes_of tokens.now)
+        → OnOk result (builder_state builder.new ≡ tree_after_tag told (builder_state builder.old)) }
+{
+    let count = tag.tokens_before_expression();
+    match tag {
+        Tag::If(not) => builder.begin(Head::If(not, expression_after(trees, count, tokens)?)),
+        Tag::ElseIf(not) => builder.else_if(not, expression_after(trees, count, tokens)?),
+        Tag::Else => {
+            builder.begin_else();
+            Ok(())
+        }
+        Tag::For(vars, _) => {
+            builder.begin(Head::For(
+                Box::into_inner(vars),
+                expression_after(trees, count, tokens)?,
+            ))
+        }
+        Tag::With(name) => builder.begin(Head::With(expression_after(trees, count, tokens)?, name)),
+        Tag::End(_) => builder.end(),
+        Tag::Include(name) => builder.include(name, None),
+        Tag::IncludeWith(name) => {
+            let globals = expression_after(trees, count, tokens)?;
+            builder.include(name, Some(globals))
+        }
+    }
+}
+
+// The tree of the expression that is after so many of the tokens.
+fn expression_after(trees: &TreeReader, count: usize, tokens: &[Lexed]) -> Result<Expr, AllocError>
+    requires { (e : Expression) × HasExpressionAfter (tree_reader_text trees.now) count (lexemes_of tokens.now) e }
+    ensures { (e : Expression) → HasExpressionAfter (tree_reader_text trees.now) count (lexemes_of tokens.now) e
+        → IfOk result (λ expr. expression_tree expr ≡ e) }
+{
+    trees.known(&tokens[count..])
 }

@@ -7,6 +7,7 @@ ghost use Rattle.upon_language_spec.specs.Tokens.{GoesKeyword};
 ghost use Rattle.upon_language_spec.specs.Wanted.{an_end_expression, an_end_block};
 ghost use Rattle.upon_language_spec.specs.Parts.{Part, a_base, filters, end_expr, end_block, block_word, condition};
 ghost use Rattle.upon_language_spec.specs.Parts.{else_rest, loop_name, as_word, include_name};
+ghost use Rattle.upon_tag_parser.specs.BlockTags.{BlockTag, Keeps, tokens_before};
 ghost use Rattle.upon_tag_parser.specs.TagTokens.{lexemes_of, AreTagTokens, IsRest};
 ghost use Rattle.upon_tag_parser.specs.TagParsing.{IfStuck, IsStuck};
 ghost use Rattle.upon_tag_parser.specs.Brackets.{place, place_of};
@@ -40,6 +41,25 @@ pub enum Tag {
     Include(ast::String),
     /// The name of a template that sees a value alone.
     IncludeWith(ast::String),
+}
+
+impl Tag {
+    /// Returns how many tokens of the tag are before its expression: 0 if it has none.
+    pub fn tokens_before_expression(&self) -> usize
+        ensures { (tag : BlockTag) → Keeps self.now tag → result ≡ tokens_before tag }
+    {
+        match self {
+            Tag::If(not) => 1 + usize::from(*not),
+            Tag::ElseIf(not) => 2 + usize::from(*not),
+            Tag::For(vars, _) => match &**vars {
+                LoopVars::Item(_) => 3,
+                LoopVars::KeyValue(_) => 5,
+            },
+            Tag::With(_) => 1,
+            Tag::IncludeWith(_) => 3,
+            Tag::Else | Tag::End(_) | Tag::Include(_) => 0,
+        }
+    }
 }
 
 impl<'a> TagParser<'a> {

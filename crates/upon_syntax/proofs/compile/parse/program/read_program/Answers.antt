@@ -1,7 +1,7 @@
 use Rattle.std.proofs.Common.{◌≡◌, ℕ, List, length, sym, ap, ◌∙◌, arith}
 use Rattle.upon_language_spec.specs.Search.{DelimiterText}
 use Rattle.upon_compiler.specs.Compiler.{compiler_state}
-use Rattle.upon_syntax.specs.PieceReading.{text_of_reader, pieces_delimiters, pieces_state, pieces_blocks}
+use Rattle.upon_syntax.specs.PieceReading.{text_of_reader, pieces_delimiters, pieces_state, pieces_blocks, pieces_tokens}
 use Rattle.upon_syntax.specs.TagReading.{HasPieces}
 use Rattle.upon_syntax.proofs.NextTokens.{over}
 use Rattle.upon_syntax.proofs.Told.{HasTold, found_told, program_of_pieces}
@@ -17,7 +17,7 @@ pieces-preserved-in-Continue-branch-3 c =
     let new = compiler_state c.tell.new.compiler in
     let on = rw c.in-OnePiece.is at c.in_ok-piece.ensures.found found so_far in
     let said = c.in_ok-tell-in-OnePiece.ensures in
-    let both = found_told delimiters s (pieces_state c.pieces.reader) (pieces_state reader) (pieces_blocks reader) found c.pieces.code.items c.next.new.code.items c.tell.new.code.items c.in-OnePiece.piece old new on c.pieces.invariant.empty told said.state said.moved in
+    let both = found_told delimiters s (pieces_state c.pieces.reader) (pieces_state reader) (pieces_blocks reader) found (pieces_tokens reader) c.pieces.code.items c.next.new.code.items c.tell.new.code.items c.in-OnePiece.piece old new on c.pieces.invariant.empty told said.state said.moved in
     let F : List DelimiterText → List ℕ → Type 0 = λ x y. HasTold x y (pieces_state reader) (pieces_blocks reader) new in
     record {
       text = c.in_ok-piece.ensures.keeps.text ∙ c.pieces.invariant.text;

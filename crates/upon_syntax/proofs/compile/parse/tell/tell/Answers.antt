@@ -23,7 +23,7 @@ pub returns-in-InlineExpr-clause-state : goal.returns-in-InlineExpr-clause-state
 returns-in-InlineExpr-clause-state c = λ told keeps code.
     let kept = rw c.in-InlineExpr.is at keeps in
     let old = compiler_state c.args.compiler.now in
-    let event = ap shown_event (code ∙ ap piece_code kept.2) ∙ ap event_of (sym kept.2) in
+    let event = ap shown_event (code ∙ ap piece_code kept.1) ∙ ap event_of (sym kept.1) in
     IfOk-equal c.shown.result _ _ _ c.shown.ensures.state (ap (λ e. after_event e old) event)
 
 pub returns-in-Block-clause-state : goal.returns-in-Block-clause-state

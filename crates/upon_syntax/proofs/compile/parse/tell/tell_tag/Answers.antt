@@ -1,14 +1,13 @@
-use Rattle.std.proofs.Common.{ap, sym, ◌∙◌}
+use Rattle.std.proofs.Common.{refl, ap, sym, ◌∙◌}
 use Rattle.std.proofs.lemmas.Result.{IfOk-equal}
-use Rattle.upon_types.specs.AstPath.{ident_of, loop_vars_of, string_of}
-use Rattle.upon_types.specs.BlockKinds.{if_tag, for_tag, with_tag}
+use Rattle.upon_types.specs.AstPath.{string_of}
 use Rattle.upon_types.specs.Expression.{expression_span}
 use Rattle.upon_compiler.specs.After.{after_event}
 use Rattle.upon_compiler.specs.Compiler.{compiler_state}
-use Rattle.upon_compiler.specs.Events.{else_if_event, opening_event, include_with_event}
+use Rattle.upon_compiler.specs.Events.{else_if_event, include_with_event}
 use Rattle.upon_tag_parser.specs.BlockTags.{tag_code}
 use Rattle.upon_syntax.specs.Told.{tag_event}
-use Rattle.upon_syntax.proofs.Told.{holds_on_ok, none_left}
+use Rattle.upon_syntax.proofs.Told.{holds_on_ok, none_left, opening_told}
 use Rattle.upon_syntax.proofs.compile.parse.tell.tell_tag.Goals as goal
 
 pub returns-in-If-clause-state : goal.returns-in-If-clause-state
@@ -16,7 +15,7 @@ returns-in-If-clause-state c = λ told keeps code.
     let kept = rw c.in-If.is at keeps in
     let old = compiler_state c.args.compiler.now in
     let at = expression_span kept.0 in
-    let event = ap (opening_event (if_tag c.in-If.not) at) (code ∙ ap tag_code kept.1) ∙ ap tag_event (sym kept.1) in
+    let event = opening_told told _ kept.0 at _ kept.1 refl code in
     IfOk-equal c.begin_if.result _ _ _ (c.begin_if.ensures.state at) (ap (λ e. after_event e old) event)
 
 pub returns-in-ElseIf-clause-state : goal.returns-in-ElseIf-clause-state
@@ -41,9 +40,7 @@ pub returns-in-For-clause-state : goal.returns-in-For-clause-state
 returns-in-For-clause-state c = λ told keeps code.
     let kept = rw c.in-For.is at keeps in
     let old = compiler_state c.args.compiler.now in
-    let names = loop_vars_of c.in-For.vars.value in
-    let all = code ∙ ap tag_code kept.1 in
-    let event = (λ i. opening_event (for_tag names) (kept.2 i) (all i)) ∙ ap tag_event (sym kept.1) in
+    let event = opening_told told _ kept.0 _ _ kept.1 kept.2 code in
     IfOk-equal c.begin_for.result _ _ _ c.begin_for.ensures.state (ap (λ e. after_event e old) event)
 
 pub returns-in-End-clause-state : goal.returns-in-End-clause-state
@@ -62,7 +59,7 @@ returns-in-With-clause-state c = λ told keeps code.
     let kept = rw c.in-With.is at keeps in
     let old = compiler_state c.args.compiler.now in
     let at = expression_span kept.0 in
-    let event = ap (opening_event (with_tag (ident_of c.in-With.name)) at) (code ∙ ap tag_code kept.1) ∙ ap tag_event (sym kept.1) in
+    let event = opening_told told _ kept.0 at _ kept.1 refl code in
     IfOk-equal c.begin_with.result _ _ _ (c.begin_with.ensures.state at) (ap (λ e. after_event e old) event)
 
 pub returns-in-Include-clause-state : goal.returns-in-Include-clause-state

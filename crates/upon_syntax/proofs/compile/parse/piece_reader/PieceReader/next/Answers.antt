@@ -3,7 +3,7 @@ use Rattle.std.proofs.lemmas.List.{append-nil}
 use Rattle.upon_language_spec.specs.Search.{DelimiterText}
 use Rattle.upon_language_spec.specs.Cut.{outside}
 use Rattle.upon_lexer.specs.Lexers.{lexer_text, lexer_delimiters, lexer_state}
-use Rattle.upon_syntax.specs.PieceReading.{text_of_reader, pieces_delimiters, pieces_state, pieces_blocks, BetweenPieces, TokenGiven, ReadsOnPieces, PieceRead, GoesFurther}
+use Rattle.upon_syntax.specs.PieceReading.{text_of_reader, pieces_delimiters, pieces_state, pieces_blocks, pieces_tokens, BetweenPieces, TokenGiven, ReadsOnPieces, PieceRead, GoesFurther}
 use Rattle.upon_syntax.specs.Pieces.{TemplatePiece}
 use Rattle.upon_syntax.specs.TagReading.{IsSyntaxError}
 use Rattle.upon_syntax.proofs.NextTokens.{over, back, handed_on, next_in, cut_error}
@@ -87,9 +87,10 @@ returns-in-Some-2-clause-found c = λ found so_far.
     let old = c.args.code.now.items in
     let new = c.read_piece.new.code.items in
     let kept = c.in-Some-2.piece in
-    let G : List DelimiterText → List ℕ → Type 0 = λ x y. PieceRead x y before after stack next so_far.lexemes old new kept in
+    let tokens = pieces_tokens c.read_piece.new.self in
+    let G : List DelimiterText → List ℕ → Type 0 = λ x y. PieceRead x y before after stack next so_far.lexemes tokens old new kept in
     let on = rw c.in-Some-2.is at c.in_ok-piece-in-Some.ensures.piece before so_far.lexemes there in
-    found_on delimiters s texts before after stack next found old new kept so_far (back G delimiters (lexer_delimiters c.next.new.self) s (lexer_text c.next.new.self) c.in_ok-given.ensures.delimiters c.in_ok-given.ensures.text on)
+    found_on delimiters s texts before after stack next found tokens old new kept so_far (back G delimiters (lexer_delimiters c.next.new.self) s (lexer_text c.next.new.self) c.in_ok-given.ensures.delimiters c.in_ok-given.ensures.text on)
 
 pub returns-in-None-2-clause-found : goal.returns-in-None-2-clause-found
 returns-in-None-2-clause-found c = λ found so_far.

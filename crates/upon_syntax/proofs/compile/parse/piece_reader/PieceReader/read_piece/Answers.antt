@@ -41,4 +41,4 @@ returns-in_default-clause-piece c = λ before ls given.
     let self = c.args.self.now in
     let span = c.args.span in
     let on = raw_on (pieces_delimiters self) (text_of_reader self) self.lexer.searcher.now.syntax.has_texts before (pieces_state self) (pieces_blocks self) ls c.args.token span c.in_default.not-BeginExpr c.in_default.not-BeginBlock c.in_default.not-BeginComment given in
-    record { piece = raw_piece span; reads = on; keeps = refl; code = sym (append-nil (program_view c.args.code.now.items)) }
+    record { piece = raw_piece span; reads = on; keeps = refl; holds = tt; code = sym (append-nil (program_view c.args.code.now.items)) }

@@ -11,7 +11,9 @@ use Rattle.upon_tag_parser.specs.TagTokens.{lexemes_of, EachTagToken}
 use Rattle.upon_tag_parser.specs.TagParsing.{OnStuck, IsStuck}
 use Rattle.upon_syntax.specs.TagEnds.{ReadsUpTo}
 use Rattle.upon_syntax.specs.TagFaults.{GoesNoFurther}
-use Rattle.upon_syntax.specs.TagReading.{IsSyntaxError}
+use Rattle.upon_syntax.specs.declared.compile.parse.tag_reader.TagReader.{TagReader}
+use Rattle.upon_syntax.specs.Pieces.{TagLeads}
+use Rattle.upon_syntax.specs.TagReading.{KeepsTokens, IsSyntaxError}
 use Rattle.upon_tag_parser.specs.WholeTags.{LeadsToEnd, HoldsTag}
 use Rattle.upon_syntax.proofs.WholeTags.{mode_is, tag_read, end_is, failure_lies, failure_stops, end_stops, leads_all, after_end}
 use Rattle.upon_syntax.proofs.compile.parse.tag_reader.TagReader.read_block.Goals as goal
@@ -84,4 +86,6 @@ returns-in-Ok-end_of-clause-tag c = λ ls a.
     let Is : List ℕ → List Lexed → Type 0 = λ x ks. HoldsTag x c.in-Ok.tag (lexemes_of ks) old new in
     let is : Is s tokens = subst (λ ks. Is s ks) c.deref.ensures.value (subst (λ x. Is x c.deref.result.now) same c.in-Ok.ensures.tag) in
     let (l, ends, at) = c.in-Ok-end_of.ensures.end in
-    after_end lexer c.read_tokens.new.lexer block ls from to.to (lexemes_of tokens) ended l c.in-Ok-end_of.end (λ ts. HoldsTag s c.in-Ok.tag ts old new) c.in_ok-ended.ensures.keeps.text c.in_ok-ended.ensures.keeps.delimiters tag (leads_all s from (lexemes_of tokens) EndBlock an_end_block to) to.ends (end_is ended l ends) at is
+    let reader : TagReader = record { alloc = c.args.self.now.alloc; source = c.args.self.now.source; tokens = c.read_tokens.new.tokens } in
+    let kept : KeepsTokens s reader (λ ts. HoldsTag s c.in-Ok.tag ts old new) (TagLeads s) (lexemes_of tokens) = record { holds = is; leads = to; same = refl; each = subst Each c.requires.same c.in_ok-ended.ensures.tokens } in
+    after_end lexer c.read_tokens.new.lexer block ls from to.to (lexemes_of tokens) ended l c.in-Ok-end_of.end (KeepsTokens s reader (λ ts. HoldsTag s c.in-Ok.tag ts old new) (TagLeads s)) c.in_ok-ended.ensures.keeps.text c.in_ok-ended.ensures.keeps.delimiters tag (leads_all s from (lexemes_of tokens) EndBlock an_end_block to) to.ends (end_is ended l ends) at kept
