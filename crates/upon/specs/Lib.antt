@@ -22,6 +22,7 @@ pub use Rattle.upon_language_spec.specs.ShortTrees
 pub use Rattle.upon_delimiters.specs.SetTexts
 pub use Rattle.upon_delimiters.specs.Syntax
 pub use Rattle.upon_syntax.specs.TagReading
+pub use Rattle.upon_tree.specs.Ast as TemplateTree
 pub use Rattle.upon_lookup.specs.Asked
 pub use Rattle.upon_lookup.specs.Environment
 pub use Rattle.upon_lookup.specs.Finding

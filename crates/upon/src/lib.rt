@@ -25,6 +25,7 @@ pub use upon_lookup::source::{ValueAccess, ValueAccessOp, ValueMember};
 pub use upon_needs::needs::{Needs, needs_of};
 pub use upon_needs::template_names::{includes, names_needed};
 pub use upon_serde::{to_value, value};
+pub use upon_syntax::laws_of_trees;
 pub use upon_types::error::{Error, Result};
 pub use upon_types::value::Value;
 pub use upon_types::{error, value};

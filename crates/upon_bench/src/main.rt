@@ -11,6 +11,8 @@ use std::fs::File;
 use std::io::{Read, Write};
 use std::process::ExitCode;
 use std::{env, io};
+use upon::compile::parse::Parser;
+use upon::compile::search::Searcher;
 use upon::compile::template;
 use upon::fmt::{DefaultFormat, Formatter};
 use upon::{Engine, Result as UponResult, Syntax, Value};
@@ -75,6 +77,17 @@ fn compiles(alloc: Global, syntax: &Syntax, text: &str, times: usize) -> bool {
     let mut good = true;
     for _ in 0..times {
         good = template(alloc, syntax, CowStr::Borrowed(text)).is_ok() && good;
+    }
+    good
+}
+
+// Makes the tree of a text so often; whether there was one each time.
+fn parses(alloc: Global, text: &str, times: usize) -> bool {
+    let searcher = Searcher::new();
+    let mut good = true;
+    for _ in 0..times {
+        let parser = Parser::new(alloc, &searcher, text);
+        good = parser.parse_template().is_ok() && good;
     }
     good
 }
@@ -172,6 +185,7 @@ fn is_done(rt: &HostRuntime, alloc: Global, call: &Call) -> bool {
         "drop" => deep::release(alloc, call.times, &mut io::writer(rt)).is_ok(),
         "memchr" => looks(text, call.times),
         "html" => escapes(alloc, text, call.times),
+        "tree" => parses(alloc, text, call.times),
         "compile" => works(alloc, EngineWork::Compile, text, call.times).is_ok(),
         "render" => works(alloc, EngineWork::Render(0), text, call.times).is_ok(),
         "large" => works(alloc, EngineWork::Render(10_000), text, call.times).is_ok(),

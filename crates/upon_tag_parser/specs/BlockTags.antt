@@ -11,6 +11,8 @@ use Rattle.upon_machine_spec.specs.Instr.{Instr}
 use Rattle.upon_machine_spec.specs.Code.{expression_code}
 use Rattle.upon_tag_parser.specs.declared.compile.parse.kind.Kind.{Kind}
 use Rattle.upon_tag_parser.specs.declared.compile.parse.kind.Kind.TheVariants as kind
+use Rattle.upon_tag_parser.specs.declared.compile.parse.kind.Opening.{Opening as CodeOpening}
+use Rattle.upon_tag_parser.specs.declared.compile.parse.kind.Opening.TheVariants as opens
 use Rattle.upon_tag_parser.specs.declared.compile.parse.tag.Tag.{Tag}
 use Rattle.upon_tag_parser.specs.declared.compile.parse.tag.Tag.TheVariants as code
 
@@ -63,6 +65,12 @@ abbrev pub block_kind : Kind → Block
 block_kind kind.If = if_block
 block_kind kind.For = for_block
 block_kind kind.With = with_block
+
+-- what opens a block, as the code has it
+abbrev pub opening_of : CodeOpening → Opening
+opening_of (opens.If negated) = if_tag negated
+opening_of (opens.For vars) = for_tag (loop_vars_of vars)
+opening_of (opens.With name) = with_tag (ident_of name)
 
 -- what the code keeps of a tag beside these instructions
 abbrev pub Keeps : Tag → BlockTag → Type 0

@@ -1,15 +1,13 @@
 -- How far the tree of a template was put together: the statements of the innermost block, and the blocks that are open.
 use Rattle.std.specs.Prelude.{List, [], ◌∷◌, ◌++◌, map, reverse, Bool, true, Option, Some, None, if◌then◌else◌}
 use Rattle.std.specs.Option.{option_map}
-use Rattle.upon_types.specs.AstPath.{ident_of, loop_vars_of}
-use Rattle.upon_types.specs.BlockKinds.{Block, Opening, if_tag, for_tag, with_tag, opened_kind, may_have_else}
+use Rattle.upon_types.specs.BlockKinds.{Block, Opening, if_tag, opened_kind, may_have_else}
 use Rattle.upon_types.specs.Expression.{Expression}
 use Rattle.upon_types.specs.Tree.{Statement, block, Statements, Else, no_else, otherwise}
+use Rattle.upon_tag_parser.specs.BlockTags.{opening_of}
 use Rattle.upon_tree.specs.Ast.{scope_tree, statement_tree, statements_from}
 use Rattle.upon_tree.specs.AstExpression.{expression_tree}
 use Rattle.upon_tree.specs.declared.ast.Scope.{Scope}
-use Rattle.upon_tree_parser.specs.declared.statements.Head.{Head}
-use Rattle.upon_tree_parser.specs.declared.statements.Head.TheVariants as head
 use Rattle.upon_tree_parser.specs.declared.statements.OpenBlock.{OpenBlock}
 use Rattle.upon_tree_parser.specs.declared.statements.TreeBuilder.{TreeBuilder}
 
@@ -85,18 +83,6 @@ tree_block_ended so = block_ended_in so.statements so.first so.blocks
 
 -- ---- what the code holds
 
--- what opens a block
-abbrev pub head_opening : Head → Opening
-head_opening (head.If negated e) = if_tag negated
-head_opening (head.For vars e) = for_tag (loop_vars_of vars)
-head_opening (head.With e name) = with_tag (ident_of name)
-
--- its expression
-abbrev pub head_expression : Head → Expression
-head_expression (head.If negated e) = expression_tree e
-head_expression (head.For vars e) = expression_tree e
-head_expression (head.With e name) = expression_tree e
-
 -- the statements of a branch, if there is one
 abbrev pub branch_of : Option Scope → Option Statements
 branch_of branch = option_map scope_tree branch
@@ -104,8 +90,8 @@ branch_of branch = option_map scope_tree branch
 -- an open block
 abbrev pub open_block_tree : OpenBlock → BlockSoFar
 open_block_tree b = record {
-  opening = head_opening b.head;
-  expression = head_expression b.head;
+  opening = opening_of b.opening;
+  expression = expression_tree b.expr;
   is_else_if = b.is_else_if;
   around = map statement_tree b.around.items;
   first_around = branch_of b.first_around;

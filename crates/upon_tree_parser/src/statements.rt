@@ -5,33 +5,24 @@ ghost use Rattle.upon_tree.specs.AstExpression.{expression_tree};
 ghost use Rattle.upon_types.specs.AstPath.{string_of};
 ghost use Rattle.upon_types.specs.Tree.{raw, inline_expr, include};
 ghost use Rattle.std.specs.Option.{option_map};
+ghost use Rattle.upon_tag_parser.specs.BlockTags.{opening_of};
 ghost use Rattle.upon_tree_parser.specs.Statements.{builder_state, nothing_read, statements_so_far, with_statement};
 ghost use Rattle.upon_tree_parser.specs.Statements.{block_opened, branch_begun, tree_block_ended, tree_else_if_begun};
-ghost use Rattle.upon_tree_parser.specs.Statements.{branch_of, head_expression, head_opening, whole_block};
+ghost use Rattle.upon_tree_parser.specs.Statements.{branch_of, whole_block};
 
 use std::alloc::{AllocError, Global};
 use std::mem;
+use upon_tag_parser::compile::parse::kind::Opening;
 use upon_tree::ast::{
-    Expr, ForLoop, Ident, IfElse, Include, InlineExpr, LoopVars, Scope, Stmt, String, Template,
-    With,
+    Expr, ForLoop, IfElse, Include, InlineExpr, Scope, Stmt, String, Template, With,
 };
 use upon_types::types::Span;
-
-/// What opens a block.
-#[derive(Drop)]
-pub enum Head {
-    /// An `if`: whether `not` is before its condition.
-    If(bool, Expr),
-    /// A `for`: its names, and what it goes over.
-    For(LoopVars, Expr),
-    /// A `with`: its value, and the name of that.
-    With(Expr, Ident),
-}
 
 // A block that is open.
 #[derive(Drop)]
 struct OpenBlock {
-    head: Head,
+    opening: Opening,
+    expr: Expr,
     // Whether it is the `if` of an `else if`, which ends with the block around it.
     is_else_if: bool,
     // The statements before it, in a branch of the block around it.
@@ -51,28 +42,28 @@ pub struct TreeBuilder {
 }
 
 // A block with its branches: the last one, and the first, if it has two.
-fn whole(head: Head, first: Option<Scope>, last: Scope) -> Stmt
-    ensures { statement_tree result ≡ whole_block (head_opening head) (head_expression head) (branch_of first)
+fn whole(opening: Opening, expr: Expr, first: Option<Scope>, last: Scope) -> Stmt
+    ensures { statement_tree result ≡ whole_block (opening_of opening) (expression_tree expr) (branch_of first)
         (scope_tree last) }
 {
     let (body, else_branch) = match first {
         None => (last, None),
         Some(first) => (first, Some(last)),
     };
-    match head {
-        Head::If(not, cond) => Stmt::IfElse(IfElse {
+    match opening {
+        Opening::If(not) => Stmt::IfElse(IfElse {
             not,
-            cond,
+            cond: expr,
             then_branch: body,
             else_branch,
         }),
-        Head::For(vars, iterable) => Stmt::ForLoop(ForLoop {
+        Opening::For(vars) => Stmt::ForLoop(ForLoop {
             vars,
-            iterable,
+            iterable: expr,
             body,
             else_branch,
         }),
-        Head::With(expr, name) => Stmt::With(With { expr, name, body }),
+        Opening::With(name) => Stmt::With(With { expr, name, body }),
     }
 }
 
@@ -123,11 +114,11 @@ impl TreeBuilder {
     }
 
     /// Begins a block. It fails if memory is out.
-    pub fn begin(&mut self, head: Head) -> Result<(), AllocError>
+    pub fn begin(&mut self, opening: Opening, expr: Expr) -> Result<(), AllocError>
         ensures { OnOk result (builder_state self.new
-            ≡ block_opened false (head_opening head) (head_expression head) (builder_state self.old)) }
+            ≡ block_opened false (opening_of opening) (expression_tree expr) (builder_state self.old)) }
     {
-        self.open(head, false)
+        self.open(opening, expr, false)
     }
 
     /// Begins the other branch of the innermost block.
@@ -144,7 +135,7 @@ impl TreeBuilder {
             ≡ tree_else_if_begun not (expression_tree cond) (builder_state self.old)) }
     {
         self.begin_else();
-        self.open(Head::If(not, cond), true)
+        self.open(Opening::If(not), cond, true)
     }
 
     /// Ends the innermost block, and with the `if` of an `else if` the one around it. It fails if memory is out.
@@ -153,14 +144,15 @@ impl TreeBuilder {
     {
         'ends: while let Some(block) = self.blocks.pop() {
             let OpenBlock {
-                head,
+                opening,
+                expr,
                 is_else_if,
                 around,
                 first_around,
             } = block;
             let stmts = mem::replace(&mut self.stmts, around);
             let first = mem::replace(&mut self.first, first_around);
-            self.push(whole(head, first, Scope { stmts }))?;
+            self.push(whole(opening, expr, first, Scope { stmts }))?;
             if !is_else_if {
                 return Ok(());
             }
@@ -169,14 +161,15 @@ impl TreeBuilder {
     }
 
     // Opens a block.
-    fn open(&mut self, head: Head, is_else_if: bool) -> Result<(), AllocError>
+    fn open(&mut self, opening: Opening, expr: Expr, is_else_if: bool) -> Result<(), AllocError>
         ensures { OnOk result (builder_state self.new
-            ≡ block_opened is_else_if (head_opening head) (head_expression head) (builder_state self.old)) }
+            ≡ block_opened is_else_if (opening_of opening) (expression_tree expr) (builder_state self.old)) }
     {
         let around = mem::replace(&mut self.stmts, Vec::new(self.alloc));
         let first_around = mem::replace(&mut self.first, None);
         let block = OpenBlock {
-            head,
+            opening,
+            expr,
             is_else_if,
             around,
             first_around,

@@ -6,4 +6,5 @@ pub mod built;
 pub mod kept;
 pub mod pages;
 pub mod stored;
+pub mod trees;
 pub mod users;

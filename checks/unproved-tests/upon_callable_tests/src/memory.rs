@@ -6,6 +6,8 @@ use std::alloc::{AllocError, Global};
 use std::borrow::CowStr;
 use std::process::Abort;
 use std::test::Fail;
+use upon::compile::parse::Parser;
+use upon::compile::search::Searcher;
 use upon::error::ErrorKind;
 use upon::functions::Fn1;
 use upon::types::Span;
@@ -326,5 +328,19 @@ fn needs(rt: HostRuntime) {
         assert!(&rt; needs.names() == ["a", "b"].as_slice());
         assert!(&rt; needs.templates() == ["page", "part"].as_slice());
         assert!(&rt; needs.missing() == ["gone"].as_slice());
+    }
+}
+
+// Every kind of statement and of expression, in eleven statements.
+const STATEMENTS: &str = "a{{ b }}{% include \"c\" with {\"k\": v} %}{% include \"d\" %}\
+{% if not e %}f{% else if g %}h{% else %}i{% endif %}{% for j in [k, 1] %}l{% else %}m{% endfor %}\
+{% for n, o in p %}{# q #}{% endfor %}{% with (r) as s %}t{% endwith %}{{ u | v: w }}{{ x() }}{{ y | z }}";
+
+#[test]
+fn trees(rt: HostRuntime) {
+    let searcher = Searcher::new();
+    match Parser::new(rt.alloc(), &searcher, STATEMENTS).parse_template() {
+        Ok(tree) => assert_eq!(rt; tree.scope.stmts.len(), 11),
+        Err(error) => assert!(rt; is_out(&error), "{error}"),
     }
 }

@@ -16,6 +16,10 @@ mod functions;
 #[cfg(test)]
 mod guest_book;
 #[cfg(test)]
+mod lint;
+#[cfg(test)]
+mod ported;
+#[cfg(test)]
 mod profile;
 #[cfg(test)]
 mod readme;

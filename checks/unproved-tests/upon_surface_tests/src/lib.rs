@@ -2,9 +2,6 @@
 // `upon`, in a function with the signature that its caller relies on. Each public field is read, and each enum is matched
 // with no arm for what is left. Only `upon`, `upon_store` and serde's `Serialize` are named. So a name that goes, or that
 // has another signature, stops this crate; a test a module calls what can be called with little.
-//
-// `to_come.rs.txt` has the one call that is still to come, which makes a text's tree: once it is there, its lines go into
-// `tree.rs`.
 #![tactic(auto)]
 
 #[cfg(test)]

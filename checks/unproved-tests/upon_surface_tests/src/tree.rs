@@ -1,11 +1,22 @@
 // `upon::types::ast`: the tree of a template.
 use std::alloc::Global;
 use std::test::Fail;
+use upon::compile::parse::Parser;
+use upon::compile::search::Searcher;
 use upon::types::ast::{
     Args, BaseExpr, Call, Expr, Filter, ForLoop, Ident, IfElse, Include, InlineExpr, List, LoopVars,
     Map, Paren, Scope, Stmt, String, Template, With,
 };
 use upon::types::Span;
+
+// Every kind of statement and of expression, each once at least.
+const ALL: &str = "a{{ b }}{% include \"c\" with {\"k\": v} %}{% include \"d\" %}{% if not e %}f{% else %}g{% endif %}\
+{% for h in [i, 1] %}j{% else %}k{% endfor %}{% for l, m in n %}{% endfor %}{% with (o) as p %}q{% endwith %}\
+{{ r | s: t }}{{ u() }}{{ w | x }}";
+
+pub fn parse_template(parser: Parser) -> upon::Result<Template> {
+    parser.parse_template()
+}
 
 // The tree. Each function counts the parts that it reads, so that each field is read.
 pub fn no_statements(alloc: Global) -> Scope {
@@ -150,7 +161,13 @@ fn args(given: &Option<Args>) -> usize {
 
 #[test]
 fn trees(rt: HostRuntime) -> std::result::Result<(), Fail> {
-    let scope = no_statements(rt.alloc());
+    let alloc = rt.alloc();
+    let scope = no_statements(alloc);
     assert_eq!(rt; template(&Template { scope }), 0);
+    let searcher = Searcher::new();
+    assert_eq!(rt; template(&parse_template(Parser::new(alloc, &searcher, "abc"))?), 3);
+    let tree = parse_template(Parser::new(alloc, &searcher, ALL))?;
+    assert_eq!(rt; tree.scope.stmts.len(), 11);
+    assert!(rt; template(&tree) > 0);
     Ok(())
 }

@@ -2,8 +2,9 @@
 use crate::listed_statements::statements;
 use crate::listing::Listing;
 use std::alloc::{AllocError, Global};
+use upon_tag_parser::compile::parse::kind::Opening;
 use upon_tree::ast::{BaseExpr, Expr, Ident, KeyValue, Literal, LoopVars, Name, String as Quoted};
-use upon_tree_parser::statements::{Head, TreeBuilder};
+use upon_tree_parser::statements::TreeBuilder;
 use upon_types::types::Span;
 use upon_types::value::Value;
 
@@ -95,21 +96,21 @@ pub fn tell(alloc: Global, builder: &mut TreeBuilder, piece: Piece) -> Result<()
         Piece::ElseIf(cond) => builder.else_if(false, one(cond)),
         Piece::ElseIfNot(cond) => builder.else_if(true, one(cond)),
         Piece::End => builder.end(),
-        _ => match head(alloc, piece)? {
-            Some(head) => builder.begin(head),
+        _ => match opening(alloc, piece)? {
+            Some((opening, expr)) => builder.begin(opening, expr),
             None => Ok(()),
         },
     }
 }
 
 // What a piece opens a block with, if it opens one.
-fn head(alloc: Global, piece: Piece) -> Result<Option<Head>, AllocError> {
+fn opening(alloc: Global, piece: Piece) -> Result<Option<(Opening, Expr)>, AllocError> {
     Ok(Some(match piece {
-        Piece::If(cond) => Head::If(false, one(cond)),
-        Piece::IfNot(cond) => Head::If(true, one(cond)),
-        Piece::For(item, of) => Head::For(LoopVars::Item(name(alloc, item)?), one(of)),
-        Piece::ForTwo(key, value, of) => Head::For(both(alloc, key, value)?, one(of)),
-        Piece::With(expr, as_name) => Head::With(one(expr), name(alloc, as_name)?),
+        Piece::If(cond) => (Opening::If(false), one(cond)),
+        Piece::IfNot(cond) => (Opening::If(true), one(cond)),
+        Piece::For(item, of) => (Opening::For(LoopVars::Item(name(alloc, item)?)), one(of)),
+        Piece::ForTwo(key, value, of) => (Opening::For(both(alloc, key, value)?), one(of)),
+        Piece::With(expr, as_name) => (Opening::With(name(alloc, as_name)?), one(expr)),
         _ => return Ok(None),
     }))
 }

@@ -1,4 +1,5 @@
-// Texts that are cut at each character boundary: each part has instructions or a fault of its own, under any delimiters.
+// Texts that are cut at each character boundary: each part has instructions and a tree, or a fault of its own, under any
+// delimiters.
 use crate::syntax::delimiters::{
     blank_before, equal, equal_blocks, hyphens, letters, longer_end, one_byte, overlapping,
     with_a_blank,
@@ -22,11 +23,16 @@ use upon_syntax::compile::search::Searcher;
 use upon_syntax::types::syntax::Syntax;
 use upon_types::error::ErrorKind;
 
-// The text has instructions, or is refused with a reason, at a span inside it.
+// The text has instructions and a tree, or is refused with a reason, at a span inside it, whichever of them is wanted.
 fn answers(rt: &impl Abort, alloc: Global, searcher: &Searcher, source: &str) {
-    if let Err(error) = Parser::new(alloc, searcher, source).compile_template() {
+    let code = Parser::new(alloc, searcher, source).compile_template();
+    let tree = Parser::new(alloc, searcher, source).parse_template();
+    assert_eq!(rt; code.is_ok(), tree.is_ok(), "of {source}");
+    if let (Err(error), Err(same)) = (code, tree) {
         assert!(rt; matches!(error.kind(), ErrorKind::Syntax), "of {source}");
         assert!(rt; error.reason().is_some(), "of {source}");
+        assert_eq!(rt; error.reason(), same.reason(), "of {source}");
+        assert_eq!(rt; error.place(), same.place(), "of {source}");
         let inside = error
             .place()
             .is_some_and(|span| source.get(span.m..span.n).is_some());

@@ -76,7 +76,7 @@ fn nested(alloc: Global, nest: &Nest, ends: usize) -> Result<String, AllocError>
     Ok(text)
 }
 
-// Each has its instructions.
+// Each has its instructions, and a tree of one statement.
 fn all_compiled(rt: &impl Abort, alloc: Global, nests: &[Nest]) -> Result<(), Fail> {
     let searcher = Searcher::new();
     for nest in nests {
@@ -85,6 +85,8 @@ fn all_compiled(rt: &impl Abort, alloc: Global, nests: &[Nest]) -> Result<(), Fa
         source.push_str(after)?;
         let code = Parser::new(alloc, &searcher, source.as_str()).compile_template()?;
         assert_eq!(rt; code.len(), DEPTH * *each + *more, "of {begin}");
+        let tree = Parser::new(alloc, &searcher, source.as_str()).parse_template()?;
+        assert_eq!(rt; tree.scope.stmts.len(), 1, "of {begin}");
     }
     Ok(())
 }
@@ -95,10 +97,13 @@ fn all_refused(rt: &impl Abort, alloc: Global, nests: &[Nest]) -> Result<(), Fai
     for nest in nests {
         let mut source = nested(alloc, nest, DEPTH - 1)?;
         source.push_str(nest.4)?;
+        let begin = nest.1;
         let parser = Parser::new(alloc, &searcher, source.as_str());
         let error = parser.compile_template().err().ok_or("instructions")?;
-        let begin = nest.1;
         assert!(rt; error.reason().is_some(), "of {begin}");
+        let parser = Parser::new(alloc, &searcher, source.as_str());
+        let same = parser.parse_template().err().ok_or("a tree")?;
+        assert_eq!(rt; same.reason(), error.reason(), "of {begin}");
     }
     Ok(())
 }

@@ -20,11 +20,11 @@ use std::alloc::AllocError;
 use upon_compiler::compile::Compiler;
 use upon_instructions::types::program::Instr;
 use upon_literals::literal::Lexed;
-use upon_tag_parser::compile::parse::kind::Kind;
+use upon_tag_parser::compile::parse::kind::{Kind, Opening};
 use upon_tag_parser::compile::parse::tag::Tag;
 use upon_tree::ast::Expr;
 use upon_tree_parser::expression::TreeReader;
-use upon_tree_parser::statements::{Head, TreeBuilder};
+use upon_tree_parser::statements::TreeBuilder;
 
 /// Tells a compiler of a piece, whose expression has these instructions if it has one, and leaves none of them
 /// behind. It fails if memory is out.
@@ -114,19 +114,20 @@ fn tell_tree_tag(
 {
     let count = tag.tokens_before_expression();
     match tag {
-        Tag::If(not) => builder.begin(Head::If(not, expression_after(trees, count, tokens)?)),
+        Tag::If(not) => builder.begin(Opening::If(not), expression_after(trees, count, tokens)?),
         Tag::ElseIf(not) => builder.else_if(not, expression_after(trees, count, tokens)?),
         Tag::Else => {
             builder.begin_else();
             Ok(())
         }
         Tag::For(vars, _) => {
-            builder.begin(Head::For(
-                Box::into_inner(vars),
-                expression_after(trees, count, tokens)?,
-            ))
+            let iterable = expression_after(trees, count, tokens)?;
+            builder.begin(Opening::For(Box::into_inner(vars)), iterable)
         }
-        Tag::With(name) => builder.begin(Head::With(expression_after(trees, count, tokens)?, name)),
+        Tag::With(name) => builder.begin(
+            Opening::With(name),
+            expression_after(trees, count, tokens)?,
+        ),
         Tag::End(_) => builder.end(),
         Tag::Include(name) => builder.include(name, None),
         Tag::IncludeWith(name) => {

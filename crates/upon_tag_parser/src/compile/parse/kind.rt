@@ -1,7 +1,9 @@
-// The kinds of blocks: the words of their tags, and the branches that they may have.
+// The kinds of blocks: the words of their tags, the branches that they may have, and what opens one.
 ghost use Rattle.std.specs.Prelude.{◌≡◌, None, MatchOption};
 ghost use Rattle.upon_types.specs.BlockKinds.{block_word, end_word, may_have_else, may_have_else_if, kind_with};
 ghost use Rattle.upon_tag_parser.specs.BlockTags.{block_kind};
+
+use upon_types::types::ast::{Ident, LoopVars};
 
 /// A kind of block.
 #[derive(Clone, Copy, Debug, PartialEq, Eq)]
@@ -9,6 +11,17 @@ pub enum Kind {
     If,
     For,
     With,
+}
+
+/// What opens a block, beside its expression.
+#[derive(Drop)]
+pub enum Opening {
+    /// Whether `not` is before the condition.
+    If(bool),
+    /// The loop's variables.
+    For(LoopVars),
+    /// The name of the value.
+    With(Ident),
 }
 
 impl Kind {

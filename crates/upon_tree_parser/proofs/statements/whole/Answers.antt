@@ -7,16 +7,17 @@ use Rattle.upon_tree.specs.AstExpression.{expression_tree}
 use Rattle.upon_tree.specs.declared.ast.Scope.{Scope}
 use Rattle.upon_tree.specs.declared.ast.expression.Expr.{Expr}
 use Rattle.upon_tree.proofs.Trees.{view-With, with_tree-out}
-use Rattle.upon_tree_parser.specs.declared.statements.Head.{Head}
-use Rattle.upon_tree_parser.specs.declared.statements.Head.TheVariants as head
-use Rattle.upon_tree_parser.specs.Statements.{head_opening, head_expression, whole_block, branch_of}
+use Rattle.upon_tag_parser.specs.BlockTags.{opening_of}
+use Rattle.upon_tag_parser.specs.declared.compile.parse.kind.Opening.{Opening}
+use Rattle.upon_tag_parser.specs.declared.compile.parse.kind.Opening.TheVariants as opens
+use Rattle.upon_tree_parser.specs.Statements.{whole_block, branch_of}
 use Rattle.upon_tree_parser.proofs.statements.whole.Goals as goal
 use Rattle.upon_tree_parser.proofs.statements.whole.Goals.{in-None, in-Some}
 
 -- the one branch of a `with` is the last, or the first of two
-with_whole : (opens : Head) (e : Expr) (name : Ident) (first : Option Scope) (last body : Scope) → opens ≡ head.With e name → ((first ≡ None) × (body ≡ last)) ⊎ ((s : Scope) × (first ≡ Some s) × (body ≡ s)) → with (expression_tree e) (ident_of name) (scope_tree body) ≡ whole_block (head_opening opens) (head_expression opens) (branch_of first) (scope_tree last)
-with_whole opens e name first last body is (inl (none, same)) = rw (is, none, same) refl
-with_whole opens e name first last body is (inr (s, some, same)) = rw (is, some, same) refl
+with_whole : (opening : Opening) (e : Expr) (name : Ident) (first : Option Scope) (last body : Scope) → opening ≡ opens.With name → ((first ≡ None) × (body ≡ last)) ⊎ ((s : Scope) × (first ≡ Some s) × (body ≡ s)) → with (expression_tree e) (ident_of name) (scope_tree body) ≡ whole_block (opening_of opening) (expression_tree e) (branch_of first) (scope_tree last)
+with_whole opening e name first last body is (inl (none, same)) = rw (is, none, same) refl
+with_whole opening e name first last body is (inr (s, some, same)) = rw (is, some, same) refl
 
 pub returns-in-With : goal.returns-in-With
 returns-in-With c =
@@ -25,4 +26,4 @@ returns-in-With c =
       | in-None w ↦ inl (w.in-None.is, ap (λ x. x.0) w.body-is)
       | in-Some w ↦ inr (w.in-Some.first, w.in-Some.is, ap (λ x. x.0) w.body-is)
     ] in
-    view-With _ ∙ with_tree-out _ ∙ with_whole c.args.head c.in-With.expr c.in-With.name c.args.first c.args.last body c.in-With.is cases
+    view-With _ ∙ with_tree-out _ ∙ with_whole c.args.opening c.args.expr c.in-With.name c.args.first c.args.last body c.in-With.is cases

@@ -5,6 +5,7 @@ use std::process::Abort;
 use std::test::Fail;
 use upon_syntax::compile::parse::Parser;
 use upon_syntax::compile::search::Searcher;
+use upon_types::error::Error;
 use upon_types::types::Span;
 
 /// A text, the reason why it is refused, and where the span of its fault begins and ends.
@@ -13,13 +14,19 @@ pub type Refusal = (&'static str, &'static str, usize, usize);
 /// A text and the lines of its instructions.
 pub type Program = (&'static str, &'static str);
 
-// The text is refused, for this reason, at this span.
-fn refused(rt: &impl Abort, alloc: Global, searcher: &Searcher, row: &Refusal) -> Result<(), Fail> {
+// The error is for this reason, at this span.
+fn reports(rt: &impl Abort, error: &Error, row: &Refusal) {
     let (source, reason, m, n) = *row;
-    let parser = Parser::new(alloc, searcher, source);
-    let error = parser.compile_template().err().ok_or("instructions")?;
     assert_eq!(rt; error.reason(), Some(reason), "of {source}");
     assert_eq!(rt; error.place(), Some(Span { m, n }), "of {source}");
+}
+
+// The text is refused, for this reason, at this span, whether its instructions or its tree are wanted.
+fn refused(rt: &impl Abort, alloc: Global, searcher: &Searcher, row: &Refusal) -> Result<(), Fail> {
+    let parser = Parser::new(alloc, searcher, row.0);
+    reports(rt, &parser.compile_template().err().ok_or("instructions")?, row);
+    let parser = Parser::new(alloc, searcher, row.0);
+    reports(rt, &parser.parse_template().err().ok_or("a tree")?, row);
     Ok(())
 }
 

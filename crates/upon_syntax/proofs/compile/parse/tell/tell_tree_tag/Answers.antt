@@ -59,13 +59,13 @@ returns-in_ok-expression_after-in-ElseIf c = λ told keeps holds.
     let F : TreeSoFar → Type 0 = λ t. OnOk c.else_if.result (builder_state c.else_if.new.self ≡ t) in
     subst F (ap (λ (f : Expression). tree_else_if_begun c.in-ElseIf.not f so) (c.in_ok-expression_after-in-ElseIf.ensures e x) ∙ ap (λ (t : BlockTag). tree_after_tag t so) (sym is)) c.else_if.ensures
 
-pub returns-in_ok-expression_after-in-For : goal.returns-in_ok-expression_after-in-For
-returns-in_ok-expression_after-in-For c = λ told keeps holds.
+pub returns-in_ok-iterable-in-For : goal.returns-in_ok-iterable-in-For
+returns-in_ok-iterable-in-For c = λ told keeps holds.
     let so = builder_state c.args.builder.now in
     let (e, is, span) = rw c.in-For.is at keeps in
     let x = counted_in (tree_reader_text c.args.trees.now) _ told _ e (lexemes_of c.args.tokens.now) is refl (c.tokens_before_expression-count.ensures told keeps) holds in
     let F : TreeSoFar → Type 0 = λ t. OnOk c.begin-in-For.result (builder_state c.begin-in-For.new.self ≡ t) in
-    subst F (ap (λ v. block_opened false (for_tag (loop_vars_of v)) (expression_tree c.in_ok-expression_after-in-For.field-0) so) c.into_inner.ensures ∙ ap (λ (f : Expression). block_opened false (for_tag (loop_vars_of c.in-For.vars.value)) f so) (c.in_ok-expression_after-in-For.ensures e x) ∙ ap (λ (t : BlockTag). tree_after_tag t so) (sym is)) c.begin-in-For.ensures
+    subst F (ap (λ v. block_opened false (for_tag (loop_vars_of v)) (expression_tree c.in_ok-iterable-in-For.iterable) so) c.into_inner.ensures ∙ told_opening told _ e _ so is (c.in_ok-iterable-in-For.ensures e x)) c.begin-in-For.ensures
 
 pub returns-in_ok-expression_after-in-With : goal.returns-in_ok-expression_after-in-With
 returns-in_ok-expression_after-in-With c = λ told keeps holds.
