@@ -7,3 +7,5 @@ mod calls;
 mod contexts;
 #[cfg(test)]
 mod memory;
+#[cfg(test)]
+mod numbers;

@@ -5,6 +5,7 @@ use std::borrow::CowStr;
 use std::process::Abort;
 use std::test::Fail;
 use upon::{Engine, Limits, Result, Value, value};
+use upon_std::table::ALL;
 use upon_testing::answers::line_of;
 
 fn context(alloc: Global) -> Result<Value> {
@@ -148,6 +149,70 @@ fn values_that_double_end_at_once(rt: HostRuntime) -> std::result::Result<(), Fa
             return Err(Fail::from("no template"));
         };
         assert_eq!(&rt; line_of(alloc, rendered)?.as_str(), wanted);
+    }
+    Ok(())
+}
+
+// What a list weighs goes up with its items, however many they are, whether it is copied or comes from a function: it is 32
+// bytes at least for each.
+#[test]
+fn lists_of_many_items_weigh_more(rt: HostRuntime) -> std::result::Result<(), Fail> {
+    let alloc = rt.alloc();
+    let engine = added::engine(alloc)?;
+    for count in [1_u32, 17, 101, 1_001, 10_001] {
+        let mut items = Vec::new(alloc);
+        for i in 0..count {
+            items.push(Value::from(i))?;
+        }
+        let context = value! { in alloc; xs: items }?;
+        let bytes = 32 * count as usize;
+        let source = "{% with [xs] as a %}b{% endwith %}";
+        let line = line_of(alloc, engine.render_text_within(&of_values(bytes), source, &context))?;
+        let wanted = format!(in alloc; "render error: reached the limit of {bytes} bytes of values at ")?;
+        assert!(&rt; line.as_str().starts_with(wanted.as_str()), "{line:?} of {count}");
+        let line = line_of(alloc, engine.render_text_within(&of_values(100 + 2 * bytes), source, &context))?;
+        assert_eq!(&rt; line.as_str(), "b", "of {count}");
+    }
+    Ok(())
+}
+
+// A text that a function gives weighs 32 bytes and its own, however long it is.
+#[test]
+fn texts_of_functions_weigh_their_bytes(rt: HostRuntime) -> std::result::Result<(), Fail> {
+    let alloc = rt.alloc();
+    let mut engine = Engine::new(alloc);
+    for function in ALL.as_slice() {
+        engine.add_function(function.name().into(), Box::new(alloc, *function)?)?;
+    }
+    for count in [1_usize, 17, 101, 1_001, 10_001, 100_001] {
+        let source = format!(in alloc; "{{% with repeat(\"a\", {count}) as t %}}b{{% endwith %}}")?;
+        let enough = of_values(32 + count);
+        let line = line_of(alloc, engine.render_text_within(&enough, source.as_str(), &Value::None))?;
+        assert_eq!(&rt; line.as_str(), "b", "of {count}");
+        let fewer = of_values(31 + count);
+        let line = line_of(alloc, engine.render_text_within(&fewer, source.as_str(), &Value::None))?;
+        assert!(&rt; line.as_str().starts_with("render error: reached the limit of "), "{line:?} of {count}");
+    }
+    Ok(())
+}
+
+// A limit that is reached behind so many includes has the name of the template that ran, and the place in it.
+#[test]
+fn a_limit_behind_includes(rt: HostRuntime) -> std::result::Result<(), Fail> {
+    let alloc = rt.alloc();
+    for depth in [1_u32, 2, 3, 17, 60] {
+        let mut engine = Engine::new(alloc);
+        for i in 0..depth {
+            let source = format!(in alloc; "{{% include \"{next}\" %}}", next = i + 1)?;
+            engine.add_template(format!(in alloc; "{i}")?.into(), source.into())?;
+        }
+        let last = "{% for x in xs %}{{ x }}{% endfor %}";
+        engine.add_template(format!(in alloc; "{depth}")?.into(), last.into())?;
+        let Some(rendered) = engine.render_template_within(&of_bytes(3), "0", &context(alloc)?) else {
+            return Err(Fail::from("no template"));
+        };
+        let wanted = format!(in alloc; "render error: reached the limit of 3 bytes at 20..21 in {depth}")?;
+        assert_eq!(&rt; line_of(alloc, rendered)?.as_str(), wanted.as_str());
     }
     Ok(())
 }
