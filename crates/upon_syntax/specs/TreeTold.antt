@@ -1,10 +1,12 @@
 -- How the tree of a template grows with each of its pieces.
-use Rattle.std.specs.Prelude.{◌≡◌, List, [], ◌∷◌, false}
+use Rattle.std.specs.Prelude.{◌≡◌, ℕ, List, [], ◌∷◌, false}
 use Rattle.upon_types.specs.Tree.{raw, inline_expr, include}
+use Rattle.upon_language_spec.specs.Search.{DelimiterText}
 use Rattle.upon_tag_parser.specs.BlockTags.{BlockTag, opening_tag, else_if_tag, else_tag, end_tag, include_tag}
 use Rattle.upon_tree_parser.specs.declared.statements.TreeBuilder.{TreeBuilder}
 use Rattle.upon_tree_parser.specs.Statements.{TreeSoFar, nothing_read, builder_state, with_statement, block_opened, branch_begun, tree_else_if_begun, tree_block_ended}
-use Rattle.upon_syntax.specs.Pieces.{TemplatePiece, raw_piece, inline_piece, block_piece}
+use Rattle.upon_syntax.specs.TagReading.{HasPieces}
+use Rattle.upon_syntax.specs.Pieces.{TemplatePiece, LeaveOpen, raw_piece, inline_piece, block_piece}
 
 -- with a tag of a block
 abbrev pub tree_after_tag : BlockTag → TreeSoFar → TreeSoFar
@@ -28,3 +30,10 @@ tree_after_all (piece ∷ pieces) so = tree_after_all pieces (tree_after piece s
 -- a builder has the statements of these pieces
 abbrev pub HasBuilt : TreeBuilder → List TemplatePiece → Type 0
 HasBuilt builder found = builder_state builder ≡ tree_after_all found nothing_read
+
+-- a builder has the statements of the pieces of a text, and each block of them is closed
+pub record HasBuiltText (delimiters : List DelimiterText) (s : List ℕ) (builder : TreeBuilder) : Type 0 where
+  pub pieces : List TemplatePiece
+  pub has : HasPieces delimiters s pieces
+  pub closed : LeaveOpen [] pieces []
+  pub built : HasBuilt builder pieces

@@ -20,10 +20,8 @@ pub mod tag_faults;
 pub mod tag_reader;
 pub mod tag_tokens;
 mod tell;
-mod tree;
 
-use crate::compile::parse::program::read_program;
-use crate::compile::parse::tree::read_tree;
+use crate::compile::parse::program::{read_program, read_tree};
 use std::alloc::Global;
 use upon_delimiters::search::Searcher;
 use upon_instructions::types::program::Instr;
