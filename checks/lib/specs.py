@@ -6,6 +6,8 @@ TOP = os.path.dirname(os.path.dirname(os.path.dirname(os.path.abspath(__file__))
 SOURCE = os.path.join(TOP, "crates", "upon_engine", "src", "theorem.rt")
 WORD = re.compile(r"[^\s(){}\[\];,.λ→×∥₁]+")
 IMPORT = re.compile(r"^use Rattle\.(upon_\w+)\.specs\.([\w.]+)\.\{(.*)\}$")
+# An import of a word of another library.
+OUTSIDE = re.compile(r"^(?:pub )?use Rattle\.(?!upon_)[\w.+]+\.\{(.*)\}$")
 
 
 class Block(list):
@@ -15,7 +17,8 @@ class Block(list):
 
 
 class Module:
-    """The definitions of a module by their names, each with its text, and what the module brings in."""
+    """The definitions of a module by their names, each with its text, and what the module brings in: from crates of this
+    repository under which names, and the words from outside."""
 
     def __init__(self, crate, name, text):
         self.crate = crate
@@ -23,13 +26,16 @@ class Module:
         self.blocks = []
         self.names = {}
         self.imports = {}
+        self.outside = set()
         self.read(text)
 
     def read(self, text):
         """Reads imports and definitions. A definition goes from its signature to the next one, without its comments."""
         block, words = None, 0
         for line in text.split("\n"):
-            found = IMPORT.match(line)
+            found, outside = IMPORT.match(line), OUTSIDE.match(line)
+            if outside:
+                self.outside.update(item.partition(" as ")[0].strip() for item in outside.group(1).split(","))
             if found:
                 self.bring(found)
             elif line.strip() == "" or re.match(r" *(--|use |module |mutual)", line):
