@@ -31,7 +31,7 @@ pub use Rattle.upon_lookup.specs.Source
 pub use Rattle.upon_functions.specs.Integers
 pub use Rattle.upon_functions.specs.Outcome as FunctionOutcome
 pub use Rattle.upon_functions.specs.Says
-pub use Rattle.upon_function_adapters.specs.Adapters
+pub use Rattle.upon_functions.specs.Adapters
 pub use Rattle.upon_fmt.specs.Error as FormatError
 pub use Rattle.upon_fmt.specs.Formatter
 pub use Rattle.upon_meaning_spec.specs.Alone

@@ -29,4 +29,4 @@ pub use upon_syntax::laws_of_trees;
 pub use upon_types::error::{Error, Result};
 pub use upon_types::value::Value;
 pub use upon_types::{error, value};
-pub use upon_vm_calls::callables::EngineCallable;
+pub use upon_vm_steps::callables::EngineCallable;

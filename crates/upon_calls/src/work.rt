@@ -23,7 +23,7 @@ use crate::names::list;
 use crate::options::Options;
 use std::alloc::Global;
 use std::borrow::CowStr;
-use upon_checked::declared::Declared;
+use upon_check::declared::Declared;
 use upon_engine::engine::Engine;
 use upon_engine::template::Template;
 use upon_engine::texts::{AnyEngine, EngineTexts};

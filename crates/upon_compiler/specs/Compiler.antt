@@ -1,7 +1,7 @@
 -- What a compiler holds: the instructions so far, and the open blocks.
 use Rattle.std.specs.Prelude.{List, [], reverse}
 use Rattle.upon_machine_spec.specs.Instr.{Instr}
-use Rattle.upon_instructions.specs.Program.{program_view}
+use Rattle.upon_compiler.specs.Program.{program_view}
 use Rattle.upon_compiler.specs.declared.compile.Compiler.{Compiler}
 use Rattle.upon_compiler.specs.declared.compile.OpenBlock.{OpenBlock}
 

@@ -4,7 +4,7 @@ ghost use Rattle.std.specs.Prelude.{◌≡◌, ◌++◌, [], ◌∷◌, OnOk, Ma
 ghost use Rattle.upon_types.specs.AstPath.{ident_of, string_of};
 ghost use Rattle.upon_types.specs.BlockKinds.{with_block, with_tag};
 ghost use Rattle.upon_types.specs.declared.types.Span.{Span};
-ghost use Rattle.upon_instructions.specs.Program.{instr_of, program_view};
+ghost use Rattle.upon_compiler.specs.Program.{instr_of, program_view};
 ghost use Rattle.upon_compiler.specs.After.{after_event, outer};
 ghost use Rattle.upon_compiler.specs.Events.{raw_event, shown_event, opening_event, end_event, include_event};
 ghost use Rattle.upon_compiler.specs.Events.{include_with_event};
@@ -12,7 +12,7 @@ ghost use Rattle.upon_compiler.specs.Events.{include_with_event};
 mod branches;
 
 use std::alloc::{AllocError, Global};
-use upon_instructions::types::program::Instr;
+use crate::types::program::Instr;
 use upon_types::types::Span;
 use upon_types::types::ast::{Ident, String};
 

@@ -14,7 +14,7 @@ use Rattle.upon_meaning_spec.proofs.NamesRead.{names_read, templates_reached}
 use Rattle.upon_meaning_spec.proofs.NotTooDeep.{is_not_too_deep}
 use Rattle.upon_meaning_spec.proofs.NumberedDepth.{numbered_over_table}
 use Rattle.upon_meaning_spec.proofs.UnaskedMeaning.{values_stay}
-use Rattle.upon_woven_spec.proofs.PiecesOf.{within_woven}
+use Rattle.upon_meaning_spec.proofs.PiecesOf.{within_woven}
 use Rattle.upon_engine.specs.Base.{ContextBase, on_root, no_value}
 use Rattle.upon_engine.specs.Calls.{Call, outcome, at_depth, answered_by, on_base}
 use Rattle.upon_engine.specs.KeepsLaws.{DepthsAgree, NumbersSuffice, IncludesAlone, NamesSuffice, TemplatesSuffice, SourceStays, IsWoven, KeepsLaws}

@@ -22,7 +22,7 @@ use Rattle.std.proofs.KnownBytes.{Appends-nil}
 use Rattle.upon_fmt.specs.Given.{ReceivesPart}
 use Rattle.upon_vm.specs.Reports.{IsAnyIo, WritesReported}
 use Rattle.upon_syntax.specs.TagReading.{IsSyntaxError}
-use Rattle.upon_compiled_spec.proofs.CompiledTree.{only, had_tree}
+use Rattle.upon_compiler.proofs.CompiledTree.{only, had_tree}
 use Rattle.upon_engine.specs.Answers.{AnswersText}
 use Rattle.upon_engine.specs.Engine.{engine_templates}
 use Rattle.upon_engine.specs.Template.{template_of, template_source, template_syntax, template_tree}

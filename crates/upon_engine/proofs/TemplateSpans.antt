@@ -5,8 +5,8 @@ use Rattle.upon_lookup.specs.Finding.{Reply}
 use Rattle.upon_lookup.specs.Source.{SourceAnswer, says, refuses}
 use Rattle.upon_meaning_spec.specs.Engine.{Template as Meant, from_table}
 use Rattle.upon_meaning_spec.specs.RenderFaults.{TemplatesLie}
-use Rattle.upon_compiled_spec.proofs.CompiledTree.{spans}
-use Rattle.upon_compiled_spec.proofs.Templates.{map_lies}
+use Rattle.upon_compiler.proofs.CompiledTree.{spans}
+use Rattle.upon_compiler.proofs.Templates.{map_lies}
 use Rattle.upon_engine.specs.HandsOn.{shown_answer, hands_on}
 use Rattle.upon_engine.specs.Template.{template_source, template_syntax, template_tree, template_of}
 use Rattle.upon_engine.specs.declared.template.Template.{Template}

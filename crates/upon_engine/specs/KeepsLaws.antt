@@ -14,7 +14,7 @@ use Rattle.upon_meaning_spec.specs.Includes.{Reaches, IsNumbered}
 use Rattle.upon_meaning_spec.specs.Meaning.{RunningTemplate, statement_means}
 use Rattle.upon_meaning_spec.specs.Names.{Reads, AgreeOn}
 use Rattle.upon_meaning_spec.specs.Outcome.{States, too_deep}
-use Rattle.upon_woven_spec.specs.Parts.{WovenOf}
+use Rattle.upon_meaning_spec.specs.Parts.{WovenOf}
 use Rattle.upon_engine.specs.Base.{on_root}
 use Rattle.upon_engine.specs.Calls.{Call, outcome, at_depth, on_base, answered_by}
 use Rattle.upon_engine.specs.Pieces.{pieces_of_call}

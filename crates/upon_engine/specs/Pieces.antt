@@ -2,7 +2,7 @@
 use Rattle.std.specs.Prelude.{ℕ, List, [], Option}
 use Rattle.upon_meaning_spec.specs.Engine.{Template, Rendering}
 use Rattle.upon_meaning_spec.specs.Outcome.{States}
-use Rattle.upon_woven_spec.specs.Pieces.{TextPiece, pieces_of}
+use Rattle.upon_meaning_spec.specs.Pieces.{TextPiece, pieces_of}
 use Rattle.upon_engine.specs.Base.{ContextBase, on_root, no_value}
 use Rattle.upon_engine.specs.Calls.{Call}
 

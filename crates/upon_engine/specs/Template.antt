@@ -5,7 +5,7 @@ use Rattle.upon_types.specs.Tree.{Statements}
 use Rattle.upon_language_spec.specs.Search.{DelimiterText}
 use Rattle.upon_delimiters.specs.Syntax.{syntax_delimiters}
 use Rattle.upon_meaning_spec.specs.Engine.{Template}
-use Rattle.upon_compiled_spec.specs.Compiled.{the_tree}
+use Rattle.upon_compiler.specs.Compiled.{the_tree}
 use Rattle.upon_engine.specs.declared.template.Template.{Template as Held}
 
 -- the text that a template was compiled from

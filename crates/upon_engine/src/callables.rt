@@ -3,7 +3,7 @@ use crate::engine::{Callable, Engine};
 use std::alloc::Global;
 use upon_fmt::fmt::{self, Formatter};
 use upon_types::value::{Value, ValueCow};
-use upon_vm_calls::callables::{Applied, Callables, Called};
+use upon_vm_steps::callables::{Applied, Callables, Called};
 
 impl<'r, 'e> Callables for &'r Engine<'e> {
     ghost use Rattle.upon_meaning_spec.specs.DefaultFormat.{formatter_or_default};

@@ -9,7 +9,7 @@ ghost use Rattle.upon_language_spec.specs.Search.{DelimiterText};
 ghost use Rattle.upon_delimiters.specs.Searcher.{searcher_delimiters};
 ghost use Rattle.upon_delimiters.specs.Syntax.{syntax_delimiters};
 ghost use Rattle.upon_syntax.specs.TagReading.{IsSyntaxError};
-ghost use Rattle.upon_compiled_spec.specs.Compiled.{HasProgram};
+ghost use Rattle.upon_compiler.specs.Compiled.{HasProgram};
 ghost use Rattle.upon_engine.specs.Before.{KeepsOldTree, HadNoTree};
 ghost use Rattle.upon_engine.specs.Faults.{IsSyntaxErrorOf};
 ghost use Rattle.upon_engine.specs.Template.{template_source, template_syntax, template_tree};
@@ -17,7 +17,7 @@ ghost use Rattle.upon_engine.specs.Template.{template_source, template_syntax, t
 use crate::template::Template;
 use std::alloc::Global;
 use std::borrow::CowStr;
-use upon_instructions::types::program::Instr;
+use upon_compiler::types::program::Instr;
 use upon_syntax::compile::parse::Parser;
 use upon_syntax::compile::search::Searcher;
 use upon_syntax::types::syntax::Syntax;

@@ -9,7 +9,7 @@ ghost use Rattle.upon_types.specs.Tree.{Statements};
 ghost use Rattle.upon_language_spec.specs.Grammar.{HasTree};
 ghost use Rattle.upon_delimiters.specs.Syntax.{syntax_delimiters};
 ghost use Rattle.upon_syntax.specs.TagReading.{IsSyntaxError};
-ghost use Rattle.upon_vm_calls.specs.Calls.{callable_sort};
+ghost use Rattle.upon_vm_steps.specs.Calls.{callable_sort};
 ghost use Rattle.upon_engine.specs.Before.{KeepsOldTree, HadNoTree};
 ghost use Rattle.upon_engine.specs.Callables.{callable_of};
 ghost use Rattle.upon_engine.specs.Faults.{IsSyntaxErrorOf};
@@ -28,7 +28,7 @@ use upon_functions::function::Function;
 use upon_syntax::compile::search::Searcher;
 use upon_syntax::types::syntax::Syntax;
 use upon_types::error::Result;
-use upon_vm_calls::callables::EngineCallable;
+use upon_vm_steps::callables::EngineCallable;
 
 /// A formatter or a function.
 #[derive(Drop)]

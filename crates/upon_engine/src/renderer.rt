@@ -28,7 +28,7 @@ use upon_types::value::Value;
 use upon_vm::failure::Failure;
 use upon_vm::report::reported;
 use upon_vm::run::Ending;
-use upon_vm_calls::callables::Callables;
+use upon_vm_steps::callables::Callables;
 use upon_vm_steps::machine::Running;
 
 /// A rendering before it is made: a template, what its names call, what it is rendered on, where the templates that it

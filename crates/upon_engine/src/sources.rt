@@ -67,8 +67,8 @@ impl<'r, 'e> TemplateSource<'r> for EngineTemplates<'r, 'e> {
     ghost use Rattle.upon_engine.specs.Engine.{engine_templates};
     ghost use Rattle.std.specs.BTreeMap.{get_by_text};
     ghost use Rattle.std.specs.Prelude.{[]};
-    ghost use Rattle.upon_compiled_spec.proofs.CompiledTree.{spans};
-    ghost use Rattle.upon_compiled_spec.proofs.Templates.{map_lies};
+    ghost use Rattle.upon_compiler.proofs.CompiledTree.{spans};
+    ghost use Rattle.upon_compiler.proofs.Templates.{map_lies};
     ghost use Rattle.upon_engine.specs.Template.{template_source, template_syntax};
 
     ghost State = { Unit {0} };

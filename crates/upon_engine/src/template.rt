@@ -2,11 +2,11 @@
 ghost use Rattle.std.specs.Prelude.{◌≡◌};
 ghost use Rattle.std.specs.Cow.{cow_str_bytes};
 ghost use Rattle.upon_delimiters.specs.Syntax.{syntax_delimiters};
-ghost use Rattle.upon_compiled_spec.specs.Compiled.{HasProgram};
+ghost use Rattle.upon_compiler.specs.Compiled.{HasProgram};
 
 use std::alloc::Global;
 use std::borrow::CowStr;
-use upon_instructions::types::program::Instr;
+use upon_compiler::types::program::Instr;
 use upon_syntax::types::syntax::Syntax;
 
 /// A compiled template: its text, the syntax that it was compiled under, and its instructions.
@@ -21,7 +21,7 @@ pub struct Template<'s> {
 impl<'s> Template<'s> {
     ghost use Rattle.upon_language_spec.specs.Grammar.{HasTree};
     ghost use Rattle.upon_machine_spec.specs.Code.{program_of};
-    ghost use Rattle.upon_instructions.specs.Program.{program_view};
+    ghost use Rattle.upon_compiler.specs.Program.{program_view};
     ghost use Rattle.upon_engine.specs.Template.{template_source, template_syntax, template_tree};
 
     /// Creates the template of a text under a syntax, with the program of its only tree.

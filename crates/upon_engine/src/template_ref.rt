@@ -2,7 +2,7 @@
 ghost use Rattle.std.specs.Prelude.{◌≡◌, Some, IfSome, IsSome, option_map};
 ghost use Rattle.upon_types.specs.View.{view};
 ghost use Rattle.upon_machine_spec.specs.Code.{program_of};
-ghost use Rattle.upon_instructions.specs.Program.{program_view};
+ghost use Rattle.upon_compiler.specs.Program.{program_view};
 ghost use Rattle.upon_engine.specs.Base.{IsContextOf};
 ghost use Rattle.upon_engine.specs.Calls.{engine_in, renderer_values, templates_in, template_in, name_in, limit_in};
 ghost use Rattle.upon_engine.specs.Engine.{engine_depth, engine_templates};
@@ -17,7 +17,7 @@ use crate::sources::EngineTemplates;
 use crate::template::Template;
 use crate::values::{Context, SerdeContext, SourceValues};
 use serde::Serialize;
-use upon_instructions::types::program::Instr;
+use upon_compiler::types::program::Instr;
 use upon_lookup::source::ValueSource;
 use upon_types::value::Value;
 

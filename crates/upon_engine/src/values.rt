@@ -20,7 +20,7 @@ use upon_types::value::Value;
 use upon_vm::failure::Failure;
 use upon_vm::render::render;
 use upon_vm::run::Ending;
-use upon_vm_calls::callables::Callables;
+use upon_vm_steps::callables::Callables;
 use upon_vm_steps::machine::Running;
 
 /// What a template is rendered on.

@@ -2,6 +2,7 @@
 // FROM_UPON.md, FUNCTIONS.md, HTML.md, STORE.md, CONTEXTS.md and NEEDS.md; and callables that tests use.
 #![tactic(auto)]
 
+pub mod answers;
 pub mod cached_pages;
 pub mod callables;
 pub mod contexts;

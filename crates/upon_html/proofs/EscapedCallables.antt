@@ -2,9 +2,9 @@
 use Rattle.std.proofs.Common.{◌≡◌, List, Option, Some, None, option_map, ap, refl}
 use Rattle.upon_types.specs.Answers.{Callable, Formatter, formatter, function}
 use Rattle.upon_types.specs.Val.{Val}
-use Rattle.upon_vm_calls.specs.Calls.{WasCalled}
-use Rattle.upon_vm_calls.specs.declared.callables.Called.{Called}
-use Rattle.upon_vm_calls.specs.declared.callables.Called.TheVariants as called
+use Rattle.upon_vm_steps.specs.Calls.{WasCalled}
+use Rattle.upon_vm_steps.specs.declared.callables.Called.{Called}
+use Rattle.upon_vm_steps.specs.declared.callables.Called.TheVariants as called
 use Rattle.upon_html.specs.Escaped.{escaping, escaping_callable}
 
 -- what was called is what is called where formatters escape

@@ -11,9 +11,9 @@ use Rattle.upon_meaning_spec.specs.Alone.{running}
 use Rattle.upon_meaning_spec.specs.Engine.{Template}
 use Rattle.upon_meaning_spec.proofs.Computing.{computing}
 use Rattle.upon_meaning_spec.proofs.Examples.ShortContexts.{at, word, quoted, name, statements, shows, text, map_of, list_of, template, held}
-use Rattle.upon_woven_spec.specs.Marks.{only, raw_text, FromRawParts}
-use Rattle.upon_woven_spec.specs.Parts.{WovenOf}
-use Rattle.upon_woven_spec.specs.Pieces.{TextPiece, raw_part, written, joined}
+use Rattle.upon_meaning_spec.specs.Marks.{only, raw_text, FromRawParts}
+use Rattle.upon_meaning_spec.specs.Parts.{WovenOf}
+use Rattle.upon_meaning_spec.specs.Pieces.{TextPiece, raw_part, written, joined}
 use Rattle.upon_engine.specs.Texts.{Texts}
 use Rattle.upon_engine.specs.Theorem.{rendering}
 use Rattle.upon_html.specs.Escape.{is_markup}

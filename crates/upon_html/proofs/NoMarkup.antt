@@ -5,9 +5,9 @@ use Rattle.upon_meaning_spec.specs.Alone.{alone}
 use Rattle.upon_meaning_spec.specs.DefaultFormat.{default_format}
 use Rattle.upon_meaning_spec.specs.Engine.{Template, Rendering}
 use Rattle.upon_meaning_spec.specs.Outcome.{States}
-use Rattle.upon_woven_spec.specs.Marks.{has, FromRawParts}
-use Rattle.upon_woven_spec.specs.Pieces.{pieces_of}
-use Rattle.upon_woven_spec.proofs.RawMarks.{raw_marks}
+use Rattle.upon_meaning_spec.specs.Marks.{has, FromRawParts}
+use Rattle.upon_meaning_spec.specs.Pieces.{pieces_of}
+use Rattle.upon_meaning_spec.proofs.RawMarks.{raw_marks}
 use Rattle.upon_html.specs.Escape.{escape, is_markup, has_markup}
 use Rattle.upon_html.specs.Page.{EscapesAll}
 use Rattle.upon_html.proofs.EscapeLaws.{no_markup}

@@ -14,9 +14,9 @@ use Rattle.upon_meaning_spec.specs.Alone.{alone}
 use Rattle.upon_meaning_spec.specs.DefaultFormat.{formatter_or_default}
 use Rattle.upon_meaning_spec.specs.Engine.{Table, Template, from_table}
 use Rattle.upon_meaning_spec.specs.Outcome.{states}
-use Rattle.upon_woven_spec.specs.Marks.{has, FromRawParts}
-use Rattle.upon_woven_spec.specs.Parts.{by_default, by_name, WritesOnly}
-use Rattle.upon_woven_spec.proofs.RawMarks.{raw_marks}
+use Rattle.upon_meaning_spec.specs.Marks.{has, FromRawParts}
+use Rattle.upon_meaning_spec.specs.Parts.{by_default, by_name, WritesOnly}
+use Rattle.upon_meaning_spec.proofs.RawMarks.{raw_marks}
 use Rattle.upon_engine.specs.Answers.{AnswersText}
 use Rattle.upon_engine.specs.Base.{on_root, outcome_over}
 use Rattle.upon_engine.specs.Calls.{engine_in, renderer_values, templates_in, template_in, name_in, limit_in}

@@ -8,8 +8,8 @@ use Rattle.upon_lookup.specs.Environment.{context}
 use Rattle.upon_meaning_spec.specs.DefaultFormat.{formatter_or_default}
 use Rattle.upon_meaning_spec.specs.Engine.{Template, Table}
 use Rattle.upon_meaning_spec.specs.Outcome.{states}
-use Rattle.upon_woven_spec.specs.Marks.{FromRawParts}
-use Rattle.upon_woven_spec.specs.Pieces.{TextPiece, pieces_of}
+use Rattle.upon_meaning_spec.specs.Marks.{FromRawParts}
+use Rattle.upon_meaning_spec.specs.Pieces.{TextPiece, pieces_of}
 use Rattle.upon_engine.specs.Texts.{Texts}
 use Rattle.upon_engine.specs.Theorem.{rendering}
 use Rattle.upon_html.specs.Escape.{is_markup}

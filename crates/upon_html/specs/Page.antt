@@ -3,7 +3,7 @@ use Rattle.std.specs.Prelude.{◌≡◌}
 use Rattle.upon_types.specs.Answers.{Formatter}
 use Rattle.upon_types.specs.Val.{Val}
 use Rattle.upon_meaning_spec.specs.Engine.{Template, Calls, Resolver}
-use Rattle.upon_woven_spec.specs.Parts.{CanFormat}
+use Rattle.upon_meaning_spec.specs.Parts.{CanFormat}
 use Rattle.upon_html.specs.Escaped.{escaped}
 
 -- the default formatter, and each one that a template that is reached names, writes what the escaping one does

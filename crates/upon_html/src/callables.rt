@@ -11,7 +11,7 @@ use std::alloc::Global;
 use upon_fmt::fmt;
 use upon_fmt::fmt::{Format, Formatter};
 use upon_types::value::{Value, ValueCow};
-use upon_vm_calls::callables::{Applied, Callables, Called};
+use upon_vm_steps::callables::{Applied, Callables, Called};
 
 /// The same functions and formatters, with the text that each formatter writes escaped, also that of the default one.
 #[derive(Drop)]

@@ -9,3 +9,5 @@ pub mod Starts
 pub mod Spelling
 pub mod Passing
 pub mod Plain
+mod Digits
+mod StringPieces

@@ -6,3 +6,5 @@ pub mod OpenTags
 pub mod Spelling
 pub mod Lexers
 pub mod Plain
+pub mod Literals
+pub mod LiteralReasons

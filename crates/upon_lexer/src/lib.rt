@@ -1,4 +1,6 @@
-// From a template's text to its tokens.
+// From a template's text to its tokens, and what the text of a literal denotes.
 #![tactic(auto)]
 
 pub mod compile;
+pub mod literal;
+pub mod literal_fault;

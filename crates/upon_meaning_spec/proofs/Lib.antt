@@ -23,3 +23,6 @@ pub mod MapOrder
 pub mod AlikeRenderings
 pub mod FaultsStated
 pub mod WhatIsNeeded
+pub mod PiecesJoined
+pub mod PiecesOf
+pub mod RawMarks

@@ -20,3 +20,6 @@ pub mod Shadowing
 pub mod RenderFaults
 pub mod MapOrder
 pub mod Alike
+pub mod Pieces
+pub mod Parts
+pub mod Marks

@@ -6,8 +6,8 @@ use Rattle.std.proofs.lemmas.List.{drop_more}
 use Rattle.std.proofs.lemmas.Slice.Eq.{bytes_eq-Decides}
 use Rattle.upon_machine_spec.specs.Instr.{Instr, jump, with_start, with_end, loop_start}
 use Rattle.upon_machine_spec.specs.ProgramNames.{block_begins, loop_binds, count_after, unbound, path_name, is_this}
-use Rattle.upon_instructions.specs.Program.{instr_of, program_view}
-use Rattle.upon_instructions.specs.declared.types.program.Instr.{Instr as CodeInstr}
+use Rattle.upon_compiler.specs.Program.{instr_of, program_view}
+use Rattle.upon_compiler.specs.declared.types.program.Instr.{Instr as CodeInstr}
 use Rattle.upon_needs.specs.Names.{texts, has_name}
 
 -- an instruction at which no path begins so is passed

@@ -9,8 +9,8 @@ use Rattle.upon_machine_spec.specs.Code.{program_of}
 use Rattle.upon_machine_spec.specs.Instr.{Instr, jump, with_start, with_end, loop_start}
 use Rattle.upon_machine_spec.specs.ProgramNames.{block_begins, count_after, unbound, path_name, is_this, plain_include, IsListed}
 use Rattle.upon_machine_spec.proofs.NamesOfTree.{listed, tree_passes}
-use Rattle.upon_instructions.specs.Program.{instr_of, program_view}
-use Rattle.upon_instructions.specs.declared.types.program.Instr.{Instr as CodeInstr}
+use Rattle.upon_compiler.specs.Program.{instr_of, program_view}
+use Rattle.upon_compiler.specs.declared.types.program.Instr.{Instr as CodeInstr}
 use Rattle.upon_needs.specs.OpenBlocks.{binds_name, blocks, depth_after, free_includes, is_block_end, open_count, opens, outside_blocks}
 use Rattle.upon_needs.proofs.NeededNames.{either_way, weaker}
 

@@ -3,8 +3,8 @@ use Rattle.std.specs.Prelude.{ℕ, zero, suc, ◌+◌, ◌-◌, leb, List, [], �
 use Rattle.std.specs.Borrow.{Bor}
 use Rattle.upon_machine_spec.specs.Instr.{Instr, jump, loop_start, with_start, with_end}
 use Rattle.upon_machine_spec.specs.ProgramNames.{block_begins, loop_binds, plain_include}
-use Rattle.upon_instructions.specs.Program.{instr_of}
-use Rattle.upon_instructions.specs.declared.types.program.Instr.{Instr as CodeInstr}
+use Rattle.upon_compiler.specs.Program.{instr_of}
+use Rattle.upon_compiler.specs.declared.types.program.Instr.{Instr as CodeInstr}
 
 -- the instruction begins a block
 abbrev pub opens : Instr → Bool

@@ -3,7 +3,7 @@ ghost use Rattle.std.specs.Prelude.{◌≡◌, ◌↔◌, ◌<◌, ◌^◌, ◌-
 ghost use Rattle.upon_meaning_spec.specs.Needs.{StatementsBegin, StatementsPass};
 ghost use Rattle.upon_machine_spec.specs.Code.{program_of};
 ghost use Rattle.upon_machine_spec.specs.ProgramNames.{IsListed, passes_on, plain_include};
-ghost use Rattle.upon_instructions.specs.Program.{instr_of};
+ghost use Rattle.upon_compiler.specs.Program.{instr_of};
 ghost use Rattle.upon_needs.specs.EngineNeeds.{start_of};
 ghost use Rattle.upon_needs.specs.IndexStarts.{begins_by_index, has_index, plain_includes};
 ghost use Rattle.upon_needs.specs.Names.{texts};
@@ -13,7 +13,7 @@ ghost use Rattle.upon_engine.specs.Template.{template_tree};
 use crate::template_names::{begins, count_after};
 use std::alloc::AllocError;
 use upon_engine::template::Template;
-use upon_instructions::types::program::Instr;
+use upon_compiler::types::program::Instr;
 use upon_types::types::ast::Access;
 
 /// What begins a path: a name, or an index.

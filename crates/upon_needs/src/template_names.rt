@@ -7,7 +7,7 @@ ghost use Rattle.upon_meaning_spec.specs.Needs.{a_name, StatementsBegin};
 ghost use Rattle.upon_machine_spec.specs.Code.{program_of};
 ghost use Rattle.upon_machine_spec.specs.ProgramNames.{loop_binds, count_after, path_name, is_this, any_include, begins, includes};
 ghost use Rattle.upon_machine_spec.specs.ProgramNames.{block_begins as count_at_begin};
-ghost use Rattle.upon_instructions.specs.Program.{instr_of};
+ghost use Rattle.upon_compiler.specs.Program.{instr_of};
 ghost use Rattle.upon_needs.specs.Names.{texts, has_name, Rise};
 ghost use Rattle.upon_needs.specs.OpenBlocks.{binds_name, blocks, is_block_end, open_count, opens};
 ghost use Rattle.upon_engine.specs.Template.{template_tree};
@@ -15,7 +15,7 @@ ghost use Rattle.upon_engine.specs.Template.{template_tree};
 use std::alloc::{AllocError, Global};
 use std::collections::BTreeSet;
 use upon_engine::template::Template;
-use upon_instructions::types::program::Instr;
+use upon_compiler::types::program::Instr;
 use upon_types::types::ast::{Access, LoopVars};
 
 /// Returns the name that begins an instruction's path.

@@ -17,3 +17,11 @@ pub mod IncludesFit
 pub mod NoDoubts
 pub mod Written
 pub mod Examples
+pub mod Blocks
+pub mod Walks
+pub mod Operands
+pub mod Expressions
+pub mod Emissions
+pub mod SomeCode
+pub mod Statements
+mod ProgramExamples

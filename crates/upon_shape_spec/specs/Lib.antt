@@ -13,3 +13,5 @@ pub mod Narrowed
 pub mod Ends
 pub mod Accepted
 pub mod Doubts
+pub mod Known
+pub mod ProgramDoubts

@@ -2,10 +2,10 @@
 use Rattle.std.specs.Prelude.{ℕ, List}
 use Rattle.upon_types.specs.Answers.{Answer}
 use Rattle.upon_types.specs.Val.{Val}
-use Rattle.upon_std_functions.specs.Table as basic
-use Rattle.upon_std_orders.specs.Orders.{orders_answer, orders_name}
-use Rattle.upon_std_parts.specs.Parts.{parts_answer, parts_name}
-use Rattle.upon_std_writing.specs.Writing.{writing_answer, writing_name}
+use Rattle.upon_std.specs.Basic.Table as basic
+use Rattle.upon_std.specs.Ordering.Orders.{orders_answer, orders_name}
+use Rattle.upon_std.specs.Cutting.Parts.{parts_answer, parts_name}
+use Rattle.upon_std.specs.Encoding.Writing.{writing_answer, writing_name}
 use Rattle.upon_std.specs.declared.table.StandardFunction.{StandardFunction}
 use Rattle.upon_std.specs.declared.table.StandardFunction.TheVariants.{Basic, Orders, Parts, Writing}
 

@@ -3,14 +3,14 @@ ghost use Rattle.std.specs.Prelude.{◌≡◌};
 
 use std::alloc::Global;
 use upon_functions::function::{CallError, Function};
-use upon_std_functions::comparing::{Comparing, Relation};
-use upon_std_functions::integers::{Integers, Operation, Sign};
-use upon_std_functions::lists::Lists;
-use upon_std_functions::table::StandardFunction as Basic;
-use upon_std_functions::texts::Texts;
-use upon_std_orders::orders::Orders;
-use upon_std_parts::parts::Parts;
-use upon_std_writing::writing::Writing;
+use crate::basic::comparing::{Comparing, Relation};
+use crate::basic::integers::{Integers, Operation, Sign};
+use crate::basic::lists::Lists;
+use crate::basic::table::StandardFunction as Basic;
+use crate::basic::texts::Texts;
+use crate::ordering::orders::Orders;
+use crate::cutting::parts::Parts;
+use crate::encoding::writing::Writing;
 use upon_types::value::{Value, ValueCow};
 
 /// A standard function. [`ALL`] has each of them.

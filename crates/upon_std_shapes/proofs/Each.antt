@@ -5,8 +5,8 @@ use Rattle.std.specs.List.{AllByRecursion}
 use Rattle.std.proofs.lemmas.List.{reverse-append}
 use Rattle.upon_types.specs.Val.{Val, Vals, no_vals, val_then}
 use Rattle.upon_types.specs.View.{vals_of}
-use Rattle.upon_std_functions.specs.Items.{vals_in_list}
-use Rattle.upon_std_orders.specs.Distinct.{distinct}
+use Rattle.upon_std.specs.Basic.Items.{vals_in_list}
+use Rattle.upon_std.specs.Ordering.Distinct.{distinct}
 use Rattle.upon_shape_spec.specs.Fits.{EachValue, Held}
 use Rattle.upon_std_shapes.proofs.OneKind.{chosen}
 

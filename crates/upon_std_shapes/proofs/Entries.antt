@@ -9,7 +9,7 @@ use Rattle.std.specs.List.{AllByRecursion}
 use Rattle.std.specs.Ordering.{is_eq, is_lt}
 use Rattle.upon_types.specs.Val.{Val, Entries, no_entries, entry_then, entry_at, entry_list, rises}
 use Rattle.upon_types.proofs.Copies.{is_less}
-use Rattle.upon_std_functions.specs.Items.{value_at_key}
+use Rattle.upon_std.specs.Basic.Items.{value_at_key}
 use Rattle.upon_shape_spec.specs.Fits.{Held, Fits}
 use Rattle.upon_shape_spec.specs.Shape.{Shape, map_each, optional}
 use Rattle.upon_std_shapes.proofs.OneKind.{of_map, held_or_none}

@@ -5,8 +5,8 @@ use Rattle.std.specs.List.{AllByRecursion}
 use Rattle.upon_types.specs.Same.{val_eq}
 use Rattle.upon_types.specs.Val.{Val, list_val}
 use Rattle.upon_types.specs.View.{vals_of}
-use Rattle.upon_std_orders.specs.Distinct.{distinct}
-use Rattle.upon_std_orders.specs.Grouping.{members, group_val, grouped}
+use Rattle.upon_std.specs.Ordering.Distinct.{distinct}
+use Rattle.upon_std.specs.Ordering.Grouping.{members, group_val, grouped}
 use Rattle.upon_shape_spec.specs.Fits.{ByTest, Held, Fits}
 use Rattle.upon_shape_spec.specs.Shape.{Shape, list_of, never}
 use Rattle.upon_std_shapes.specs.Items.{group_shape}

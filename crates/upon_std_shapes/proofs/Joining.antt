@@ -4,7 +4,7 @@ use Rattle.std.specs.Prelude.{Result, Ok, Err}
 use Rattle.std.specs.List.{AllByRecursion}
 use Rattle.upon_functions.specs.Outcome.{answer_of}
 use Rattle.upon_types.specs.Val.{Val}
-use Rattle.upon_std_functions.specs.Joined.{text_in, prefixed, piece_then, joined_from, joined_result}
+use Rattle.upon_std.specs.Basic.Joined.{text_in, prefixed, piece_then, joined_from, joined_result}
 use Rattle.upon_shape_spec.specs.Declared.{GivesOf}
 use Rattle.upon_shape_spec.specs.Fits.{Fits}
 use Rattle.upon_shape_spec.specs.Shape.{text_shape}

@@ -6,31 +6,31 @@ use Rattle.upon_types.specs.Answers.{Function}
 use Rattle.upon_types.specs.Truth.{truth}
 use Rattle.upon_types.specs.Same.{val_eq}
 use Rattle.upon_types.specs.Val.{Val, int_val, text_val, list_val, map_val, entry_at, entry_list}
-use Rattle.upon_std_functions.specs.Comparing.{comparing_answer}
-use Rattle.upon_std_functions.specs.Items.{vals_in_list, value_at_key}
-use Rattle.upon_std_functions.specs.Lists.{lists_answer}
-use Rattle.upon_std_functions.specs.Table as basic_table
-use Rattle.upon_std_functions.specs.Texts.{texts_answer}
-use Rattle.upon_std_functions.specs.declared.comparing.Comparing.{Comparing}
-use Rattle.upon_std_functions.specs.declared.comparing.Comparing.TheVariants.{Equal, NotEqual, Ordered, Not, And, Or, Default, Choose}
-use Rattle.upon_std_functions.specs.declared.lists.Lists.{Lists}
-use Rattle.upon_std_functions.specs.declared.lists.Lists.TheVariants.{Length, First, Last, Reverse, Join, Keys, Values, Get}
-use Rattle.upon_std_functions.specs.declared.order.Relation.{Relation}
-use Rattle.upon_std_functions.specs.declared.table.StandardFunction.{StandardFunction as BasicFunction}
-use Rattle.upon_std_functions.specs.declared.table.StandardFunction.TheVariants as basic
-use Rattle.upon_std_functions.specs.declared.texts.Texts.{Texts}
-use Rattle.upon_std_functions.specs.declared.texts.Texts.TheVariants.{Trim, Lower, Upper, StartsWith, EndsWith, Contains, Repeat}
-use Rattle.upon_std_orders.specs.Distinct.{distinct}
-use Rattle.upon_std_orders.specs.Grouping.{grouped}
-use Rattle.upon_std_orders.specs.Orders.{orders_answer}
-use Rattle.upon_std_orders.specs.declared.orders.Orders.{Orders}
-use Rattle.upon_std_orders.specs.declared.orders.Orders.TheVariants.{Sort, SortBy, Unique, GroupBy}
-use Rattle.upon_std_parts.specs.Parts.{parts_answer}
-use Rattle.upon_std_parts.specs.declared.parts.Parts.{Parts}
-use Rattle.upon_std_parts.specs.declared.parts.Parts.TheVariants.{Range, Slice, Concat, Pluck, Where, Sum, Split, Lines, Replace, Indent}
-use Rattle.upon_std_writing.specs.Writing.{writing_answer}
-use Rattle.upon_std_writing.specs.declared.writing.Writing.{Writing}
-use Rattle.upon_std_writing.specs.declared.writing.Writing.TheVariants.{Json, Shell, Yaml, Url, Base64, Truncate, PadLeft, PadRight, Center}
+use Rattle.upon_std.specs.Basic.Comparing.{comparing_answer}
+use Rattle.upon_std.specs.Basic.Items.{vals_in_list, value_at_key}
+use Rattle.upon_std.specs.Basic.Lists.{lists_answer}
+use Rattle.upon_std.specs.Basic.Table as basic_table
+use Rattle.upon_std.specs.Basic.Texts.{texts_answer}
+use Rattle.upon_std.specs.declared.basic.comparing.Comparing.{Comparing}
+use Rattle.upon_std.specs.declared.basic.comparing.Comparing.TheVariants.{Equal, NotEqual, Ordered, Not, And, Or, Default, Choose}
+use Rattle.upon_std.specs.declared.basic.lists.Lists.{Lists}
+use Rattle.upon_std.specs.declared.basic.lists.Lists.TheVariants.{Length, First, Last, Reverse, Join, Keys, Values, Get}
+use Rattle.upon_std.specs.declared.basic.order.Relation.{Relation}
+use Rattle.upon_std.specs.declared.basic.table.StandardFunction.{StandardFunction as BasicFunction}
+use Rattle.upon_std.specs.declared.basic.table.StandardFunction.TheVariants as basic
+use Rattle.upon_std.specs.declared.basic.texts.Texts.{Texts}
+use Rattle.upon_std.specs.declared.basic.texts.Texts.TheVariants.{Trim, Lower, Upper, StartsWith, EndsWith, Contains, Repeat}
+use Rattle.upon_std.specs.Ordering.Distinct.{distinct}
+use Rattle.upon_std.specs.Ordering.Grouping.{grouped}
+use Rattle.upon_std.specs.Ordering.Orders.{orders_answer}
+use Rattle.upon_std.specs.declared.ordering.orders.Orders.{Orders}
+use Rattle.upon_std.specs.declared.ordering.orders.Orders.TheVariants.{Sort, SortBy, Unique, GroupBy}
+use Rattle.upon_std.specs.Cutting.Parts.{parts_answer}
+use Rattle.upon_std.specs.declared.cutting.parts.Parts.{Parts}
+use Rattle.upon_std.specs.declared.cutting.parts.Parts.TheVariants.{Range, Slice, Concat, Pluck, Where, Sum, Split, Lines, Replace, Indent}
+use Rattle.upon_std.specs.Encoding.Writing.{writing_answer}
+use Rattle.upon_std.specs.declared.encoding.writing.Writing.{Writing}
+use Rattle.upon_std.specs.declared.encoding.writing.Writing.TheVariants.{Json, Shell, Yaml, Url, Base64, Truncate, PadLeft, PadRight, Center}
 use Rattle.upon_std.specs.Table.{standard_answer}
 use Rattle.upon_std.specs.declared.table.StandardFunction.{StandardFunction}
 use Rattle.upon_std.specs.declared.table.StandardFunction.TheVariants as standard

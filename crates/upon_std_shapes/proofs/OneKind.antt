@@ -2,7 +2,7 @@
 use Rattle.std.proofs.Common.{◌≡◌, ℕ, ℤ, List, Bool, true, false, Option, Some, None, refl, if◌then◌else◌}
 use Rattle.std.specs.Prelude.{unwrap_or}
 use Rattle.upon_types.specs.Val.{Val, none_val, bool_val, int_val, text_val, list_val, map_val, Vals, Entries, entry_at, rises}
-use Rattle.upon_std_functions.specs.Choices.{value_or}
+use Rattle.upon_std.specs.Basic.Choices.{value_or}
 use Rattle.upon_shape_spec.specs.Fits.{EachValue, Held, Fits}
 use Rattle.upon_shape_spec.specs.Shape.{Shape, any_shape, one_of, integer_shape, list_of, map_each, optional, text_shape}
 

@@ -7,10 +7,10 @@ use Rattle.std.specs.Ordering.{nat_cmp, int_cmp}
 use Rattle.std.specs.declared.cmp.Ordering.{Ordering}
 use Rattle.upon_functions.specs.Outcome.{answer_of}
 use Rattle.upon_types.specs.Val.{Val, int_val, text_val, Vals}
-use Rattle.upon_std_functions.specs.Items.{vals_in_list}
-use Rattle.upon_std_functions.specs.Order.{order_of, unordered}
-use Rattle.upon_std_orders.specs.Outcomes.{listed}
-use Rattle.upon_std_orders.specs.Sorting.{inserted, ascending, is_below, unless_ordered, first_unlike, keys_refusal, values_or_refusal, sorted_by}
+use Rattle.upon_std.specs.Basic.Items.{vals_in_list}
+use Rattle.upon_std.specs.Basic.Order.{order_of, unordered}
+use Rattle.upon_std.specs.Ordering.Outcomes.{listed}
+use Rattle.upon_std.specs.Ordering.Sorting.{inserted, ascending, is_below, unless_ordered, first_unlike, keys_refusal, values_or_refusal, sorted_by}
 use Rattle.upon_shape_spec.specs.Declared.{GivesOf}
 use Rattle.upon_shape_spec.specs.Fits.{EachValue, Fits}
 use Rattle.upon_shape_spec.specs.Shape.{Shape, integer_shape, list_of, text_shape}

@@ -6,20 +6,20 @@ use Rattle.upon_shape_spec.specs.Declared.{Signature}
 use Rattle.upon_shape_spec.specs.Shape.{any_shape, list_of, map_each, optional, text_shape, truth_shape}
 use Rattle.upon_std.specs.declared.table.StandardFunction.{StandardFunction}
 use Rattle.upon_std.specs.declared.table.StandardFunction.TheVariants as standard
-use Rattle.upon_std_functions.specs.declared.comparing.Comparing.{Comparing}
-use Rattle.upon_std_functions.specs.declared.comparing.Comparing.TheVariants.{Equal, NotEqual, Ordered, Not, And, Or, Default, Choose}
-use Rattle.upon_std_functions.specs.declared.lists.Lists.{Lists}
-use Rattle.upon_std_functions.specs.declared.lists.Lists.TheVariants.{Length, First, Last, Reverse, Join, Keys, Values, Get}
-use Rattle.upon_std_functions.specs.declared.table.StandardFunction.{StandardFunction as BasicFunction}
-use Rattle.upon_std_functions.specs.declared.table.StandardFunction.TheVariants as basic
-use Rattle.upon_std_functions.specs.declared.texts.Texts.{Texts}
-use Rattle.upon_std_functions.specs.declared.texts.Texts.TheVariants.{Trim, Lower, Upper, StartsWith, EndsWith, Contains, Repeat}
-use Rattle.upon_std_orders.specs.declared.orders.Orders.{Orders}
-use Rattle.upon_std_orders.specs.declared.orders.Orders.TheVariants.{Sort, SortBy, Unique, GroupBy}
-use Rattle.upon_std_parts.specs.declared.parts.Parts.{Parts}
-use Rattle.upon_std_parts.specs.declared.parts.Parts.TheVariants.{Range, Slice, Concat, Pluck, Where, Sum, Split, Lines, Replace, Indent}
-use Rattle.upon_std_writing.specs.declared.writing.Writing.{Writing}
-use Rattle.upon_std_writing.specs.declared.writing.Writing.TheVariants.{Json, Shell, Yaml, Url, Base64, Truncate, PadLeft, PadRight, Center}
+use Rattle.upon_std.specs.declared.basic.comparing.Comparing.{Comparing}
+use Rattle.upon_std.specs.declared.basic.comparing.Comparing.TheVariants.{Equal, NotEqual, Ordered, Not, And, Or, Default, Choose}
+use Rattle.upon_std.specs.declared.basic.lists.Lists.{Lists}
+use Rattle.upon_std.specs.declared.basic.lists.Lists.TheVariants.{Length, First, Last, Reverse, Join, Keys, Values, Get}
+use Rattle.upon_std.specs.declared.basic.table.StandardFunction.{StandardFunction as BasicFunction}
+use Rattle.upon_std.specs.declared.basic.table.StandardFunction.TheVariants as basic
+use Rattle.upon_std.specs.declared.basic.texts.Texts.{Texts}
+use Rattle.upon_std.specs.declared.basic.texts.Texts.TheVariants.{Trim, Lower, Upper, StartsWith, EndsWith, Contains, Repeat}
+use Rattle.upon_std.specs.declared.ordering.orders.Orders.{Orders}
+use Rattle.upon_std.specs.declared.ordering.orders.Orders.TheVariants.{Sort, SortBy, Unique, GroupBy}
+use Rattle.upon_std.specs.declared.cutting.parts.Parts.{Parts}
+use Rattle.upon_std.specs.declared.cutting.parts.Parts.TheVariants.{Range, Slice, Concat, Pluck, Where, Sum, Split, Lines, Replace, Indent}
+use Rattle.upon_std.specs.declared.encoding.writing.Writing.{Writing}
+use Rattle.upon_std.specs.declared.encoding.writing.Writing.TheVariants.{Json, Shell, Yaml, Url, Base64, Truncate, PadLeft, PadRight, Center}
 use Rattle.upon_std_shapes.specs.Items.{takes_gives, ordered_shapes, for_each_item, for_each_item_and, group_shape}
 use Rattle.std.specs.Prelude.{map}
 

@@ -1,20 +1,20 @@
 // The signatures of each standard function.
 ghost use Rattle.std.specs.Prelude.{◌≡◌, map, IfOk};
-ghost use Rattle.upon_checked.specs.Callables.{signature_view};
+ghost use Rattle.upon_check.specs.Callables.{signature_view};
 ghost use Rattle.upon_std_shapes.specs.Signatures.{comparing_signatures, texts_signatures, lists_signatures, basic_signatures, orders_signatures, parts_signatures, writing_signatures, standard_signatures};
 
 use crate::form::{Form, ITEMS, ORDERED};
 use crate::rows::{and_of_any, for_each, only};
 use std::alloc::{AllocError, Global};
-use upon_checked::declared::Signature;
+use upon_check::declared::Signature;
 use upon_std::table::StandardFunction;
-use upon_std_functions::comparing::Comparing;
-use upon_std_functions::lists::Lists;
-use upon_std_functions::table::StandardFunction as Basic;
-use upon_std_functions::texts::Texts;
-use upon_std_orders::orders::Orders;
-use upon_std_parts::parts::Parts;
-use upon_std_writing::writing::Writing;
+use upon_std::basic::comparing::Comparing;
+use upon_std::basic::lists::Lists;
+use upon_std::basic::table::StandardFunction as Basic;
+use upon_std::basic::texts::Texts;
+use upon_std::ordering::orders::Orders;
+use upon_std::cutting::parts::Parts;
+use upon_std::encoding::writing::Writing;
 
 // Returns what a standard function takes and gives.
 pub(crate) fn signatures_of(

@@ -10,8 +10,8 @@ use Rattle.upon_language_spec.specs.Shown.{shown_lexemes}
 use Rattle.upon_language_spec.specs.Tokens.{significant}
 use Rattle.upon_tree.specs.Ast.{statements_from, tree_of}
 use Rattle.upon_tree.specs.declared.ast.Template.{Template}
-use Rattle.upon_tree_parser.specs.declared.statements.TreeBuilder.{TreeBuilder}
-use Rattle.upon_tree_parser.specs.Statements.{builder_state, BlockSoFar, TreeSoFar, so_far, nothing_read, statements_so_far, whole_block, block_ended_in}
+use Rattle.upon_tree.specs.declared.statements.TreeBuilder.{TreeBuilder}
+use Rattle.upon_tree.specs.Statements.{builder_state, BlockSoFar, TreeSoFar, so_far, nothing_read, statements_so_far, whole_block, block_ended_in}
 use Rattle.upon_syntax.specs.Pieces.{TemplatePiece, LeaveOpen}
 use Rattle.upon_syntax.specs.TagReading.{HasPieces}
 use Rattle.upon_syntax.specs.TreeTold.{tree_after, tree_after_all, HasBuilt}

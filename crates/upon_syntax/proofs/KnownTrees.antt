@@ -20,7 +20,7 @@ use Rattle.upon_language_spec.proofs.Totality.ExpressionMore.{expression_more}
 use Rattle.upon_tag_parser.specs.TagParsing.{ReadsExpression, StartsBase, StuckAt}
 use Rattle.upon_tag_parser.specs.WholeTags.{LeadsToEnd}
 use Rattle.upon_tag_parser.proofs.Endings.{expression_quiet}
-use Rattle.upon_tree_parser.specs.Opened.{IsExpressionKnown}
+use Rattle.upon_tree.specs.Opened.{IsExpressionKnown}
 
 -- ---- a run of the parts
 -- what is left of a run after its beginning

@@ -19,7 +19,7 @@ use Rattle.upon_language_spec.proofs.OneCut.Cut.{cut_ends, cut_joined, takes_som
 use Rattle.upon_language_spec.proofs.Totality.InsideClear.{last_more}
 use Rattle.upon_language_spec.proofs.Totality.OpenBlocks.{blocks_append, taken_append}
 use Rattle.upon_language_spec.proofs.Totality.Stage.{outside_is_clear}
-use Rattle.upon_instructions.specs.declared.types.program.Instr.{Instr as CodeInstr}
+use Rattle.upon_compiler.specs.declared.types.program.Instr.{Instr as CodeInstr}
 use Rattle.upon_syntax.specs.declared.compile.parse.piece.Piece.{Piece as CodePiece}
 use Rattle.upon_syntax.specs.OpenBlocks.{kinds_of}
 use Rattle.upon_syntax.specs.PieceReading.{ReadTo, BetweenPieces, token_lexeme, TokenGiven, ReadsOnPieces, PassesComment, PieceRead, PiecesSoFar, PieceFound, GoesFurther}

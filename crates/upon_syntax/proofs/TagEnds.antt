@@ -14,7 +14,7 @@ use Rattle.upon_language_spec.specs.Lexing.{LexerState, HasRead}
 use Rattle.upon_language_spec.specs.Wanted.{in_quotes}
 use Rattle.upon_language_spec.proofs.NoTreeWithFault.BeforeTag.{open_tag_is}
 use Rattle.upon_language_spec.proofs.Totality.Stage.{outside_is_clear}
-use Rattle.upon_instructions.specs.declared.types.program.Instr.{Instr as CodeInstr}
+use Rattle.upon_compiler.specs.declared.types.program.Instr.{Instr as CodeInstr}
 use Rattle.upon_lexer.specs.declared.compile.lex.Lexer.{Lexer}
 use Rattle.upon_lexer.specs.Lexers.{lexer_text, lexer_delimiters, lexer_state, ReadSoFar}
 use Rattle.upon_syntax.specs.OpenBlocks.{closed_by, after_tag, IsTaken}

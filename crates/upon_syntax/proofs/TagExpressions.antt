@@ -26,8 +26,8 @@ use Rattle.upon_language_spec.proofs.OneTree.Path.{continues_base}
 use Rattle.upon_language_spec.proofs.OneTree.Token.{first_token}
 use Rattle.upon_language_spec.proofs.Totality.TagMore.{keyword_more}
 use Rattle.upon_language_spec.proofs.Wanted.ExpressionsLead.{leads_by}
-use Rattle.upon_literals.specs.declared.literal.Lexed.{Lexed}
-use Rattle.upon_literals.specs.Literals.{lexeme_of}
+use Rattle.upon_lexer.specs.declared.literal.Lexed.{Lexed}
+use Rattle.upon_lexer.specs.Literals.{lexeme_of}
 use Rattle.upon_tag_parser.specs.BlockTags.{BlockTag, opening_tag, else_if_tag, else_tag, end_tag, include_tag, tokens_of_not, tokens_of_names, tokens_before}
 use Rattle.upon_tag_parser.specs.TagParsing.{StartsBase, NoWord}
 use Rattle.upon_tag_parser.specs.TagTokens.{EachTagToken, lexemes_of}
@@ -36,7 +36,7 @@ use Rattle.upon_tag_parser.proofs.BaseStarts.{base_starts}
 use Rattle.upon_tag_parser.proofs.Endings.{condition_starts}
 use Rattle.upon_syntax.specs.Pieces.{HoldsPiece, inline_piece, block_piece}
 use Rattle.upon_syntax.specs.TagExpressions.{HasExpressionAfter}
-use Rattle.upon_tree_parser.specs.Statements.{TreeSoFar, block_opened}
+use Rattle.upon_tree.specs.Statements.{TreeSoFar, block_opened}
 use Rattle.upon_syntax.specs.TreeTold.{tree_after_tag}
 use Rattle.upon_syntax.proofs.KnownTrees.{IsTagEnd, leads_on, Stops, end_expr_stops, end_block_stops, as_stops, known_by}
 

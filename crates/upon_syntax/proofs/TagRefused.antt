@@ -23,13 +23,13 @@ use Rattle.upon_language_spec.specs.Wanted.{Wanted, reason_for, wanted_at_end, e
 use Rattle.upon_language_spec.specs.InTags.{last_or, ends_a_tag}
 use Rattle.upon_language_spec.proofs.NoTreeWithFault.InsideTag.{end_is_no_space}
 use Rattle.upon_language_spec.proofs.Wanted.LiteralWords.{Decided, number_decided, string_decided, index_decided}
-use Rattle.upon_literals.specs.declared.literal.Lexed.{Lexed}
-use Rattle.upon_literals.specs.declared.literal_fault.Refusal.{Refusal}
+use Rattle.upon_lexer.specs.declared.literal.Lexed.{Lexed}
+use Rattle.upon_lexer.specs.declared.literal_fault.Refusal.{Refusal}
 use Rattle.upon_tag_parser.specs.declared.compile.parse.want.Want.{Want}
 use Rattle.upon_syntax.specs.declared.compile.parse.tag_tokens.Ended.{Ended}
 use Rattle.upon_syntax.specs.declared.compile.parse.tag_tokens.Ended.TheVariants.{End, Fault as CutFault, Literal, Eof}
-use Rattle.upon_literals.specs.Literals.{lexeme_of}
-use Rattle.upon_literals.specs.LiteralReasons.{report_of, literal_reason}
+use Rattle.upon_lexer.specs.Literals.{lexeme_of}
+use Rattle.upon_lexer.specs.LiteralReasons.{report_of, literal_reason}
 use Rattle.upon_tag_parser.specs.TagTokens.{lexemes_of}
 use Rattle.upon_tag_parser.specs.TagParsing.{Refuses}
 use Rattle.upon_syntax.specs.TagReading.{IsSyntaxError}

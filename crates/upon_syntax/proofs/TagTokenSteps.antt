@@ -18,12 +18,12 @@ use Rattle.upon_language_spec.specs.CutFaults.{ClearTo}
 use Rattle.upon_language_spec.specs.InTags.{is_inside, EachInside, last_or}
 use Rattle.upon_language_spec.proofs.NoTreeWithFault.InsideTag.{extent_is_inside, inside_stays, spaces_append, space_step, no_space_step}
 use Rattle.upon_lexer.specs.Plain.{is_plain}
-use Rattle.upon_literals.specs.declared.literal.Lexed.{Lexed}
+use Rattle.upon_lexer.specs.declared.literal.Lexed.{Lexed}
 use Rattle.upon_syntax.specs.declared.compile.parse.tag_tokens.Ended.{Ended}
 use Rattle.upon_syntax.specs.declared.compile.parse.tag_tokens.Ended.TheVariants.{End, Fault as CutFault, Literal, Eof}
-use Rattle.upon_literals.specs.declared.literal_fault.Refusal.{Refusal}
-use Rattle.upon_literals.specs.Literals.{lexeme_of}
-use Rattle.upon_literals.specs.LiteralReasons.{report_of}
+use Rattle.upon_lexer.specs.declared.literal_fault.Refusal.{Refusal}
+use Rattle.upon_lexer.specs.Literals.{lexeme_of}
+use Rattle.upon_lexer.specs.LiteralReasons.{report_of}
 use Rattle.upon_syntax.specs.TagEnds.{DenotesNothing, StopsAt, ReportsCut, ReadsOnTokens, ReadsTokens, ReadsUpTo, EndsBy}
 use Rattle.upon_tag_parser.specs.TagTokens.{IsTagToken, EachTagToken}
 use Rattle.upon_syntax.proofs.CutParts.{cut_rest}

@@ -8,8 +8,8 @@ use Rattle.upon_language_spec.specs.Lexing.{LexerState}
 use Rattle.upon_language_spec.specs.Search.{DelimiterText}
 use Rattle.upon_language_spec.specs.Shown.{shown_lexemes}
 use Rattle.upon_language_spec.specs.Tokens.{significant}
-use Rattle.upon_instructions.specs.Program.{program_view}
-use Rattle.upon_instructions.specs.declared.types.program.Instr.{Instr as CodeInstr}
+use Rattle.upon_compiler.specs.Program.{program_view}
+use Rattle.upon_compiler.specs.declared.types.program.Instr.{Instr as CodeInstr}
 use Rattle.upon_compiler.specs.After.{after_all, after_event}
 use Rattle.upon_compiler.specs.Compiler.{CompilerState, nothing}
 use Rattle.upon_compiler.specs.Events.{Event, opening_event}

@@ -33,13 +33,13 @@ use Rattle.upon_language_spec.specs.OpenParts.{is_open}
 use Rattle.upon_language_spec.proofs.Wanted.Opened.{open_on}
 use Rattle.upon_lexer.specs.declared.compile.lex.Lexer.{Lexer}
 use Rattle.upon_lexer.specs.Lexers.{lexer_text, lexer_delimiters, lexer_state}
-use Rattle.upon_literals.specs.declared.literal.Lexed.{Lexed}
+use Rattle.upon_lexer.specs.declared.literal.Lexed.{Lexed}
 use Rattle.upon_syntax.specs.declared.compile.parse.tag_tokens.Ended.{Ended}
 use Rattle.upon_syntax.specs.declared.compile.parse.tag_tokens.Ended.TheVariants.{End, Fault as CutFault, Literal, Eof}
 use Rattle.upon_tag_parser.specs.declared.compile.parse.path.Failure.{Failure}
 use Rattle.upon_tag_parser.specs.declared.compile.parse.path.Failure.TheVariants.{Memory, Stuck}
 use Rattle.upon_tag_parser.specs.declared.compile.parse.want.Want.{Want}
-use Rattle.upon_literals.specs.Literals.{lexeme_of}
+use Rattle.upon_lexer.specs.Literals.{lexeme_of}
 use Rattle.upon_tag_parser.specs.TagParsing.{OnStuck, IsStuck}
 use Rattle.upon_tag_parser.specs.Wants.{wanted_of}
 use Rattle.upon_tag_parser.specs.WholeTags.{LeadsToEnd}

@@ -4,8 +4,8 @@ use Rattle.upon_types.specs.Tree.{Statements}
 use Rattle.upon_language_spec.specs.Grammar.{HasTree}
 use Rattle.upon_language_spec.specs.Search.{DelimiterText}
 use Rattle.upon_machine_spec.specs.Code.{program_of}
-use Rattle.upon_instructions.specs.Program.{program_view}
-use Rattle.upon_instructions.specs.declared.types.program.Instr.{Instr}
+use Rattle.upon_compiler.specs.Program.{program_view}
+use Rattle.upon_compiler.specs.declared.types.program.Instr.{Instr}
 use Rattle.upon_delimiters.specs.Searcher.{searcher_delimiters}
 use Rattle.upon_syntax.specs.declared.compile.parse.Parser.{Parser}
 

@@ -25,8 +25,8 @@ use Rattle.upon_syntax.specs.TagEnds.{KeepsText}
 use Rattle.upon_syntax.specs.TagReading.{HasPieces, IsSyntaxError}
 use Rattle.upon_syntax.specs.Pieces.{TemplatePiece, KeepsPiece, HoldsPiece, piece_code, ArePieces, LeaveOpen}
 use Rattle.upon_syntax.specs.TagReaders.{reader_tokens}
-use Rattle.upon_instructions.specs.Program.{program_view}
-use Rattle.upon_instructions.specs.declared.types.program.Instr.{Instr as CodeInstr}
+use Rattle.upon_compiler.specs.Program.{program_view}
+use Rattle.upon_compiler.specs.declared.types.program.Instr.{Instr as CodeInstr}
 
 -- the text of a reader
 abbrev pub text_of_reader : PieceReader → List ℕ

@@ -22,10 +22,10 @@ use Rattle.upon_language_spec.specs.Lexing.{LexerState, HasRead}
 use Rattle.upon_language_spec.specs.InTags.{is_inside, EachInside, last_or}
 use Rattle.upon_lexer.specs.declared.compile.lex.Lexer.{Lexer}
 use Rattle.upon_lexer.specs.Lexers.{lexer_text, lexer_delimiters, lexer_state, ReadSoFar}
-use Rattle.upon_literals.specs.declared.literal.Lexed.{Lexed}
-use Rattle.upon_literals.specs.declared.literal_fault.Refusal.{Refusal}
-use Rattle.upon_literals.specs.LiteralReasons.{report_of}
-use Rattle.upon_literals.specs.Literals.{lexeme_of}
+use Rattle.upon_lexer.specs.declared.literal.Lexed.{Lexed}
+use Rattle.upon_lexer.specs.declared.literal_fault.Refusal.{Refusal}
+use Rattle.upon_lexer.specs.LiteralReasons.{report_of}
+use Rattle.upon_lexer.specs.Literals.{lexeme_of}
 use Rattle.upon_tag_parser.specs.TagTokens.{IsTagToken}
 use Rattle.upon_syntax.specs.declared.compile.parse.tag_tokens.Ended.{Ended}
 use Rattle.upon_syntax.specs.declared.compile.parse.tag_tokens.Ended.TheVariants.{End, Fault as CutFault, Literal, Eof}

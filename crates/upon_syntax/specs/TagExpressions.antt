@@ -4,7 +4,7 @@ use Rattle.upon_types.specs.Expression.{Expression}
 use Rattle.upon_language_spec.specs.Cut.{Lexeme}
 use Rattle.upon_language_spec.specs.LaterFaults.{minus_before}
 use Rattle.upon_tag_parser.specs.TagTokens.{EachTagToken}
-use Rattle.upon_tree_parser.specs.Opened.{IsExpressionKnown}
+use Rattle.upon_tree.specs.Opened.{IsExpressionKnown}
 
 -- after so many of the tokens of a tag, an expression is known to be there
 pub record HasExpressionAfter (s : List ℕ) (count : ℕ) (tokens : List Lexeme) (e : Expression) : Type 0 where

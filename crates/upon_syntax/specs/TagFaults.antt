@@ -14,7 +14,7 @@ use Rattle.upon_language_spec.specs.Lexing.{LexerState}
 use Rattle.upon_language_spec.specs.InTags.{last_or, ends_a_tag}
 use Rattle.upon_language_spec.specs.Stages.{Stage}
 use Rattle.upon_language_spec.specs.OpenParts.{is_open}
-use Rattle.upon_literals.specs.declared.literal.Lexed.{Lexed}
+use Rattle.upon_lexer.specs.declared.literal.Lexed.{Lexed}
 use Rattle.upon_syntax.specs.declared.compile.parse.tag_tokens.Ended.{Ended}
 use Rattle.upon_tag_parser.specs.declared.compile.parse.want.Want.{Want}
 use Rattle.upon_tag_parser.specs.TagTokens.{lexemes_of, EachTagToken}

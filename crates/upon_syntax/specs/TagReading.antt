@@ -19,7 +19,7 @@ use Rattle.upon_lexer.specs.Lexers.{lexer_text, lexer_delimiters, lexer_state, R
 use Rattle.upon_tag_parser.specs.declared.compile.parse.tag.Tag.{Tag}
 use Rattle.upon_tag_parser.specs.TagTokens.{EachTagToken}
 use Rattle.upon_tag_parser.specs.WholeTags.{HoldsInline, HoldsTag}
-use Rattle.upon_instructions.specs.declared.types.program.Instr.{Instr}
+use Rattle.upon_compiler.specs.declared.types.program.Instr.{Instr}
 use Rattle.upon_syntax.specs.declared.compile.parse.tag_reader.TagReader.{TagReader}
 use Rattle.upon_syntax.specs.TagReaders.{reader_tokens}
 use Rattle.upon_syntax.specs.Pieces.{TemplatePiece, ArePieces, InlineLeads, TagLeads}

@@ -3,8 +3,8 @@ use Rattle.std.specs.Prelude.{◌≡◌, ℕ, List, [], ◌∷◌, false}
 use Rattle.upon_types.specs.Tree.{raw, inline_expr, include}
 use Rattle.upon_language_spec.specs.Search.{DelimiterText}
 use Rattle.upon_tag_parser.specs.BlockTags.{BlockTag, opening_tag, else_if_tag, else_tag, end_tag, include_tag}
-use Rattle.upon_tree_parser.specs.declared.statements.TreeBuilder.{TreeBuilder}
-use Rattle.upon_tree_parser.specs.Statements.{TreeSoFar, nothing_read, builder_state, with_statement, block_opened, branch_begun, tree_else_if_begun, tree_block_ended}
+use Rattle.upon_tree.specs.declared.statements.TreeBuilder.{TreeBuilder}
+use Rattle.upon_tree.specs.Statements.{TreeSoFar, nothing_read, builder_state, with_statement, block_opened, branch_begun, tree_else_if_begun, tree_block_ended}
 use Rattle.upon_syntax.specs.TagReading.{HasPieces}
 use Rattle.upon_syntax.specs.Pieces.{TemplatePiece, LeaveOpen, raw_piece, inline_piece, block_piece}
 

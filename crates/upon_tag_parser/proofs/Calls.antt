@@ -16,7 +16,7 @@ use Rattle.upon_language_spec.specs.Parts.{Part, a_base, after_name, call_start,
 use Rattle.upon_language_spec.specs.PartTails.{No, Tail, Quiet, tail_parts, no_tail, TakesBase}
 use Rattle.upon_language_spec.specs.PartLeads.{Leads}
 use Rattle.upon_language_spec.proofs.Wanted.ExpressionsLead.{leads_then, leads_nowhere, leads_token, by_tail, call_takes, base_takes}
-use Rattle.upon_literals.specs.declared.literal.Lexed.{Lexed}
+use Rattle.upon_lexer.specs.declared.literal.Lexed.{Lexed}
 use Rattle.upon_tag_parser.specs.declared.compile.parse.want.Want.{Want}
 use Rattle.upon_tag_parser.specs.declared.compile.parse.want.Want.TheVariants.{CloseParen as WantCloseParen}
 use Rattle.upon_tag_parser.specs.TagTokens.{lexemes_of}

@@ -7,7 +7,7 @@ use Rattle.upon_language_spec.specs.Cut.{Lexeme}
 use Rattle.upon_language_spec.specs.Parts.{Part, a_base, filters, more_args, list_start, list_rest, map_rest, after_name, call_start, call_rest, close_paren}
 use Rattle.upon_language_spec.specs.PartLeads.{Leads}
 use Rattle.upon_language_spec.proofs.Wanted.ExpressionsLead.{leads_then, leads_nowhere, leads_token}
-use Rattle.upon_literals.specs.declared.literal.Lexed.{Lexed}
+use Rattle.upon_lexer.specs.declared.literal.Lexed.{Lexed}
 use Rattle.upon_tag_parser.specs.declared.compile.parse.want.Want.{Want}
 use Rattle.upon_tag_parser.specs.declared.compile.parse.brackets.Beginning.{Beginning}
 use Rattle.upon_tag_parser.specs.declared.compile.parse.brackets.Applied.{Applied}

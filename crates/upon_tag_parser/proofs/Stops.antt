@@ -1,7 +1,7 @@
 -- What the functions inside a tag say where they are stuck, and the rest of a rest.
 use Rattle.std.proofs.Common.{ℕ, List, Result, Ok, Err, IfOk, Bor}
 use Rattle.upon_language_spec.specs.Parts.{Part}
-use Rattle.upon_literals.specs.declared.literal.Lexed.{Lexed}
+use Rattle.upon_lexer.specs.declared.literal.Lexed.{Lexed}
 use Rattle.upon_tag_parser.specs.declared.compile.parse.path.Failure.{Failure}
 use Rattle.upon_tag_parser.specs.declared.compile.parse.want.Want.{Want}
 use Rattle.upon_tag_parser.specs.TagTokens.{lexemes_of, IsRest}

@@ -9,14 +9,14 @@ use Rattle.upon_language_spec.specs.Parts.{Part, a_member, a_magnitude, after_me
 use Rattle.upon_language_spec.specs.PartTails.{No, TakesBase, TakesOp}
 use Rattle.upon_language_spec.specs.PartLeads.{Leads}
 use Rattle.upon_language_spec.proofs.Wanted.ExpressionsLead.{leads_then, leads_nowhere, leads_token, step_leads, steps_leads}
-use Rattle.upon_literals.specs.declared.literal.Lexed.{Lexed}
+use Rattle.upon_lexer.specs.declared.literal.Lexed.{Lexed}
 use Rattle.upon_tag_parser.specs.declared.compile.parse.path.Failure.{Failure}
 use Rattle.upon_tag_parser.specs.declared.compile.parse.path.Failure.TheVariants.{Memory, Stuck}
 use Rattle.upon_tag_parser.specs.declared.compile.parse.want.Want.{Want}
 use Rattle.upon_tag_parser.specs.declared.compile.parse.want.Want.TheVariants as want
 use Rattle.upon_tag_parser.specs.TagTokens.{lexemes_of}
 use Rattle.upon_tag_parser.specs.Wants.{wanted_of}
-use Rattle.upon_literals.specs.Literals.{lexeme_of}
+use Rattle.upon_lexer.specs.Literals.{lexeme_of}
 use Rattle.upon_language_spec.specs.Expressions.{op_token, sign_token, IsMember, AreMembers}
 use Rattle.upon_language_spec.specs.Tokens.{Goes}
 use Rattle.upon_types.specs.Path.{Member}

@@ -9,8 +9,8 @@ use Rattle.upon_language_spec.specs.InTags.{is_inside}
 use Rattle.upon_language_spec.specs.Tokens.{Goes}
 use Rattle.upon_language_spec.specs.Inside.{IsQuoted}
 use Rattle.upon_language_spec.specs.LiteralFaults.{escape_fault}
-use Rattle.upon_literals.specs.Literals.{lexeme_of}
-use Rattle.upon_literals.specs.declared.literal.Lexed.{Lexed}
+use Rattle.upon_lexer.specs.Literals.{lexeme_of}
+use Rattle.upon_lexer.specs.declared.literal.Lexed.{Lexed}
 use Rattle.upon_tag_parser.specs.TagTokens.{lexemes_of, is_minus, minus_last, IsTagToken, EachTagToken, AreTagTokens, IsRestOf, IsRest}
 
 -- the rest after one token that is no minus

@@ -27,7 +27,7 @@ use Rattle.upon_language_spec.proofs.Wanted.ExpressionsLead.{ending_left, base_t
 use Rattle.upon_tag_parser.specs.BlockTags.{BlockTag, opening_tag, else_if_tag, else_tag, end_tag, include_tag, IsBlockTag}
 use Rattle.upon_tag_parser.specs.TagParsing.{Refuses, StuckAt, IsStuck, NoWord, ReadsExpression}
 use Rattle.upon_tag_parser.specs.WholeTags.{LeadsToEnd, IsInlineTag, IsTagInside, IsTagBody, IsEnding, ReadsTag, ReadsCondition, ReadsLoopVars, IsTooLong, NoOpeningWord}
-use Rattle.upon_literals.specs.declared.literal.Lexed.{Lexed}
+use Rattle.upon_lexer.specs.declared.literal.Lexed.{Lexed}
 use Rattle.upon_tag_parser.specs.declared.compile.parse.want.Want.{Want}
 use Rattle.upon_tag_parser.specs.TagTokens.{lexemes_of, AreTagTokens}
 use Rattle.upon_tag_parser.specs.Wants.{wanted_of}

@@ -12,9 +12,9 @@ use Rattle.upon_language_spec.specs.Parts.{Part, filters}
 use Rattle.upon_language_spec.specs.PartTails.{No}
 use Rattle.upon_machine_spec.specs.Instr.{Instr, expr_start_list, expr_start_map}
 use Rattle.upon_machine_spec.specs.Code.{base_code, expression_code, bases_code, list_code, map_code, count_bases}
-use Rattle.upon_instructions.specs.declared.types.program.Instr.{Instr as CodeInstr}
-use Rattle.upon_instructions.specs.Program.{program_view}
-use Rattle.upon_literals.specs.declared.literal.Lexed.{Lexed}
+use Rattle.upon_compiler.specs.declared.types.program.Instr.{Instr as CodeInstr}
+use Rattle.upon_compiler.specs.Program.{program_view}
+use Rattle.upon_lexer.specs.declared.literal.Lexed.{Lexed}
 use Rattle.upon_tag_parser.specs.declared.compile.parse.want.Want.{Want}
 use Rattle.upon_tag_parser.specs.declared.compile.parse.brackets.Beginning.{Beginning}
 use Rattle.upon_tag_parser.specs.declared.compile.parse.brackets.Applied.{Applied}

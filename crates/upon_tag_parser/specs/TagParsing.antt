@@ -18,7 +18,7 @@ use Rattle.upon_language_spec.specs.Parts.{Part, base_goes, after, after_symbol,
 use Rattle.upon_language_spec.specs.PartTails.{No, Tail, tail_parts, Quiet, TakesBase}
 use Rattle.upon_language_spec.specs.PartLeads.{Leads}
 use Rattle.upon_language_spec.specs.OpenParts.{Ending, base_ending, name_ending, args_ending, ending_parts}
-use Rattle.upon_literals.specs.declared.literal.Lexed.{Lexed}
+use Rattle.upon_lexer.specs.declared.literal.Lexed.{Lexed}
 use Rattle.upon_tag_parser.specs.declared.compile.parse.path.Failure.{Failure}
 use Rattle.upon_tag_parser.specs.declared.compile.parse.path.Failure.TheVariants.{Memory, Stuck}
 use Rattle.upon_tag_parser.specs.declared.compile.parse.want.Want.{Want}

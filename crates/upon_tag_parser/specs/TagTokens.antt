@@ -8,8 +8,8 @@ use Rattle.upon_language_spec.specs.Inside.{IsQuoted}
 use Rattle.upon_language_spec.specs.Literal.{digits_in}
 use Rattle.upon_language_spec.specs.LaterFaults.{minus_before}
 use Rattle.upon_language_spec.specs.InTags.{is_inside, FineLiteral}
-use Rattle.upon_literals.specs.declared.literal.Lexed.{Lexed}
-use Rattle.upon_literals.specs.Literals.{lexeme_of}
+use Rattle.upon_lexer.specs.declared.literal.Lexed.{Lexed}
+use Rattle.upon_lexer.specs.Literals.{lexeme_of}
 
 -- the tokens as the grammar reads them
 abbrev pub lexemes_of : List Lexed → List Lexeme

@@ -20,13 +20,13 @@ use Rattle.upon_language_spec.specs.PartTails.{No}
 use Rattle.upon_language_spec.specs.PartLeads.{Leads}
 use Rattle.upon_language_spec.specs.InTags.{is_inside}
 use Rattle.upon_language_spec.specs.OpenParts.{Ending, ending_parts}
-use Rattle.upon_literals.specs.declared.literal.Lexed.{Lexed}
+use Rattle.upon_lexer.specs.declared.literal.Lexed.{Lexed}
 use Rattle.upon_tag_parser.specs.declared.compile.parse.want.Want.{Want}
 use Rattle.upon_tag_parser.specs.TagParsing.{Refuses, QuietEnding, NoWord}
 use Rattle.upon_tag_parser.specs.BlockTags.{BlockTag, opening_tag, else_if_tag, else_tag, end_tag, include_tag, IsBlockTag, tag_code, Keeps}
 use Rattle.upon_machine_spec.specs.Code.{emission_code, expression_code}
-use Rattle.upon_instructions.specs.declared.types.program.Instr.{Instr as CodeInstr}
-use Rattle.upon_instructions.specs.Program.{program_view}
+use Rattle.upon_compiler.specs.declared.types.program.Instr.{Instr as CodeInstr}
+use Rattle.upon_compiler.specs.Program.{program_view}
 use Rattle.upon_tag_parser.specs.declared.compile.parse.tag.Tag.{Tag}
 use Rattle.upon_tag_parser.specs.Brackets.{Place}
 

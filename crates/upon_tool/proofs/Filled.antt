@@ -32,7 +32,7 @@ use Rattle.upon_calls.specs.Escaping.{language_format}
 use Rattle.upon_calls.specs.Filled.{escaping_engine, with_functions}
 use Rattle.upon_calls.specs.Names.{NeededBy}
 use Rattle.upon_calls.specs.declared.escaping.Language.{Language}
-use Rattle.upon_tool_shapes.specs.Fitting.{language_for}
+use Rattle.upon_tool_pages.specs.Fitting.{language_for}
 use Rattle.upon_std.specs.Table.{standard_answer, standard_name}
 use Rattle.upon_std.specs.declared.table.StandardFunction.{StandardFunction}
 use Rattle.upon_tool.specs.Names.{needs_text}

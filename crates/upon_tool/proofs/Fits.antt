@@ -5,7 +5,7 @@ use Rattle.std.proofs.lemmas.List.{take_all, take_more}
 use Rattle.std.proofs.lemmas.List.Elements.{All-push}
 use Rattle.upon_shape_spec.specs.Shape.{Shape}
 use Rattle.upon_tool_io.specs.declared.arguments.Escape.{Escape}
-use Rattle.upon_tool_shapes.specs.Fitting.{FileFits}
+use Rattle.upon_tool_pages.specs.Fitting.{FileFits}
 use Rattle.upon_tool.specs.Fitting.{EachFits}
 use Rattle.upon_tool_pages.proofs.Kept.{first_true, second_true}
 

@@ -11,7 +11,7 @@ use Rattle.upon_std.specs.declared.table.StandardFunction.{StandardFunction}
 use Rattle.upon_calls.specs.Filled.{escaping_engine, with_functions}
 use Rattle.upon_tool_io.specs.declared.files.ReadFault.{ReadFault}
 use Rattle.upon_tool_io.specs.declared.arguments.Escape.{Escape}
-use Rattle.upon_tool_shapes.specs.Fitting.{language_for}
+use Rattle.upon_tool_pages.specs.Fitting.{language_for}
 use Rattle.upon_tool_pages.specs.declared.sources.FolderFile.{FolderFile}
 use Rattle.upon_tool.specs.declared.work.Templates.{Templates}
 

@@ -6,9 +6,9 @@ use Rattle.upon_shape_spec.specs.Shape.{Shape}
 use Rattle.upon_tool_io.specs.declared.arguments.Escape.{Escape}
 use Rattle.upon_tool_io.specs.declared.arguments.FitCall.{FitCall}
 use Rattle.upon_tool_io.specs.declared.arguments.ShapeCall.{ShapeCall}
-use Rattle.upon_tool_shapes.specs.Contexts.{HasShape}
-use Rattle.upon_tool_shapes.specs.Fitting.{FileFits}
-use Rattle.upon_tool_shapes.specs.Written.{schema_line}
+use Rattle.upon_tool_pages.specs.Contexts.{HasShape}
+use Rattle.upon_tool_pages.specs.Fitting.{FileFits}
+use Rattle.upon_tool_pages.specs.Written.{schema_line}
 use Rattle.upon_tool.specs.Checked.{ChecksCall}
 
 -- each of some files ends on each value of a shape, over the texts of a folder

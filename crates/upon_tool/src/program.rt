@@ -17,7 +17,7 @@ use std::rt::Files;
 use std::time::Clock;
 use upon_engine::within::Limits;
 use upon_std::table::{ALL, StandardFunction};
-use upon_tool_calls::judge::Declared;
+use upon_tool_messages::judge::Declared;
 use upon_tool_data::context::context;
 use upon_tool_data::sources::STANDARD;
 use upon_tool_data::words::{DataWords, check};

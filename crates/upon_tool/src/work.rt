@@ -21,7 +21,7 @@ use upon_engine::texts::{AnyEngine, EngineTexts};
 use upon_engine::{laws_of_templates, theorem};
 use upon_html::formatters::Verbatim;
 use upon_std::table::StandardFunction;
-use upon_tool_calls::judge::Declared;
+use upon_tool_messages::judge::Declared;
 use upon_tool_data::sources::STANDARD;
 use upon_tool_io::arguments::Escape;
 use upon_tool_io::output::{Replacement, WriteFault};
@@ -34,7 +34,7 @@ use upon_tool_pages::check::{check_file, check_text};
 use upon_tool_pages::many::{show_build, show_each};
 use upon_tool_pages::rendering::{Page, explain, known_of, send, show};
 use upon_tool_pages::sources::{FolderFile, text_of};
-use upon_tool_shapes::fitting::language_for;
+use upon_tool_pages::fitting::language_for;
 use upon_types::value::Value;
 
 /// What an engine is to hold.

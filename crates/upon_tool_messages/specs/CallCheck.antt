@@ -1,6 +1,6 @@
 -- What is kept while calls are checked.
 use Rattle.std.specs.Prelude.{Bool}
-use Rattle.upon_tool_calls.specs.declared.judge.Declared.{Declared}
+use Rattle.upon_tool_messages.specs.declared.judge.Declared.{Declared}
 use Rattle.upon_tool_messages.specs.declared.call_check.CallCheck.{CallCheck}
 
 -- what may be called

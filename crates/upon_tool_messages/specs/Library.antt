@@ -4,7 +4,7 @@ use Rattle.std.specs.BTreeMap.{get_by_text}
 use Rattle.upon_types.specs.declared.error.Error.{Error}
 use Rattle.upon_tool_io.specs.declared.files.ReadFault.{ReadFault}
 use Rattle.upon_tool_io.specs.declared.files.ReadFault.TheVariants.{Unreadable as FileUnreadable, NotText as FileNotText, Outside as FileOutside, OutOfMemory}
-use Rattle.upon_tool_calls.specs.declared.judge.Declared.{Declared}
+use Rattle.upon_tool_messages.specs.declared.judge.Declared.{Declared}
 use Rattle.upon_tool_messages.specs.Status.{is_memory_error}
 use Rattle.upon_tool_messages.specs.declared.library.Library.{Library}
 use Rattle.upon_tool_messages.specs.declared.library.Refusal.{Refusal}

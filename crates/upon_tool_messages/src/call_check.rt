@@ -9,8 +9,8 @@ use crate::near::callable_hint;
 use crate::picture::PICTURES;
 use std::alloc::{AllocError, Global};
 use std::io;
-use upon_tool_calls::calls::{FoundCall, calls_in};
-use upon_tool_calls::judge::{CallFault, Declared, fault_of};
+use crate::calls::{FoundCall, calls_in};
+use crate::judge::{CallFault, Declared, fault_of};
 use upon_types::error::{Error, ErrorKind};
 use upon_types::types::Span;
 

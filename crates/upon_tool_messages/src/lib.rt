@@ -3,10 +3,12 @@
 #![tactic(auto)]
 
 pub mod call_check;
+pub mod calls;
 pub mod color;
 pub mod failure;
 mod hints;
 pub mod includes;
+pub mod judge;
 pub mod known;
 pub mod library;
 pub mod near;

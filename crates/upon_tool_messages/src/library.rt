@@ -12,7 +12,7 @@ use std::collections::BTreeMap;
 use std::io;
 use upon_engine::engine::Engine;
 use upon_needs::template_names::includes;
-use upon_tool_calls::judge::Declared;
+use crate::judge::Declared;
 use upon_tool_io::files::ReadFault;
 use upon_types::error::Error;
 

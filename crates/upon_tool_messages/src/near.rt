@@ -13,7 +13,7 @@ use std::io::Write;
 use upon_engine::engine::Engine;
 use upon_near::said::{names_text, near_text};
 use upon_needs::needs::needs_of;
-use upon_tool_calls::judge::Declared;
+use crate::judge::Declared;
 use upon_types::error::Error;
 use upon_types::value::Value;
 use upon_types::value::look::entry;

@@ -4,3 +4,4 @@ pub mod Refusals
 pub mod Refused
 pub mod Sent
 pub mod Statuses
+pub mod Ending

@@ -4,3 +4,6 @@ pub mod Sources
 pub mod Refusals
 pub mod ManyPages
 pub mod Progress
+pub mod Contexts
+pub mod Fitting
+pub mod Written

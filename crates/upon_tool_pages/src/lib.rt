@@ -3,7 +3,10 @@
 #![tactic(auto)]
 
 pub mod check;
+pub mod contexts;
+pub mod fitting;
 pub mod many;
 mod progress;
 pub mod rendering;
 pub mod sources;
+pub mod written;

@@ -1,3 +1,10 @@
 pub mod Trees
 pub mod Weights
 pub mod StatementWeights
+pub mod Views
+pub mod Starts
+pub mod Stacks
+pub mod Lists
+pub mod Maps
+pub mod Calls
+pub mod Filters

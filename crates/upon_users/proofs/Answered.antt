@@ -13,8 +13,8 @@ use Rattle.upon_lookup.specs.Environment.{context}
 use Rattle.upon_meaning_spec.specs.DefaultFormat.{formatter_or_default}
 use Rattle.upon_meaning_spec.specs.Engine.{Table}
 use Rattle.upon_meaning_spec.specs.Outcome.{states}
-use Rattle.upon_woven_spec.specs.Marks.{FromRawParts}
-use Rattle.upon_woven_spec.specs.Parts.{by_default, by_name}
+use Rattle.upon_meaning_spec.specs.Marks.{FromRawParts}
+use Rattle.upon_meaning_spec.specs.Parts.{by_default, by_name}
 use Rattle.upon_engine.specs.Answers.{AnswersText}
 use Rattle.upon_engine.specs.Texts.{Texts, texts_of}
 use Rattle.upon_engine.specs.Theorem.{IsTable, rendering, meaning, AnswersTree}

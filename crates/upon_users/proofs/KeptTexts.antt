@@ -8,7 +8,7 @@ use Rattle.upon_meaning_spec.specs.Engine.{Table, from_table}
 use Rattle.upon_meaning_spec.specs.GreaterDepth.{GoesOn}
 use Rattle.upon_meaning_spec.specs.Names.{AgreeOn, Reads}
 use Rattle.upon_meaning_spec.specs.Outcome.{Outcome, End, good, too_deep}
-use Rattle.upon_woven_spec.specs.Parts.{WovenOf}
+use Rattle.upon_meaning_spec.specs.Parts.{WovenOf}
 use Rattle.upon_engine.specs.Answers.{AnswersText}
 use Rattle.upon_engine.specs.Base.{on_root}
 use Rattle.upon_engine.specs.Calls.{Call, outcome, on_base}

@@ -14,7 +14,7 @@ ghost use Rattle.upon_meaning_spec.specs.Includes.{IsNumbered, Reaches};
 ghost use Rattle.upon_meaning_spec.specs.Meaning.{RunningTemplate, statement_means};
 ghost use Rattle.upon_meaning_spec.specs.Names.{AgreeOn, Reads};
 ghost use Rattle.upon_meaning_spec.specs.Outcome.{States, too_deep};
-ghost use Rattle.upon_woven_spec.specs.Parts.{WovenOf};
+ghost use Rattle.upon_meaning_spec.specs.Parts.{WovenOf};
 ghost use Rattle.upon_engine.specs.Answers.{AnswersText};
 ghost use Rattle.upon_engine.specs.Base.{on_root};
 ghost use Rattle.upon_engine.specs.Calls.{at_depth, call_of, outcome, renderer_values};
@@ -33,7 +33,7 @@ use upon_engine::texts::{AnyEngine, EngineTexts};
 use upon_engine::values::Values;
 use upon_types::error::Result;
 use upon_types::value::Value;
-use upon_vm_calls::callables::Callables;
+use upon_vm_steps::callables::Callables;
 
 /// Renders a template on a value, with all that a rendering keeps.
 pub fn rendered(engine: &Engine<'_>, template: &Template<'_>, value: &Value) -> Result<String>

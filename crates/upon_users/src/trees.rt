@@ -2,7 +2,7 @@
 ghost use Rattle.std.specs.Prelude.{◌≡◌, true, false, IfOk, IfSome};
 ghost use Rattle.upon_types.specs.Tree.{Statements};
 ghost use Rattle.upon_delimiters.specs.Searcher.{searcher_delimiters};
-ghost use Rattle.upon_instructions.specs.Program.{program_view};
+ghost use Rattle.upon_compiler.specs.Program.{program_view};
 ghost use Rattle.upon_language_spec.specs.Grammar.{HasTree};
 ghost use Rattle.upon_machine_spec.specs.Code.{program_of};
 ghost use Rattle.upon_tree.specs.Ast.{tree_of};

@@ -4,14 +4,14 @@ ghost use Rattle.upon_types.specs.Error.{fault_of, kind_of};
 ghost use Rattle.upon_types.specs.Fault.{fault_with_picture, OrMemory};
 ghost use Rattle.upon_types.specs.Span.{LiesIn};
 ghost use Rattle.upon_meaning_spec.specs.Meaning.{fault_in};
-ghost use Rattle.upon_vm_calls.specs.Halt.{halt_fault, halt_kind};
+ghost use Rattle.upon_vm_steps.specs.Halt.{halt_fault, halt_kind};
 ghost use Rattle.upon_vm_steps.specs.Acts.{stop_or_memory};
 ghost use Rattle.upon_vm.specs.Failures.{FailsBy, FailsSo, HaltLies, Names, StopLies, is_memory};
 ghost use Rattle.upon_vm_steps.specs.Machine.{active_of};
 
 use std::alloc::{AllocError, Global};
 use upon_types::error::{Error, ErrorKind};
-use upon_vm_calls::fault::{Fault, FaultKind, Halt};
+use upon_vm_steps::fault::{Fault, FaultKind, Halt};
 use upon_vm_steps::act::Stop;
 use upon_vm_steps::machine::Running;
 

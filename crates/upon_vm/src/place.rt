@@ -1,9 +1,9 @@
 // Where a program is, as a span of its text.
 ghost use Rattle.std.specs.Prelude.{◌≡◌, option_and_then, slice_get};
-ghost use Rattle.upon_instructions.specs.Program.{instr_of, program_view};
+ghost use Rattle.upon_compiler.specs.Program.{instr_of, program_view};
 ghost use Rattle.upon_vm.specs.Place.{instruction_span, nearest_span};
 
-use upon_instructions::types::program::Instr;
+use upon_compiler::types::program::Instr;
 use upon_types::types::Span;
 
 // The span of an instruction, if it has one.

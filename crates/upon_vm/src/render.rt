@@ -18,8 +18,8 @@ use upon_fmt::fmt::Formatter;
 use upon_fmt::output::Output;
 use upon_lookup::source::ValueSource;
 use upon_render::stack::Stack;
-use upon_vm_calls::callables::Callables;
-use upon_vm_calls::operands::Operands;
+use upon_vm_steps::callables::Callables;
+use upon_vm_steps::operands::Operands;
 use upon_vm_steps::machine::{Machine, Running};
 use upon_vm_steps::source::ProgramSource;
 

@@ -10,7 +10,7 @@ use std::alloc::Global;
 use std::marker::Brand;
 use upon_fmt::output::Output;
 use upon_lookup::source::ValueSource;
-use upon_vm_calls::callables::Callables;
+use upon_vm_steps::callables::Callables;
 use upon_vm_steps::machine::{Flow, Machine};
 use upon_vm_steps::source::ProgramSource;
 use upon_vm_steps::step::step;

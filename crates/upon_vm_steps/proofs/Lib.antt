@@ -11,3 +11,8 @@ pub mod Acts
 pub mod SpansLie
 pub mod Keeps
 pub mod Unnamed
+pub mod Rows
+pub mod Entries
+pub mod Reports
+pub mod Plain
+pub mod Applications

@@ -6,3 +6,8 @@ pub mod Effects
 pub mod Acts
 pub mod Ready
 pub mod Keeps
+pub mod Operands
+pub mod Items
+pub mod Depth
+pub mod Halt
+pub mod Calls

@@ -4,7 +4,7 @@ ghost use Rattle.upon_meaning_spec.specs.Engine.{Resolver};
 ghost use Rattle.upon_meaning_spec.specs.RenderFaults.{TemplatesLie};
 ghost use Rattle.upon_vm_steps.specs.Program.{Resolved};
 
-use upon_instructions::types::program::Instr;
+use upon_compiler::types::program::Instr;
 use upon_lookup::source::SourceError;
 
 /// A compiled template that is lent for a rendering: its text and its instructions.

@@ -3,10 +3,10 @@ use std::alloc::{AllocError, Global};
 use std::borrow::CowStr;
 use std::test::Fail;
 use upon::{Engine, Value};
-use upon_accepts::accepted::Accepted;
-use upon_accepts::accepts::accepts;
-use upon_accepts::refusal::Refusal;
-use upon_checked::declared::Declared;
+use upon_check::accepted::Accepted;
+use upon_check::accepts::accepts;
+use upon_check::refusal::Refusal;
+use upon_check::declared::Declared;
 use upon_shape::shape::Shape;
 
 fn is_sure(

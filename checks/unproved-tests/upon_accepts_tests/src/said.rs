@@ -2,11 +2,11 @@
 use std::alloc::{AllocError, Global};
 use std::borrow::CowStr;
 use upon::{Engine, Value};
-use upon_accepts::accepted::Accepted;
-use upon_accepts::accepts::accepts;
-use upon_accepts::refusal::{Misfit, Refusal};
-use upon_checked::declared::Declared;
-use upon_checked::doubt::Unsure;
+use upon_check::accepted::Accepted;
+use upon_check::accepts::accepts;
+use upon_check::refusal::{Misfit, Refusal};
+use upon_check::declared::Declared;
+use upon_check::doubt::Unsure;
 use upon_shape::shape::Shape;
 
 // The word of what is not sure.

@@ -7,7 +7,7 @@ use std::io::{self, Write};
 use std::test::Fail;
 use upon::{Engine, Error, Syntax, Value};
 use upon_json::context::context;
-use upon_testing::answers::describe;
+use upon_examples::answers::describe;
 
 // It takes one byte a call. The call of this number fails.
 #[derive(Drop)]

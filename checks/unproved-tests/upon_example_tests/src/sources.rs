@@ -5,7 +5,7 @@ use std::test::Fail;
 use upon::Engine;
 use upon::render::ValueFn;
 use upon_examples::sources::{Counter, NoUser, by_map, with_counted};
-use upon_testing::answers::line_of;
+use upon_examples::answers::line_of;
 use upon_users::users::on_source;
 
 #[test]

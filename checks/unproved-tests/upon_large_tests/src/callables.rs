@@ -10,7 +10,7 @@ use std::test::Fail;
 use upon::fmt::{self, Format, Formatter};
 use upon::functions::{Call1, Call1S, Fn1, Fn1S};
 use upon::{Engine, Value};
-use upon_testing::answers::line_of;
+use upon_examples::answers::line_of;
 
 // Twice an integer. It counts its calls.
 #[derive(Drop)]

@@ -7,7 +7,7 @@ use std::borrow::CowStr;
 use std::test::Fail;
 use upon::functions::{Call1V, Fn1V};
 use upon::{Engine, Value, value};
-use upon_testing::answers::line_of;
+use upon_examples::answers::line_of;
 
 // A list of its argument.
 #[derive(Drop)]

@@ -5,7 +5,7 @@ use std::process::Abort;
 use std::test::Fail;
 use upon::error::ErrorKind;
 use upon::{Engine, Error, Value};
-use upon_testing::answers::{answer, describe};
+use upon_examples::answers::{answer, describe};
 
 // How often the part before a fault is doubled.
 const DOUBLED: usize = 14; // ./test: 10

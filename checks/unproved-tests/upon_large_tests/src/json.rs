@@ -4,7 +4,7 @@ use std::process::Abort;
 use std::test::Fail;
 use upon::Engine;
 use upon_json::context::context;
-use upon_testing::answers::answer;
+use upon_examples::answers::answer;
 
 // A text many times over.
 fn many(alloc: Global, part: &str, times: usize) -> Result<String, AllocError> {

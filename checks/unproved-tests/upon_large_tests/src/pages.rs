@@ -7,7 +7,7 @@ use std::process::Abort;
 use std::test::Fail;
 use upon::render::{SourceError, TemplateSource};
 use upon::{Engine, Template, Value, value};
-use upon_testing::answers::line_of;
+use upon_examples::answers::line_of;
 
 // It counts how often it is asked. Of the name `memory` it says that memory is out.
 #[derive(Clone, Copy)]

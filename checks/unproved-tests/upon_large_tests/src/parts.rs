@@ -5,7 +5,7 @@ use std::collections::BTreeMap;
 use std::test::Fail;
 use upon::{Engine, Value};
 use upon_serde::to_value;
-use upon_testing::answers::{all_answer, line_of};
+use upon_examples::answers::{all_answer, line_of};
 
 // A text many times over.
 fn many(alloc: Global, part: &str, times: usize) -> Result<String, AllocError> {

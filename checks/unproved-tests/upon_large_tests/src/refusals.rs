@@ -10,7 +10,7 @@ use upon::fmt::{self, Format, Formatter};
 use upon::functions::{ArgError, Call1S, CallError, Fn1S, Function};
 use upon::render::{CallName, SourceError, TemplateFn};
 use upon::{Engine, Template, Value};
-use upon_testing::answers::{answer, describe, line_of};
+use upon_examples::answers::{answer, describe, line_of};
 use upon_types::value::ValueCow;
 
 // It refuses with the text that it is given.

@@ -4,7 +4,7 @@ use std::borrow::CowStr;
 use std::process::Abort;
 use std::test::Fail;
 use upon::{Engine, Value};
-use upon_testing::answers::line_of;
+use upon_examples::answers::line_of;
 
 // How often a text is doubled, a literal, and a list's items.
 const TEXTS: usize = 20; // ./test: 16

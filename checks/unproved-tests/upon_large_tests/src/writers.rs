@@ -5,7 +5,7 @@ use std::io::{self, Write};
 use std::process::Abort;
 use std::test::Fail;
 use upon::{Engine, Value};
-use upon_testing::answers::describe;
+use upon_examples::answers::describe;
 
 // It keeps what it receives, and counts its flushes.
 #[derive(Drop)]

@@ -1,6 +1,6 @@
 // Instructions as lines of text.
 use std::alloc::{AllocError, Global};
-use upon_instructions::types::program::Instr;
+use upon_compiler::types::program::Instr;
 use upon_types::types::Span;
 use upon_types::types::ast::{
     Access, AccessOp, Ident, Literal, LoopVars, Member, String as Quoted, Var,

@@ -9,7 +9,7 @@ use std::alloc::{AllocError, Global};
 use std::process::Abort;
 use std::test::Fail;
 use upon_functions::function::Function;
-use upon_std_functions::table::ALL;
+use upon_std::basic::table::ALL;
 use upon_types::value::{Value, ValueCow};
 
 // What the function with this name answers.

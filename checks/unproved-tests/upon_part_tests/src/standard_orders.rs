@@ -6,7 +6,7 @@ use std::process::Abort;
 use std::test::Fail;
 use upon_functions::function::Function;
 use upon_json::context::context;
-use upon_std_orders::orders::{ALL, Orders};
+use upon_std::ordering::orders::{ALL, Orders};
 use upon_types::value::{Value, ValueCow, look};
 
 // What a function answers to the arguments that are the items of this list.

@@ -8,7 +8,7 @@ use std::process::Abort;
 use std::test::Fail;
 use upon::{Engine, value};
 use upon_functions::function::Function;
-use upon_std_writing::writing::{ALL, Writing};
+use upon_std::encoding::writing::{ALL, Writing};
 use upon_types::value::{Value, ValueCow};
 
 // The names of all, in their order.

@@ -3,7 +3,7 @@ use std::alloc::Global;
 use std::borrow::CowStr;
 use std::test::Fail;
 use upon::{Engine, Syntax, Value, value};
-use upon_testing::answers::all_answer;
+use upon_examples::answers::all_answer;
 
 // Each source answers so under a syntax, on a context.
 fn under(

@@ -2,7 +2,7 @@
 use std::alloc::Global;
 use std::test::Fail;
 use upon::{Engine, Result, Value, value};
-use upon_testing::answers::all_answer;
+use upon_examples::answers::all_answer;
 
 fn context(alloc: Global) -> Result<Value> {
     value! { in alloc;

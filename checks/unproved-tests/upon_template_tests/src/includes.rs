@@ -4,7 +4,7 @@ use std::borrow::CowStr;
 use std::process::Abort;
 use std::test::Fail;
 use upon::{Engine, Result, Value, value};
-use upon_testing::answers::{all_answer, describe, line_of};
+use upon_examples::answers::{all_answer, describe, line_of};
 
 // An engine with templates of these names.
 fn engine<'e>(alloc: Global, templates: &[(&str, &'e str)]) -> Result<Engine<'e>> {

@@ -3,7 +3,7 @@ use std::alloc::{AllocError, Global};
 use std::test::Fail;
 use upon::Engine;
 use upon_json::context::{DataFault, context};
-use upon_testing::answers::answer;
+use upon_examples::answers::answer;
 
 // What is said of data that are no context.
 fn said_of(alloc: Global, fault: &DataFault) -> Result<String, AllocError> {

@@ -6,7 +6,7 @@ use std::process::Abort;
 use std::test::Fail;
 use upon::{Engine, Limits, Result, Value, value};
 use upon_std::table::ALL;
-use upon_testing::answers::line_of;
+use upon_examples::answers::line_of;
 
 fn context(alloc: Global) -> Result<Value> {
     value! { in alloc; x: "12", xs: [0, 1, 2, 3, 4, 5, 6, 7, 8, 9] }

@@ -3,7 +3,7 @@ use std::alloc::Global;
 use std::borrow::CowStr;
 use std::test::Fail;
 use upon::{Engine, Result, Value, value};
-use upon_testing::answers::all_answer;
+use upon_examples::answers::all_answer;
 
 fn context(alloc: Global) -> Result<Value> {
     value! { in alloc; xs: ["a", "b"], x: {b: 9}, m: {b: 1, a: 2}, n: 5 }

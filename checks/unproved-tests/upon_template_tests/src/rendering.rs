@@ -3,7 +3,7 @@ use std::alloc::Global;
 use std::borrow::CowStr;
 use std::test::Fail;
 use upon::{Engine, Result, Value, value};
-use upon_testing::answers::all_answer;
+use upon_examples::answers::all_answer;
 
 // A value of each kind under a name.
 fn context(alloc: Global) -> Result<Value> {

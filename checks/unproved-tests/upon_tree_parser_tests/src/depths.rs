@@ -5,8 +5,8 @@ use crate::tags::{tokens_in, tree_of_tokens};
 use std::alloc::{AllocError, Global};
 use std::process::Abort;
 use std::test::Fail;
-use upon_literals::literal::Lexed;
-use upon_tree_parser::statements::TreeBuilder;
+use upon_lexer::literal::Lexed;
+use upon_tree::statements::TreeBuilder;
 use upon_types::types::Span;
 
 const DEPTH: usize = 50_000; // ./test: 5_000

@@ -4,7 +4,7 @@ use crate::listing::Listing;
 use std::alloc::{AllocError, Global};
 use upon_tag_parser::compile::parse::kind::Opening;
 use upon_tree::ast::{BaseExpr, Expr, Ident, KeyValue, Literal, LoopVars, Name, String as Quoted};
-use upon_tree_parser::statements::TreeBuilder;
+use upon_tree::statements::TreeBuilder;
 use upon_types::types::Span;
 use upon_types::value::Value;
 

@@ -4,10 +4,10 @@ use crate::listing::Listing;
 use std::alloc::Global;
 use upon_delimiters::search::Searcher;
 use upon_lexer::compile::lex::Lexer;
-use upon_literals::literal::Lexed;
+use upon_lexer::literal::Lexed;
 use upon_tag_parser::compile::parse::path::TagParser;
 use upon_tree::ast::Expr;
-use upon_tree_parser::expression::TreeReader;
+use upon_tree::expression::TreeReader;
 use upon_types::error::Result;
 use upon_types::types::Token;
 

@@ -4,13 +4,13 @@ ghost use Rattle.upon_types.specs.AstPath.{loop_vars_of};
 ghost use Rattle.upon_types.specs.BlockKinds.{if_block, for_block, if_tag, for_tag};
 ghost use Rattle.upon_types.specs.declared.types.Span.{Span};
 ghost use Rattle.upon_machine_spec.specs.Code.{jump_unless};
-ghost use Rattle.upon_instructions.specs.Program.{instr_of, program_view};
+ghost use Rattle.upon_compiler.specs.Program.{instr_of, program_view};
 ghost use Rattle.upon_compiler.specs.After.{after_event, between_branches, branch_ended, else_if_begun, else_ifs_ended};
 ghost use Rattle.upon_compiler.specs.Events.{opening_event, else_if_event, else_event, end_event};
 
 use super::{Compiler, OpenBlock};
 use std::alloc::AllocError;
-use upon_instructions::types::program::Instr;
+use crate::types::program::Instr;
 use upon_types::types::Span;
 use upon_types::types::ast::LoopVars;
 

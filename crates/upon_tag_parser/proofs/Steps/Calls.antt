@@ -12,7 +12,7 @@ use Rattle.upon_language_spec.specs.Tokens.{Goes, GoesBy, GoesName, from_to}
 use Rattle.upon_language_spec.specs.Expressions.{last_end}
 use Rattle.upon_language_spec.specs.Parts.{call_start}
 use Rattle.upon_language_spec.specs.PartTails.{No}
-use Rattle.upon_literals.specs.declared.literal.Lexed.{Lexed}
+use Rattle.upon_lexer.specs.declared.literal.Lexed.{Lexed}
 use Rattle.upon_tag_parser.specs.declared.compile.parse.want.Want.{Want}
 use Rattle.upon_tag_parser.specs.declared.compile.parse.want.Want.TheVariants.{CloseParen as WantCloseParen}
 use Rattle.upon_tag_parser.specs.declared.compile.parse.brackets.Applied.{Applied}

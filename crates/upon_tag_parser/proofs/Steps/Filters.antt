@@ -13,7 +13,7 @@ use Rattle.upon_language_spec.specs.Expressions.{last_end, filter_end}
 use Rattle.upon_language_spec.specs.Parts.{filters, filter_name}
 use Rattle.upon_language_spec.specs.PartTails.{No}
 use Rattle.upon_language_spec.proofs.Wanted.ExpressionsLead.{leads_then, leads_token}
-use Rattle.upon_literals.specs.declared.literal.Lexed.{Lexed}
+use Rattle.upon_lexer.specs.declared.literal.Lexed.{Lexed}
 use Rattle.upon_tag_parser.specs.declared.compile.parse.want.Want.{Want}
 use Rattle.upon_tag_parser.specs.declared.compile.parse.want.Want.TheVariants.{Name as WantName, CloseParen as WantCloseParen}
 use Rattle.upon_tag_parser.specs.declared.compile.parse.brackets.Applied.{Applied}

@@ -10,7 +10,7 @@ use Rattle.upon_language_spec.specs.Tokens.{Goes, from_to}
 use Rattle.upon_language_spec.specs.Parts.{list_start}
 use Rattle.upon_language_spec.specs.PartTails.{No}
 use Rattle.upon_language_spec.proofs.Wanted.ExpressionsLead.{leads_token}
-use Rattle.upon_literals.specs.declared.literal.Lexed.{Lexed}
+use Rattle.upon_lexer.specs.declared.literal.Lexed.{Lexed}
 use Rattle.upon_tag_parser.specs.declared.compile.parse.want.Want.{Want}
 use Rattle.upon_tag_parser.specs.declared.compile.parse.want.Want.TheVariants.{CloseBracket as WantCloseBracket}
 use Rattle.upon_tag_parser.specs.declared.compile.parse.brackets.Beginning.{Beginning}

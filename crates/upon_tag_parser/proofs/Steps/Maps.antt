@@ -12,7 +12,7 @@ use Rattle.upon_language_spec.specs.Tokens.{Goes, from_to}
 use Rattle.upon_language_spec.specs.Parts.{Part, map_start}
 use Rattle.upon_language_spec.specs.PartTails.{No}
 use Rattle.upon_language_spec.proofs.Wanted.ExpressionsLead.{leads_then, leads_token}
-use Rattle.upon_literals.specs.declared.literal.Lexed.{Lexed}
+use Rattle.upon_lexer.specs.declared.literal.Lexed.{Lexed}
 use Rattle.upon_tag_parser.specs.declared.compile.parse.want.Want.{Want}
 use Rattle.upon_tag_parser.specs.declared.compile.parse.want.Want.TheVariants.{CloseBrace as WantCloseBrace}
 use Rattle.upon_tag_parser.specs.declared.compile.parse.brackets.Beginning.{Beginning}

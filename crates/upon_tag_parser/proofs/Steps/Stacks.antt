@@ -4,7 +4,7 @@ use Rattle.upon_types.specs.declared.types.Span.{Span}
 use Rattle.upon_types.specs.Expression.{Bases, no_bases, base_then}
 use Rattle.upon_machine_spec.specs.Instr.{Instr, expr_start_list, expr_start_map}
 use Rattle.upon_machine_spec.specs.Code.{base_code, bases_code, list_code, map_code, count_bases}
-use Rattle.upon_literals.specs.declared.literal.Lexed.{Lexed}
+use Rattle.upon_lexer.specs.declared.literal.Lexed.{Lexed}
 use Rattle.upon_tag_parser.specs.declared.compile.parse.want.Want.{Want}
 use Rattle.upon_tag_parser.specs.declared.compile.parse.brackets.Open.{Open}
 use Rattle.upon_tag_parser.specs.declared.compile.parse.brackets.Open.TheVariants as opened

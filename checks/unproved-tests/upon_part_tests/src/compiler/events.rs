@@ -3,7 +3,7 @@ use crate::instructions::lines;
 use std::alloc::{AllocError, Global};
 use std::test::Fail;
 use upon_compiler::compile::Compiler;
-use upon_instructions::types::program::Instr;
+use upon_compiler::types::program::Instr;
 use upon_types::types::Span;
 use upon_types::types::ast::{Ident, Literal, LoopVars, Name};
 use upon_types::value::Value;

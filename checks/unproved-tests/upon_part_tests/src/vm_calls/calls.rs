@@ -9,9 +9,9 @@ use upon_fmt::fmt::Formatter;
 use upon_types::types::Span;
 use upon_types::types::ast::{Ident, Name};
 use upon_types::value::{Value, ValueCow};
-use upon_vm_calls::calls::call;
-use upon_vm_calls::emission::{emit_value, emit_with};
-use upon_vm_calls::fault::Halt;
+use upon_vm_steps::calls::call;
+use upon_vm_steps::emission::{emit_value, emit_with};
+use upon_vm_steps::fault::Halt;
 
 const NAME: Span = Span { m: 3, n: 4 };
 

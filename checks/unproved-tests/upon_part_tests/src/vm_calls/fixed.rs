@@ -8,7 +8,7 @@ use std::alloc::{AllocError, Global};
 use upon_fmt::fmt::{self, Formatter, default};
 use upon_functions::function::{ArgError, CallError};
 use upon_types::value::{Value, ValueCow};
-use upon_vm_calls::callables::{Applied, Callables, Called};
+use upon_vm_steps::callables::{Applied, Callables, Called};
 
 // What each name stands for.
 #[derive(Clone, Copy)]

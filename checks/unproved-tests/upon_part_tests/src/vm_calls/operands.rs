@@ -5,8 +5,8 @@ use std::test::Fail;
 use upon_types::types::Span;
 use upon_types::types::ast::String as Quoted;
 use upon_types::value::{Value, ValueCow};
-use upon_vm_calls::items::{insert_entry, push_item};
-use upon_vm_calls::operands::Operands;
+use upon_vm_steps::items::{insert_entry, push_item};
+use upon_vm_steps::operands::Operands;
 
 fn at(m: usize) -> Span {
     Span {

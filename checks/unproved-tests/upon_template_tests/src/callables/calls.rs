@@ -5,7 +5,7 @@ use std::test::Fail;
 use upon::functions::Fn1;
 use upon::{Engine, EngineCallable, Value, value};
 use upon_examples::callables::{Double, NoNone};
-use upon_testing::answers::{all_answer, answer};
+use upon_examples::answers::{all_answer, answer};
 
 #[test]
 fn functions(rt: HostRuntime) -> Result<(), Fail> {

@@ -6,7 +6,7 @@ use std::io::{self, Write};
 use std::process::Abort;
 use std::test::Fail;
 use upon::Value;
-use upon_testing::answers::describe;
+use upon_examples::answers::describe;
 
 // It takes one byte a call. The call of this number fails, or takes no byte.
 #[derive(Drop)]

@@ -7,7 +7,7 @@ use std::test::Fail;
 use upon::error::ErrorKind;
 use upon::render::OneTemplate;
 use upon::{Engine, Result, Template, value};
-use upon_testing::answers::line_of;
+use upon_examples::answers::line_of;
 
 #[derive(Drop, Serialize)]
 struct Order<'a> {

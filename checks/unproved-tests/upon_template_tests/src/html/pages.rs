@@ -8,7 +8,7 @@ use upon::fmt::DefaultFormat;
 use upon::{Engine, Value, value};
 use upon_html::formatters::{Escape, Verbatim};
 use upon_html::pages;
-use upon_testing::answers::{all_answer, line_of};
+use upon_examples::answers::{all_answer, line_of};
 
 // A text, twice and between raw parts.
 fn twice(alloc: Global, text: &str) -> std::result::Result<String, AllocError> {

@@ -4,7 +4,7 @@ use std::borrow::CowStr;
 use std::test::Fail;
 use upon::{Engine, Value};
 use upon_store::store::{Store, StoreError};
-use upon_testing::answers::describe;
+use upon_examples::answers::describe;
 
 const TEMPLATES: [(&str, &str); 9] = [
     (

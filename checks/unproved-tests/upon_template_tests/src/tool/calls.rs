@@ -7,7 +7,7 @@ use std::test::Fail;
 use upon::Engine;
 use upon_std::table::ALL;
 use upon_tool_pages::check::check_text;
-use upon_tool_calls::judge::Declared;
+use upon_tool_messages::judge::Declared;
 use upon_tool_messages::call_check::CallCheck;
 
 // What is said of the calls of a text, by their places and reasons.

@@ -6,7 +6,7 @@ use std::test::Fail;
 use upon::Engine;
 use upon_std::table::ALL;
 use upon_tool_pages::check::{check_file, check_text};
-use upon_tool_calls::judge::Declared;
+use upon_tool_messages::judge::Declared;
 use upon_tool_messages::call_check::CallCheck;
 use upon_tool_messages::library::Library;
 

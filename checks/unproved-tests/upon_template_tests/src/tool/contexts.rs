@@ -12,9 +12,9 @@ use upon_tool_data::samples::samples;
 use upon_tool_data::words::DataWords;
 use upon_tool_io::arguments::{ContextsCall, Escape};
 use upon_tool_messages::picture::shown;
-use upon_tool_shapes::contexts::shape_of;
-use upon_tool_shapes::fitting::{OnShape, fits};
-use upon_tool_shapes::written::send_schema;
+use upon_tool_pages::contexts::shape_of;
+use upon_tool_pages::fitting::{OnShape, fits};
+use upon_tool_pages::written::send_schema;
 use upon_types::value::Value;
 
 // An empty file, which has the empty object in TOML, and the empty list in JSON lines and CSV.

@@ -3,7 +3,7 @@ use std::alloc::{AllocError, Global};
 use std::borrow::CowStr;
 use std::io;
 use upon::Engine;
-use upon_tool_calls::judge::Declared;
+use upon_tool_messages::judge::Declared;
 use upon_tool_io::files::read_text;
 use upon_tool_messages::library::{Library, Refusal};
 

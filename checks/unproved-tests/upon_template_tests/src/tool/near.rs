@@ -11,7 +11,7 @@ use upon_near::said::{names_text, near_text};
 use upon_std::table::{ALL, StandardFunction};
 use upon_tool_pages::check::check_text;
 use upon_tool_pages::rendering::{Page, show};
-use upon_tool_calls::judge::Declared;
+use upon_tool_messages::judge::Declared;
 use upon_tool_messages::call_check::CallCheck;
 use upon_tool_messages::library::Library;
 

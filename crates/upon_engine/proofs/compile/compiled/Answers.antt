@@ -7,7 +7,7 @@ use Rattle.upon_language_spec.specs.Search.{DelimiterText}
 use Rattle.upon_delimiters.specs.Searcher.{searcher_delimiters}
 use Rattle.upon_syntax.specs.Parsed.{source_of, syntax_of}
 use Rattle.upon_syntax.specs.TagReading.{IsSyntaxError}
-use Rattle.upon_compiled_spec.proofs.CompiledTree.{is_compiled}
+use Rattle.upon_compiler.proofs.CompiledTree.{is_compiled}
 use Rattle.upon_engine.proofs.compile.compiled.Goals as goal
 
 ok_map : {A E : Type 0} (r : Result A E) (P Q : A → Type 0) → ((a : A) → P a → Q a) → IfOk r P → IfOk r Q

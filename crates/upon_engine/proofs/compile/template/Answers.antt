@@ -8,8 +8,8 @@ use Rattle.upon_language_spec.specs.Grammar.{HasTree}
 use Rattle.upon_delimiters.specs.Searcher.{searcher_delimiters}
 use Rattle.upon_delimiters.specs.Syntax.{syntax_delimiters}
 use Rattle.upon_syntax.proofs.NextTokens.{handed_on}
-use Rattle.upon_compiled_spec.specs.Compiled.{HasProgram}
-use Rattle.upon_compiled_spec.proofs.CompiledTree.{kept_has, kept_only}
+use Rattle.upon_compiler.specs.Compiled.{HasProgram}
+use Rattle.upon_compiler.proofs.CompiledTree.{kept_has, kept_only}
 use Rattle.upon_engine.specs.Template.{template_source, template_syntax, template_tree}
 use Rattle.upon_engine.proofs.OldTrees.{keeps_old_tree, refused_had_none}
 use Rattle.upon_engine.proofs.compile.template.Goals as goal

@@ -1,6 +1,6 @@
 use Rattle.std.proofs.Common.{◌≡◌, drop}
 use Rattle.std.specs.List.{list_any}
-use Rattle.upon_instructions.specs.Program.{program_view}
+use Rattle.upon_compiler.specs.Program.{program_view}
 use Rattle.upon_needs.specs.IndexStarts.{has_index, begins_by_index}
 use Rattle.upon_needs.proofs.starts.begins_by_index.Given as goal
 

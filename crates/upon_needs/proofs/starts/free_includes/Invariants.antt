@@ -1,5 +1,5 @@
 use Rattle.std.proofs.Common.{◌≡◌, ◌≤◌, ◌++◌, drop, filter_map}
-use Rattle.upon_instructions.specs.Program.{program_view}
+use Rattle.upon_compiler.specs.Program.{program_view}
 use Rattle.upon_machine_spec.specs.ProgramNames.{plain_include}
 use Rattle.upon_needs.specs.Names.{texts}
 use Rattle.upon_needs.specs.OpenBlocks.{free_includes, outside_blocks}

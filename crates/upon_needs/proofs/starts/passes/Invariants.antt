@@ -1,5 +1,5 @@
 use Rattle.std.proofs.Common.{◌≡◌, ◌≤◌, ◌++◌, drop, filter_map}
-use Rattle.upon_instructions.specs.Program.{program_view}
+use Rattle.upon_compiler.specs.Program.{program_view}
 use Rattle.upon_machine_spec.specs.ProgramNames.{passes_on, plain_include, unbound}
 use Rattle.upon_needs.specs.Names.{texts}
 use Rattle.upon_needs.proofs.starts.passes.Given as goal

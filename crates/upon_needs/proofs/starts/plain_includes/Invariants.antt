@@ -1,5 +1,5 @@
 use Rattle.std.proofs.Common.{◌≡◌, ◌++◌, drop}
-use Rattle.upon_instructions.specs.Program.{program_view}
+use Rattle.upon_compiler.specs.Program.{program_view}
 use Rattle.upon_needs.specs.IndexStarts.{plain_includes}
 use Rattle.upon_needs.specs.Names.{texts}
 use Rattle.upon_needs.proofs.starts.plain_includes.Given as goal

@@ -1,6 +1,6 @@
 use Rattle.std.proofs.Common.{rules, arith, ◌≡◌, ◌<◌, ◌+◌, ◌⊎◌, inl, inr, ℕ, Bool, ◌∙◌, length, drop, false, ap, sym}
 use Rattle.std.specs.List.{list_any}
-use Rattle.upon_instructions.specs.Program.{instr_of, program_view}
+use Rattle.upon_compiler.specs.Program.{instr_of, program_view}
 use Rattle.upon_machine_spec.specs.ProgramNames.{is_this, path_name, unbound}
 use Rattle.upon_needs.proofs.NeededNames.{walk_on, count_grows}
 use Rattle.upon_needs.proofs.template_names.begins.Goals as goal

@@ -1,6 +1,6 @@
 use Rattle.std.proofs.Common.{◌≡◌, ◌≤◌, drop}
 use Rattle.std.specs.List.{list_any}
-use Rattle.upon_instructions.specs.Program.{program_view}
+use Rattle.upon_compiler.specs.Program.{program_view}
 use Rattle.upon_machine_spec.specs.ProgramNames.{begins, is_this, path_name, unbound}
 use Rattle.upon_needs.proofs.template_names.begins.Given as goal
 

@@ -1,5 +1,5 @@
 use Rattle.std.proofs.Common.{◌≡◌, ◌++◌, drop}
-use Rattle.upon_instructions.specs.Program.{program_view}
+use Rattle.upon_compiler.specs.Program.{program_view}
 use Rattle.upon_machine_spec.specs.ProgramNames.{includes}
 use Rattle.upon_needs.specs.Names.{texts}
 use Rattle.upon_needs.proofs.template_names.each_include.Given as goal

@@ -1,6 +1,6 @@
 use Rattle.std.proofs.Common.{rules, ◌≡◌, ◌||◌, ◌&&◌, ◌∙◌, ap, Some, false, not}
 use Rattle.std.specs.List.{list_any}
-use Rattle.upon_instructions.specs.Program.{instr_of}
+use Rattle.upon_compiler.specs.Program.{instr_of}
 use Rattle.upon_machine_spec.specs.ProgramNames.{is_this, path_name}
 use Rattle.upon_needs.specs.Names.{has_name}
 use Rattle.upon_needs.specs.OpenBlocks.{binds_name, blocks}

@@ -4,7 +4,7 @@ ghost use Rattle.std.specs.Prelude.{◌≡◌, true, false, IfOk, IfErr};
 ghost use Rattle.upon_language_spec.specs.Grammar.{HasTree};
 ghost use Rattle.upon_delimiters.specs.Searcher.{searcher_delimiters};
 ghost use Rattle.upon_tree.specs.Ast.{tree_of};
-ghost use Rattle.upon_tree_parser.specs.Statements.{builder_state, nothing_read};
+ghost use Rattle.upon_tree.specs.Statements.{builder_state, nothing_read};
 ghost use Rattle.upon_syntax.specs.Parsed.{IsParsedProgram};
 ghost use Rattle.upon_syntax.specs.TagReading.{IsSyntaxError};
 ghost use Rattle.upon_syntax.specs.TreeTold.{HasBuiltText};
@@ -14,11 +14,11 @@ use crate::compile::parse::tell::{tell, tell_tree};
 use std::alloc::Global;
 use upon_compiler::compile::Compiler;
 use upon_delimiters::search::Searcher;
-use upon_instructions::types::program::Instr;
+use upon_compiler::types::program::Instr;
 use upon_tag_parser::compile::parse::path::TagParser;
 use upon_tree::ast::Template;
-use upon_tree_parser::expression::TreeReader;
-use upon_tree_parser::statements::TreeBuilder;
+use upon_tree::expression::TreeReader;
+use upon_tree::statements::TreeBuilder;
 use upon_types::error::Result;
 
 /// Returns the program of a text, over the delimiters of a searcher. A text that has no tree is refused: the error

@@ -11,9 +11,9 @@ ghost use Rattle.upon_syntax.specs.TagReading.{IsSyntaxError, ReadsInlineTag, Re
 use crate::compile::parse::tag_faults::{refuse, refuse_end};
 use crate::compile::parse::tag_tokens::{Ended, read_tokens};
 use std::alloc::{AllocError, Global};
-use upon_instructions::types::program::Instr;
+use upon_compiler::types::program::Instr;
 use upon_lexer::compile::lex::Lexer;
-use upon_literals::literal::Lexed;
+use upon_lexer::literal::Lexed;
 use upon_tag_parser::compile::parse::path::{Failure, TagParser};
 use upon_tag_parser::compile::parse::tag::Tag;
 use upon_tag_parser::compile::parse::want::Want;

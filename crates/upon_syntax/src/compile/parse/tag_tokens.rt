@@ -11,16 +11,16 @@ ghost use Rattle.upon_language_spec.specs.Words.{IsRun};
 ghost use Rattle.upon_language_spec.specs.InTags.{is_inside, FineLiteral};
 ghost use Rattle.upon_lexer.specs.Spelling.{IsSpelled};
 ghost use Rattle.upon_lexer.specs.Lexers.{lexer_text, lexer_state};
-ghost use Rattle.upon_literals.specs.LiteralReasons.{report_of};
-ghost use Rattle.upon_literals.specs.Literals.{lexeme_of, before_of};
+ghost use Rattle.upon_lexer.specs.LiteralReasons.{report_of};
+ghost use Rattle.upon_lexer.specs.Literals.{lexeme_of, before_of};
 ghost use Rattle.upon_tag_parser.specs.TagTokens.{lexemes_of, EachTagToken};
 ghost use Rattle.upon_syntax.specs.TagEnds.{DenotesNothing, SignLies, StopsAt, TagEndLies, tag_end, KeepsText, ReadsInside};
 ghost use Rattle.upon_syntax.specs.TagEnds.{FindsTagToken, FindsEnd};
 
 use std::alloc::AllocError;
 use upon_lexer::compile::lex::Lexer;
-use upon_literals::literal::{Lexed, index, number_at, strange_escape};
-use upon_literals::literal_fault::{LiteralFault, Refusal};
+use upon_lexer::literal::{Lexed, index, number_at, strange_escape};
+use upon_lexer::literal_fault::{LiteralFault, Refusal};
 use upon_types::error::Error;
 use upon_types::types::{Span, Token, slice};
 

@@ -4,12 +4,12 @@ ghost use Rattle.upon_types.specs.Expression.{Expression};
 ghost use Rattle.upon_compiler.specs.After.{after_event};
 ghost use Rattle.upon_compiler.specs.Compiler.{compiler_state};
 ghost use Rattle.upon_compiler.specs.Events.{end_event};
-ghost use Rattle.upon_instructions.specs.Program.{program_view};
+ghost use Rattle.upon_compiler.specs.Program.{program_view};
 ghost use Rattle.upon_tag_parser.specs.BlockTags.{BlockTag, Keeps, block_kind, tag_code};
 ghost use Rattle.upon_tag_parser.specs.TagTokens.{lexemes_of};
 ghost use Rattle.upon_tree.specs.AstExpression.{expression_tree};
-ghost use Rattle.upon_tree_parser.specs.Opened.{tree_reader_text};
-ghost use Rattle.upon_tree_parser.specs.Statements.{builder_state};
+ghost use Rattle.upon_tree.specs.Opened.{tree_reader_text};
+ghost use Rattle.upon_tree.specs.Statements.{builder_state};
 ghost use Rattle.upon_syntax.specs.Pieces.{TemplatePiece, KeepsPiece, HoldsPiece, block_piece, piece_code};
 ghost use Rattle.upon_syntax.specs.TagExpressions.{HasExpressionAfter};
 ghost use Rattle.upon_syntax.specs.TreeTold.{tree_after, tree_after_tag};
@@ -18,13 +18,13 @@ ghost use Rattle.upon_syntax.specs.Told.{event_of, tag_event};
 use crate::compile::parse::piece::Piece;
 use std::alloc::AllocError;
 use upon_compiler::compile::Compiler;
-use upon_instructions::types::program::Instr;
-use upon_literals::literal::Lexed;
+use upon_compiler::types::program::Instr;
+use upon_lexer::literal::Lexed;
 use upon_tag_parser::compile::parse::kind::{Kind, Opening};
 use upon_tag_parser::compile::parse::tag::Tag;
 use upon_tree::ast::Expr;
-use upon_tree_parser::expression::TreeReader;
-use upon_tree_parser::statements::TreeBuilder;
+use upon_tree::expression::TreeReader;
+use upon_tree::statements::TreeBuilder;
 
 /// Tells a compiler of a piece, whose expression has these instructions if it has one, and leaves none of them
 /// behind. It fails if memory is out.

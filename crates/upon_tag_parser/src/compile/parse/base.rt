@@ -3,7 +3,7 @@ ghost use Rattle.std.specs.Prelude.{◌≡◌, ◌<◌, ◌≤◌, List, ◌∷�
 ghost use Rattle.upon_types.specs.Span.{LiesIn};
 ghost use Rattle.upon_types.specs.declared.types.token.Token.TheVariants.{Ident as Identifier};
 ghost use Rattle.upon_types.specs.AstPath.{ident_of};
-ghost use Rattle.upon_instructions.specs.Program.{program_view};
+ghost use Rattle.upon_compiler.specs.Program.{program_view};
 ghost use Rattle.upon_language_spec.specs.Cut.{Lexeme};
 ghost use Rattle.upon_language_spec.specs.Tokens.{Goes};
 ghost use Rattle.upon_language_spec.specs.Parts.{Part, after_name};
@@ -16,8 +16,8 @@ use crate::compile::parse::instructions::{append, append_literal, append_path};
 use crate::compile::parse::path::{Failure, Parsed, TagParser, expect, take, take_op};
 use crate::compile::parse::want::Want;
 use std::alloc::AllocError;
-use upon_instructions::types::program::Instr;
-use upon_literals::literal::Lexed;
+use upon_compiler::types::program::Instr;
+use upon_lexer::literal::Lexed;
 use upon_types::types::ast::Ident;
 use upon_types::types::{Span, Token};
 

@@ -1,6 +1,6 @@
 // Expressions in a tag, without recursion: what is open around the one that is read is on a stack.
 ghost use Rattle.std.specs.Prelude.{◌≡◌, ◌<◌, ◌≤◌, ◌+◌, ◌*◌, List, length, IfOk, true};
-ghost use Rattle.upon_instructions.specs.Program.{program_view};
+ghost use Rattle.upon_compiler.specs.Program.{program_view};
 ghost use Rattle.upon_language_spec.specs.Cut.{Lexeme};
 ghost use Rattle.upon_tag_parser.specs.TagTokens.{lexemes_of, AreTagTokens, IsRest};
 ghost use Rattle.upon_tag_parser.specs.TagParsing.{IfStuck};
@@ -12,8 +12,8 @@ use crate::compile::parse::brackets::{Applied, Open, Receiver, Step};
 use crate::compile::parse::instructions::append;
 use crate::compile::parse::path::{Parsed, TagParser, expect, take};
 use crate::compile::parse::want::Want;
-use upon_instructions::types::program::Instr;
-use upon_literals::literal::Lexed;
+use upon_compiler::types::program::Instr;
+use upon_lexer::literal::Lexed;
 use upon_types::types::{Span, Token};
 
 impl<'a> TagParser<'a> {

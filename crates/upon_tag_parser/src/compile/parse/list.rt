@@ -2,7 +2,7 @@
 ghost use Rattle.std.specs.Prelude.{◌≡◌, ◌<◌, ◌≤◌, List, ◌∷◌, Bool, length, slice_set, IfOk};
 ghost use Rattle.upon_types.specs.declared.types.token.Token.TheVariants.{OpenBracket, OpenBrace};
 ghost use Rattle.upon_machine_spec.specs.Instr.{expr_start_list, expr_start_map};
-ghost use Rattle.upon_instructions.specs.Program.{program_view};
+ghost use Rattle.upon_compiler.specs.Program.{program_view};
 ghost use Rattle.upon_language_spec.specs.Cut.{Lexeme};
 ghost use Rattle.upon_language_spec.specs.Tokens.{Goes, from_to};
 ghost use Rattle.upon_language_spec.specs.Parts.{Part, map_start};
@@ -16,8 +16,8 @@ use crate::compile::parse::instructions::{append, replace};
 use crate::compile::parse::path::{Parsed, TagParser, expect, take};
 use crate::compile::parse::want::Want;
 use std::alloc::AllocError;
-use upon_instructions::types::program::Instr;
-use upon_literals::literal::Lexed;
+use upon_compiler::types::program::Instr;
+use upon_lexer::literal::Lexed;
 use upon_types::types::{Span, Token, ast};
 
 /// Puts a list's span, up to its closing bracket, into its first instruction, and returns it.

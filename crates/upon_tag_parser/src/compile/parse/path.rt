@@ -19,7 +19,7 @@ ghost use Rattle.upon_tag_parser.specs.TagParsing.{IfStuck, IsStuck, IsRefused, 
 
 use crate::compile::parse::want::Want;
 use std::alloc::{AllocError, AllocFailed, Global};
-use upon_literals::literal::{Lexed, index};
+use upon_lexer::literal::{Lexed, index};
 use upon_types::types::ast::{self, Access, AccessOp, Ident, Index, Member, Var};
 use upon_types::types::{Span, Token, slice};
 

@@ -15,14 +15,14 @@ ghost use Rattle.upon_language_spec.specs.Expressions.{sign_token, IsLiteral};
 ghost use Rattle.upon_language_spec.specs.Parts.{Part};
 ghost use Rattle.upon_language_spec.specs.PartTails.{TakesBase};
 ghost use Rattle.upon_tag_parser.specs.declared.compile.parse.want.Want.TheVariants.{Text};
-ghost use Rattle.upon_literals.specs.Literals.{before_of};
+ghost use Rattle.upon_lexer.specs.Literals.{before_of};
 ghost use Rattle.upon_tag_parser.specs.TagTokens.{lexemes_of, AreTagTokens, IsRest};
 ghost use Rattle.upon_tag_parser.specs.TagParsing.{IfStuck, IsStuck, IsRefused, NoLiteral, NoSign, IsSign, NoNumber};
 
 use crate::compile::parse::path::{Failure, Parsed, TagParser, expect, next_token, take};
 use crate::compile::parse::want::Want;
 use std::alloc::AllocError;
-use upon_literals::literal::{Lexed, number_at, text};
+use upon_lexer::literal::{Lexed, number_at, text};
 use upon_types::types::ast::{self, Literal};
 use upon_types::types::{Span, Token};
 use upon_types::value::Value;

@@ -18,8 +18,8 @@ use crate::compile::parse::instructions::show;
 use crate::compile::parse::kind::Kind;
 use crate::compile::parse::path::{Failure, Parsed, TagParser, take};
 use crate::compile::parse::want::Want;
-use upon_instructions::types::program::Instr;
-use upon_literals::literal::Lexed;
+use upon_compiler::types::program::Instr;
+use upon_lexer::literal::Lexed;
 use upon_types::types::ast::{self, Ident, KeyValue, LoopVars};
 use upon_types::types::{Span, Token, slice};
 

@@ -8,7 +8,7 @@ ghost use Rattle.upon_language_spec.specs.LiteralWords.{fits_word};
 ghost use Rattle.upon_tag_parser.specs.Wants.{wanted_of};
 
 use std::alloc::{AllocError, Global};
-use upon_literals::literal::Lexed;
+use upon_lexer::literal::Lexed;
 use upon_types::types::{Token, slice};
 
 /// What may be at an offset of a tag.

@@ -1,7 +1,7 @@
 use Rattle.std.proofs.Common.{◌∙◌, IfSome, ap, subst}
 use Rattle.upon_shape.specs.View.{shape_view}
 use Rattle.upon_calls.specs.Templates.{lent_pairs}
-use Rattle.upon_tool_shapes.specs.Contexts.{HasShape}
+use Rattle.upon_tool_pages.specs.Contexts.{HasShape}
 use Rattle.upon_tool.specs.Checked.{ChecksCall}
 use Rattle.upon_tool.specs.Fitting.{EachFits}
 use Rattle.upon_tool.proofs.fitting.run_fit.Goals as goal

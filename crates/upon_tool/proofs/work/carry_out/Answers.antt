@@ -7,7 +7,7 @@ use Rattle.upon_engine.proofs.Boxed.{boxed_reads}
 use Rattle.upon_std.specs.Table.{standard_answer}
 use Rattle.upon_calls.specs.Escaping.{language_format}
 use Rattle.upon_calls.specs.Filled.{escaping_engine}
-use Rattle.upon_tool_shapes.specs.Fitting.{language_for}
+use Rattle.upon_tool_pages.specs.Fitting.{language_for}
 use Rattle.upon_tool.specs.Filled.{tool_engine, with_page, TakesFiles, TakesRead}
 use Rattle.upon_tool.specs.Work.{checked_files, IsUnreadOf}
 use Rattle.upon_tool.proofs.Calls.{work_out_of_memory, work_refused}

@@ -3,10 +3,10 @@ use Rattle.upon_types.specs.Error.{fault_of}
 use Rattle.upon_types.specs.Fault.{fault_with_picture, OrMemory}
 use Rattle.upon_types.specs.declared.error.Error.{Error as CodeError}
 use Rattle.upon_meaning_spec.specs.Meaning.{RunningTemplate, fault_in}
-use Rattle.upon_vm_calls.specs.Halt.{halt_fault, halt_kind}
-use Rattle.upon_vm_calls.specs.declared.fault.Fault.{Fault}
-use Rattle.upon_vm_calls.specs.declared.fault.FaultKind.{FaultKind}
-use Rattle.upon_vm_calls.specs.declared.fault.FaultKind.TheVariants.{Render, Function, Format}
+use Rattle.upon_vm_steps.specs.Halt.{halt_fault, halt_kind}
+use Rattle.upon_vm_steps.specs.declared.fault.Fault.{Fault}
+use Rattle.upon_vm_steps.specs.declared.fault.FaultKind.{FaultKind}
+use Rattle.upon_vm_steps.specs.declared.fault.FaultKind.TheVariants.{Render, Function, Format}
 use Rattle.upon_vm.specs.Failures.{Names, is_memory}
 use Rattle.upon_vm_steps.specs.Machine.{active_of}
 use Rattle.upon_vm.proofs.failure.in_template.Goals as goal

@@ -1,5 +1,5 @@
 use Rattle.std.proofs.Common.{◌≡◌}
-use Rattle.upon_instructions.specs.Program.{program_view}
+use Rattle.upon_compiler.specs.Program.{program_view}
 use Rattle.upon_vm.specs.Place.{nearest_span}
 use Rattle.upon_vm.proofs.place.place.Given as goal
 

@@ -1,7 +1,7 @@
 use Rattle.std.proofs.Common.{refl, subst, sym}
 use Rattle.upon_types.specs.Span.{LiesIn}
 use Rattle.upon_render.specs.Stack.{frames_of}
-use Rattle.upon_instructions.specs.Program.{instr_of, program_view}
+use Rattle.upon_compiler.specs.Program.{instr_of, program_view}
 use Rattle.upon_vm_steps.specs.Acts.{NeedsFrames}
 use Rattle.upon_vm_steps.specs.Machine.{callers_view}
 use Rattle.upon_vm_steps.proofs.SpansLie.{code_spans_at}

@@ -1,6 +1,6 @@
 use Rattle.std.proofs.Common.{sym, subst}
 use Rattle.upon_types.specs.Span.{LiesIn}
-use Rattle.upon_instructions.specs.Program.{program_view}
+use Rattle.upon_compiler.specs.Program.{program_view}
 use Rattle.upon_vm.proofs.Places.{place_lies}
 use Rattle.upon_vm.proofs.within.at_limit.Goals as goal
 

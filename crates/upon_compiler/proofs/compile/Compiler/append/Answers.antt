@@ -1,6 +1,6 @@
 use Rattle.std.proofs.Common.{ap, ◌∙◌}
 use Rattle.std.proofs.lemmas.List.{map-append}
-use Rattle.upon_instructions.specs.Program.{instr_of, program_view}
+use Rattle.upon_compiler.specs.Program.{instr_of, program_view}
 use Rattle.upon_compiler.proofs.compile.Compiler.append.Goals as goal
 
 pub returns-clause-code : goal.returns-clause-code

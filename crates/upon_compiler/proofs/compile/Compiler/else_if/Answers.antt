@@ -1,7 +1,7 @@
 use Rattle.std.proofs.Common.{ap, ◌∙◌}
 use Rattle.upon_types.specs.BlockKinds.{if_tag}
 use Rattle.upon_types.specs.declared.types.Span.{Span}
-use Rattle.upon_instructions.specs.Program.{program_view}
+use Rattle.upon_compiler.specs.Program.{program_view}
 use Rattle.upon_compiler.specs.After.{after_event}
 use Rattle.upon_compiler.specs.Events.{opening_event}
 use Rattle.upon_compiler.proofs.compile.Compiler.else_if.Goals as goal

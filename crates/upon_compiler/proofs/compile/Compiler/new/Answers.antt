@@ -1,5 +1,5 @@
 use Rattle.std.proofs.Common.{reverse, ap}
-use Rattle.upon_instructions.specs.Program.{program_view}
+use Rattle.upon_compiler.specs.Program.{program_view}
 use Rattle.upon_compiler.proofs.Blocks.{same_state}
 use Rattle.upon_compiler.proofs.compile.Compiler.new.Goals as goal
 

@@ -1,7 +1,7 @@
 use Rattle.std.proofs.Common.{sym, arith}
 use Rattle.std.proofs.lemmas.List.{length-map, map-set, set_past}
 use Rattle.upon_compiler.specs.Compiler.{code_of}
-use Rattle.upon_instructions.specs.Program.{instr_of}
+use Rattle.upon_compiler.specs.Program.{instr_of}
 use Rattle.upon_compiler.proofs.compile.Compiler.replace.Goals as goal
 
 pub returns-then-at-count-clause-code : goal.returns-then-at-count-clause-code

@@ -1,6 +1,6 @@
 use Rattle.std.proofs.Common.{◌∙◌, ap}
-use Rattle.upon_instructions.specs.Program.{program_view}
-use Rattle.upon_compiled_spec.proofs.CompiledTree.{program}
+use Rattle.upon_compiler.specs.Program.{program_view}
+use Rattle.upon_compiler.proofs.CompiledTree.{program}
 use Rattle.upon_engine.proofs.template.Template.instrs.Goals as goal
 
 pub returns : goal.returns

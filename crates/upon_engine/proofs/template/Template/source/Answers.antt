@@ -1,4 +1,4 @@
-use Rattle.upon_compiled_spec.proofs.CompiledTree.{had_tree}
+use Rattle.upon_compiler.proofs.CompiledTree.{had_tree}
 use Rattle.upon_engine.proofs.template.Template.source.Goals as goal
 
 pub returns-clause-has_tree : goal.returns-clause-has_tree

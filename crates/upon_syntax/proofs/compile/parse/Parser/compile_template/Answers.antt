@@ -7,8 +7,8 @@ use Rattle.upon_language_spec.specs.Grammar.{HasTree}
 use Rattle.upon_language_spec.proofs.OneTree.Tree.{one_whole_tree}
 use Rattle.upon_language_spec.proofs.NoTreeWithFault.Fault.{no_tree_with_fault}
 use Rattle.upon_machine_spec.specs.Code.{program_of}
-use Rattle.upon_instructions.specs.Program.{program_view}
-use Rattle.upon_instructions.specs.declared.types.program.Instr.{Instr}
+use Rattle.upon_compiler.specs.Program.{program_view}
+use Rattle.upon_compiler.specs.declared.types.program.Instr.{Instr}
 use Rattle.upon_syntax.specs.TagReading.{IsSyntaxError}
 use Rattle.upon_syntax.specs.Parsed.{source_of, syntax_of, IsParsedProgram}
 use Rattle.upon_syntax.proofs.NextTokens.{ok_on, err_on}

@@ -1,5 +1,5 @@
 use Rattle.std.proofs.Common.{List, subst}
-use Rattle.upon_literals.specs.declared.literal.Lexed.{Lexed}
+use Rattle.upon_lexer.specs.declared.literal.Lexed.{Lexed}
 use Rattle.upon_syntax.specs.TagFaults.{GoesNoFurther}
 use Rattle.upon_syntax.proofs.TagRefused.{refused_inside}
 use Rattle.upon_syntax.proofs.compile.parse.tag_faults.refuse.Goals as goal

@@ -1,4 +1,4 @@
-use Rattle.upon_literals.specs.LiteralReasons.{literal_reason}
+use Rattle.upon_lexer.specs.LiteralReasons.{literal_reason}
 use Rattle.upon_syntax.proofs.compile.parse.tag_faults.refuse_literal.Goals as goal
 
 pub returns-then-takes_literal-clause-fits : goal.returns-then-takes_literal-clause-fits

@@ -3,7 +3,7 @@ use Rattle.upon_types.specs.Span.{LiesIn}
 use Rattle.upon_language_spec.specs.Search.{DelimiterText}
 use Rattle.upon_language_spec.specs.Lexing.{HasRead}
 use Rattle.upon_lexer.specs.Lexers.{lexer_text, lexer_delimiters, lexer_state}
-use Rattle.upon_literals.specs.Literals.{lexeme_of}
+use Rattle.upon_lexer.specs.Literals.{lexeme_of}
 use Rattle.upon_syntax.specs.TagEnds.{ReadsOnTokens}
 use Rattle.upon_syntax.proofs.TagTokenSteps.{goes_on, plain_is_inside, plain_token, reads_spaces}
 use Rattle.upon_syntax.proofs.compile.parse.tag_tokens.plain_token.Goals as goal

@@ -3,7 +3,7 @@ use Rattle.upon_types.specs.Span.{LiesIn}
 use Rattle.upon_language_spec.specs.Lexing.{HasRead}
 use Rattle.upon_lexer.specs.Lexers.{lexer_text, lexer_delimiters, lexer_state}
 use Rattle.upon_lexer.specs.Spelling.{IsSpelled}
-use Rattle.upon_literals.specs.Literals.{before_of, lexeme_of}
+use Rattle.upon_lexer.specs.Literals.{before_of, lexeme_of}
 use Rattle.upon_syntax.specs.TagEnds.{ReadsOnTokens}
 use Rattle.upon_syntax.proofs.LiteralSpans.{index_digits}
 use Rattle.upon_syntax.proofs.TagTokenSteps.{ends_wrong, ends_eof, stops, goes_on}

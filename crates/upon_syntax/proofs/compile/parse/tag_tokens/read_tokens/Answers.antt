@@ -5,8 +5,8 @@ use Rattle.upon_language_spec.specs.Lexing.{LexerState, HasRead}
 use Rattle.upon_language_spec.specs.InTags.{last_or}
 use Rattle.upon_lexer.specs.Lexers.{lexer_text, lexer_delimiters, lexer_state}
 use Rattle.upon_language_spec.specs.Search.{DelimiterText}
-use Rattle.upon_literals.specs.declared.literal.Lexed.{Lexed}
-use Rattle.upon_literals.specs.Literals.{lexeme_of, before_of}
+use Rattle.upon_lexer.specs.declared.literal.Lexed.{Lexed}
+use Rattle.upon_lexer.specs.Literals.{lexeme_of, before_of}
 use Rattle.upon_tag_parser.specs.TagTokens.{lexemes_of, IsTagToken, EachTagToken}
 use Rattle.upon_syntax.specs.TagEnds.{ReadsTokens, ReadsUpTo}
 use Rattle.upon_syntax.proofs.TagTokenSteps.{each_token_more, last_token, reads_start, reads_more, reads_up_to}

@@ -1,7 +1,7 @@
 use Rattle.std.proofs.Common.{◌≡◌, ◌-◌, length, None}
 use Rattle.upon_language_spec.specs.InTags.{last_or}
 use Rattle.upon_lexer.specs.Lexers.{lexer_text, lexer_delimiters, lexer_state}
-use Rattle.upon_literals.specs.Literals.{before_of}
+use Rattle.upon_lexer.specs.Literals.{before_of}
 use Rattle.upon_tag_parser.specs.TagTokens.{lexemes_of, EachTagToken}
 use Rattle.upon_syntax.specs.TagEnds.{SignLies, ReadsTokens}
 use Rattle.upon_syntax.proofs.compile.parse.tag_tokens.read_tokens.Given as goal

@@ -1,5 +1,5 @@
-use Rattle.upon_literals.specs.Literals.{before_of}
-use Rattle.upon_literals.specs.LiteralReasons.{report_of}
+use Rattle.upon_lexer.specs.Literals.{before_of}
+use Rattle.upon_lexer.specs.LiteralReasons.{report_of}
 use Rattle.upon_types.specs.Span.{slice}
 use Rattle.upon_syntax.proofs.LiteralSpans.{number_fine, number_lies}
 use Rattle.upon_syntax.proofs.compile.parse.tag_tokens.refuse_number.Goals as goal

@@ -1,7 +1,7 @@
 use Rattle.std.proofs.Common.{List, subst}
 use Rattle.upon_language_spec.specs.Cut.{Lexeme}
 use Rattle.upon_tag_parser.specs.TagTokens.{EachTagToken}
-use Rattle.upon_tree_parser.specs.Opened.{tree_reader_text, IsExpressionKnown}
+use Rattle.upon_tree.specs.Opened.{tree_reader_text, IsExpressionKnown}
 use Rattle.upon_syntax.proofs.TagExpressions.{left_tokens}
 use Rattle.upon_syntax.proofs.compile.parse.tell.expression_after.Goals as goal
 

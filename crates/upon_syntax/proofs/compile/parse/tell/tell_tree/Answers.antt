@@ -3,8 +3,8 @@ use Rattle.std.specs.Result.{OnOk}
 use Rattle.upon_types.specs.Expression.{Expression}
 use Rattle.upon_types.specs.Tree.{inline_expr}
 use Rattle.upon_tag_parser.specs.TagTokens.{lexemes_of}
-use Rattle.upon_tree_parser.specs.Opened.{tree_reader_text}
-use Rattle.upon_tree_parser.specs.Statements.{TreeSoFar, builder_state, with_statement}
+use Rattle.upon_tree.specs.Opened.{tree_reader_text}
+use Rattle.upon_tree.specs.Statements.{TreeSoFar, builder_state, with_statement}
 use Rattle.upon_syntax.specs.Pieces.{TemplatePiece, HoldsPiece}
 use Rattle.upon_syntax.specs.TreeTold.{tree_after}
 use Rattle.upon_syntax.proofs.TagExpressions.{in_inline}

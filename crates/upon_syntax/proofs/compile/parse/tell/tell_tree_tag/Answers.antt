@@ -7,8 +7,8 @@ use Rattle.upon_types.specs.Tree.{include}
 use Rattle.upon_tag_parser.specs.BlockTags.{BlockTag, else_if_tag, include_tag}
 use Rattle.upon_tag_parser.specs.TagTokens.{lexemes_of}
 use Rattle.upon_tree.specs.AstExpression.{expression_tree}
-use Rattle.upon_tree_parser.specs.Opened.{tree_reader_text}
-use Rattle.upon_tree_parser.specs.Statements.{TreeSoFar, builder_state, block_opened, tree_else_if_begun, with_statement}
+use Rattle.upon_tree.specs.Opened.{tree_reader_text}
+use Rattle.upon_tree.specs.Statements.{TreeSoFar, builder_state, block_opened, tree_else_if_begun, with_statement}
 use Rattle.upon_syntax.specs.TreeTold.{tree_after_tag}
 use Rattle.upon_syntax.proofs.TagExpressions.{counted_in, told_opening}
 use Rattle.upon_syntax.proofs.compile.parse.tell.tell_tree_tag.Goals as goal

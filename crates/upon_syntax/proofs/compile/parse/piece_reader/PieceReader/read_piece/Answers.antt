@@ -3,7 +3,7 @@ use Rattle.std.proofs.lemmas.List.{append-nil}
 use Rattle.upon_types.specs.declared.types.token.Token.{Token}
 use Rattle.upon_types.specs.declared.types.token.Token.TheVariants.{BeginComment}
 use Rattle.upon_language_spec.specs.Blocks.{OpenBlock}
-use Rattle.upon_instructions.specs.Program.{program_view}
+use Rattle.upon_compiler.specs.Program.{program_view}
 use Rattle.upon_syntax.specs.Pieces.{raw_piece}
 use Rattle.upon_syntax.specs.PieceReading.{text_of_reader, pieces_delimiters, pieces_state, pieces_blocks, token_lexeme, TokenGiven, ReadsOnPieces}
 use Rattle.upon_syntax.specs.TagReading.{IsSyntaxError}

@@ -7,7 +7,7 @@ use Rattle.upon_language_spec.specs.Parts.{Part, a_base, filters, end_expr}
 use Rattle.upon_language_spec.specs.Wanted.{an_end_expression}
 use Rattle.upon_language_spec.specs.InTags.{last_or}
 use Rattle.upon_lexer.specs.Lexers.{lexer_text, lexer_delimiters, lexer_state}
-use Rattle.upon_literals.specs.declared.literal.Lexed.{Lexed}
+use Rattle.upon_lexer.specs.declared.literal.Lexed.{Lexed}
 use Rattle.upon_tag_parser.specs.declared.compile.parse.want.Want.TheVariants as want
 use Rattle.upon_tag_parser.specs.TagTokens.{lexemes_of, EachTagToken}
 use Rattle.upon_tag_parser.specs.TagParsing.{OnStuck, IsStuck}

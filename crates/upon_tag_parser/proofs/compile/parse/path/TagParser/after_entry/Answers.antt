@@ -2,7 +2,7 @@ use Rattle.std.proofs.Common.{◌∷◌, refl, arith}
 use Rattle.std.proofs.lemmas.Grind.{common_steps}
 use Rattle.std.proofs.lemmas.Result.{err_from_is_err_and}
 use Rattle.upon_types.specs.declared.types.token.Token.TheVariants.{CloseBrace}
-use Rattle.upon_instructions.specs.Program.{program_view}
+use Rattle.upon_compiler.specs.Program.{program_view}
 use Rattle.upon_language_spec.specs.Parts.{map_start}
 use Rattle.upon_tag_parser.specs.declared.compile.parse.want.Want.TheVariants as want
 use Rattle.upon_tag_parser.specs.declared.compile.parse.brackets.Open.TheVariants as opened

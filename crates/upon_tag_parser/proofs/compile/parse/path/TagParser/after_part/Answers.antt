@@ -2,7 +2,7 @@ use Rattle.std.proofs.Common.{arith, ◌+◌, refl}
 use Rattle.std.proofs.lemmas.Result.{err_from_is_err_and}
 use Rattle.upon_types.specs.declared.types.token.Token.TheVariants.{Ident as Identifier}
 use Rattle.upon_types.specs.AstPath.{ident_of}
-use Rattle.upon_instructions.specs.Program.{program_view}
+use Rattle.upon_compiler.specs.Program.{program_view}
 use Rattle.upon_tag_parser.specs.declared.compile.parse.want.Want.TheVariants as want
 use Rattle.upon_tag_parser.specs.declared.compile.parse.brackets.Applied.{Applied}
 use Rattle.upon_tag_parser.specs.declared.compile.parse.brackets.Receiver.{Receiver}

@@ -8,7 +8,7 @@ use Rattle.upon_tag_parser.proofs.TagTokens.{tokens_rest}
 use Rattle.upon_tag_parser.proofs.Stuck.{handed_on}
 use Rattle.upon_types.specs.declared.types.token.Token.TheVariants.{EndBlock}
 use Rattle.upon_language_spec.specs.Wanted.{an_end_block}
-use Rattle.upon_literals.specs.declared.literal.Lexed.{Lexed}
+use Rattle.upon_lexer.specs.declared.literal.Lexed.{Lexed}
 use Rattle.upon_tag_parser.specs.WholeTags.{IsTagBody, IsTooLong}
 use Rattle.upon_tag_parser.proofs.Tags.{ends_here, too_long_stuck, tag_inside}
 use Rattle.upon_tag_parser.proofs.compile.parse.path.TagParser.parse_block_tag.Goals as goal

@@ -2,7 +2,7 @@ use Rattle.std.proofs.Common.{[], ◌∷◌, true, None, Some, refl, sym}
 use Rattle.std.proofs.lemmas.Result.{err_from_is_err_and}
 use Rattle.upon_types.specs.declared.types.token.Token.TheVariants.{String as Quoted}
 use Rattle.upon_types.specs.AstPath.{string_of}
-use Rattle.upon_instructions.specs.Program.{program_view}
+use Rattle.upon_compiler.specs.Program.{program_view}
 use Rattle.upon_language_spec.specs.Parts.{a_base, filters, end_block, include_name, include_rest}
 use Rattle.upon_tag_parser.specs.declared.compile.parse.want.Want.TheVariants as want
 use Rattle.upon_tag_parser.specs.TagTokens.{lexemes_of}

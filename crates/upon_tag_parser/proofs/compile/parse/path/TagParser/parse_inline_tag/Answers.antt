@@ -1,6 +1,6 @@
 use Rattle.std.proofs.Common.{◌∙◌, List, [], ◌∷◌, ◌++◌, true, ap, subst}
 use Rattle.std.proofs.lemmas.Result.{err_from_is_err_and}
-use Rattle.upon_instructions.specs.Program.{program_view}
+use Rattle.upon_compiler.specs.Program.{program_view}
 use Rattle.upon_language_spec.specs.Parts.{a_base, filters, end_expr}
 use Rattle.upon_tag_parser.specs.declared.compile.parse.want.Want.TheVariants as want
 use Rattle.upon_tag_parser.specs.TagTokens.{lexemes_of}
@@ -13,7 +13,7 @@ use Rattle.upon_language_spec.specs.Expressions.{IsExpression}
 use Rattle.upon_language_spec.specs.Wanted.{an_end_expression}
 use Rattle.upon_language_spec.specs.OpenParts.{ending_parts}
 use Rattle.upon_language_spec.proofs.Wanted.ExpressionsLead.{base_takes}
-use Rattle.upon_literals.specs.declared.literal.Lexed.{Lexed}
+use Rattle.upon_lexer.specs.declared.literal.Lexed.{Lexed}
 use Rattle.upon_tag_parser.specs.Shown.{shown}
 use Rattle.upon_tag_parser.specs.WholeTags.{IsTooLong}
 use Rattle.upon_tag_parser.proofs.BaseStarts.{base_starts}

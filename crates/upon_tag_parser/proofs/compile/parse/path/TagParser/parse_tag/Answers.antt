@@ -1,6 +1,6 @@
 use Rattle.std.proofs.Common.{◌∙◌, List, [], ◌∷◌, ◌++◌, refl, sym, ap}
 use Rattle.std.proofs.lemmas.Result.{err_from_is_err_and}
-use Rattle.upon_instructions.specs.Program.{program_view}
+use Rattle.upon_compiler.specs.Program.{program_view}
 use Rattle.upon_language_spec.specs.Cut.{Lexeme}
 use Rattle.upon_language_spec.specs.Parts.{Part, a_base, filters, condition, end_block, block_word, else_rest, loop_name, as_word, include_name}
 use Rattle.upon_tag_parser.specs.TagTokens.{lexemes_of}

@@ -1,6 +1,6 @@
 use Rattle.std.proofs.Common.{◌∙◌, sym}
 use Rattle.std.proofs.lemmas.List.{length-map}
-use Rattle.upon_instructions.specs.Program.{instr_of}
+use Rattle.upon_compiler.specs.Program.{instr_of}
 use Rattle.upon_tag_parser.specs.declared.compile.parse.brackets.Beginning.{Beginning}
 use Rattle.upon_tag_parser.specs.Brackets.{place, place_of}
 use Rattle.upon_tag_parser.proofs.Steps.Lists.{list_begun}

@@ -1,7 +1,7 @@
 use Rattle.std.proofs.Common.{◌∙◌, List, Bool, sym}
 use Rattle.std.proofs.lemmas.List.{length-map}
 use Rattle.upon_types.specs.declared.types.token.Token.TheVariants.{OpenBrace}
-use Rattle.upon_instructions.specs.Program.{instr_of}
+use Rattle.upon_compiler.specs.Program.{instr_of}
 use Rattle.upon_language_spec.specs.Cut.{Lexeme}
 use Rattle.upon_language_spec.specs.Tokens.{Goes}
 use Rattle.upon_tag_parser.specs.declared.compile.parse.brackets.Beginning.{Beginning}

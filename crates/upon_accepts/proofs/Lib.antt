@@ -1,4 +1,0 @@
-mod Undoubted
-mod Deep
-mod Ends
-mod Plans

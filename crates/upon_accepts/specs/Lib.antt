@@ -1,3 +1,0 @@
-pub mod EndsOn
-pub mod Verdict
-pub mod Levels

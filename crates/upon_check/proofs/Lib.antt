@@ -1,0 +1,15 @@
+mod OnTop
+mod Names
+mod Walking
+mod Declaring
+mod Scoping
+mod Shaping
+mod Stepping
+mod Acting
+mod Taking
+mod Putting
+mod Along
+mod Undoubted
+mod Deep
+mod Ends
+mod Plans

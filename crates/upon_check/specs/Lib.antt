@@ -1,0 +1,15 @@
+pub mod Callables
+pub mod Rows
+pub mod Scope
+pub mod Undo
+pub mod Loops
+pub mod Depth
+pub mod Doubt
+pub mod Found
+pub mod Plan
+pub mod Known
+pub mod Puts
+pub mod Steps
+pub mod EndsOn
+pub mod Verdict
+pub mod Levels

@@ -1,4 +1,0 @@
-// What is in doubt along a program, and that it is what is in doubt in its tree.
-#![tactic(auto)]
-
-pub mod laws;

@@ -1,3 +1,0 @@
-pub mod TreeSpans
-pub mod CompiledTree
-pub mod Templates

@@ -1,0 +1,5 @@
+pub mod Powers
+pub mod Parts
+pub mod Items
+pub mod LawLemmas
+pub mod Joining

@@ -1,0 +1,9 @@
+pub mod Rising
+pub mod Ranks
+pub mod Repeats
+pub mod Readings
+pub mod Seen
+pub mod Giving
+pub mod LawLemmas
+pub mod Groups
+pub mod Storing

@@ -1,0 +1,7 @@
+use Rattle.std.proofs.Common.{◌≡◌, map, take}
+use Rattle.upon_types.specs.View.{view}
+use Rattle.upon_std.proofs.basic.copies.copy_items.Given as goal
+
+-- the copies so far are those of the items so far
+abbrev pub invariant-loop-item : goal.invariant-loop-item
+invariant-loop-item l = map view l.copies.items ≡ map view (take l.item-index l.items)

@@ -1,0 +1,5 @@
+use Rattle.upon_std.proofs.Basic.LawLemmas.{decimal_text-zero}
+use Rattle.upon_std.proofs.basic.laws.no_places.Goals as goal
+
+pub returns : goal.returns
+returns c = decimal_text-zero

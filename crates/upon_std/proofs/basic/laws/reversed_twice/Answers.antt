@@ -1,0 +1,5 @@
+use Rattle.upon_std.proofs.Basic.Items.{reversed-reversed}
+use Rattle.upon_std.proofs.basic.laws.reversed_twice.Goals as goal
+
+pub returns : goal.returns
+returns c = reversed-reversed

@@ -1,0 +1,7 @@
+use Rattle.std.proofs.Common.{ap, ◌∙◌}
+use Rattle.upon_types.specs.View.{vals_view}
+use Rattle.upon_std.proofs.Basic.Items.{vals_view-reverse}
+use Rattle.upon_std.proofs.basic.lists.backwards.Goals as goal
+
+pub returns : goal.returns
+returns c = ap vals_view c.reverse.ensures.items ∙ vals_view-reverse c.args.items.items

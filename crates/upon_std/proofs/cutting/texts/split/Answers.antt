@@ -1,0 +1,12 @@
+use Rattle.std.proofs.Common.{map, ap, ◌∙◌}
+use Rattle.std.proofs.lemmas.Iterator.Consumers.{map_from_collect}
+use Rattle.upon_std.proofs.Cutting.Items.{made_values}
+use Rattle.upon_std.proofs.Cutting.Pieces.{YieldsList-from_text_split}
+use Rattle.upon_std.proofs.cutting.texts.split.Goals as goal
+
+pub returns : goal.returns
+returns c =
+    let found = YieldsList-from_text_split {s = c.split.result} c.args.separator.now c.args.text.now c.requires c.split.ensures.text c.split.ensures.has_more (ap (λ p. p.now) c.split.ensures.pattern) in
+    let all = map_from_collect c.collect.result c.collect.ensures.ran found in
+    let whole = rw c.in_ok-all.was at all in
+    made_values c.text_values.result c.deref.result.now _ (ap (map (λ text. text.now)) c.deref.ensures.value ∙ whole) c.text_values.ensures

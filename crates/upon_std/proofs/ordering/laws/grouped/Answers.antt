@@ -1,0 +1,5 @@
+use Rattle.upon_std.proofs.Ordering.Groups.{groups_permute}
+use Rattle.upon_std.proofs.ordering.laws.grouped.Goals as goal
+
+pub returns : goal.returns
+returns c = groups_permute

@@ -1,0 +1,25 @@
+// Drops the items of lists that are repeated.
+ghost use Rattle.std.specs.Prelude.{◌≡◌, IfOk, map};
+ghost use Rattle.upon_types.specs.Same.{val_eq};
+ghost use Rattle.upon_types.specs.View.{view};
+ghost use Rattle.upon_std.specs.Ordering.Distinct.{distinct};
+
+use crate::ordering::spelling::spelling;
+use std::alloc::{AllocError, Global};
+use std::collections::BTreeSet;
+use upon_types::value::Value;
+
+// A copy of the first of items that are the same, in their order.
+pub(crate) fn distinct(alloc: Global, items: &[Value]) -> Result<Vec<Value>, AllocError>
+    ensures { IfOk result (λ kept. map view kept.items ≡ distinct val_eq (map view items.now)) }
+{
+    let mut kept = Vec::new(alloc);
+    let mut seen = BTreeSet::new(alloc);
+    for item in items {
+        let is_new = seen.insert(spelling(alloc, item)?)?;
+        if is_new {
+            kept.push(item.try_clone()?)?;
+        }
+    }
+    Ok(kept)
+}

@@ -1,5 +1,0 @@
-mod Powers
-mod Parts
-mod Items
-mod LawLemmas
-mod Joining

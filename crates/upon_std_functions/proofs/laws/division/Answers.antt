@@ -1,5 +1,0 @@
-use Rattle.std.proofs.lemmas.Int.{quot-rem}
-use Rattle.upon_std_functions.proofs.laws.division.Goals as goal
-
-pub returns : goal.returns
-returns c = quot-rem

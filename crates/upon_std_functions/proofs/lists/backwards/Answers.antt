@@ -1,7 +1,0 @@
-use Rattle.std.proofs.Common.{ap, ◌∙◌}
-use Rattle.upon_types.specs.View.{vals_view}
-use Rattle.upon_std_functions.proofs.Items.{vals_view-reverse}
-use Rattle.upon_std_functions.proofs.lists.backwards.Goals as goal
-
-pub returns : goal.returns
-returns c = ap vals_view c.reverse.ensures.items ∙ vals_view-reverse c.args.items.items

@@ -1,9 +1,0 @@
-mod Rising
-mod Ranks
-mod Repeats
-mod Readings
-mod Seen
-mod Giving
-mod LawLemmas
-mod Groups
-mod Storing

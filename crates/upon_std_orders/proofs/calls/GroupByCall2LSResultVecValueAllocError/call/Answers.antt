@@ -1,7 +1,0 @@
-use Rattle.upon_std_orders.specs.Grouping.{grouped}
-use Rattle.upon_std_functions.specs.Items.{value_at_key}
-use Rattle.upon_std_orders.proofs.Giving.{gives_values}
-use Rattle.upon_std_orders.proofs.calls.GroupByCall2LSResultVecValueAllocError.call.Goals as goal
-
-pub returns : goal.returns
-returns c = gives_values c.grouped.result (grouped (value_at_key c.args.second.now)) c.args.first.now c.grouped.ensures

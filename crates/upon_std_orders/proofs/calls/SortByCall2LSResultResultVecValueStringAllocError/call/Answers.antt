@@ -1,6 +1,0 @@
-use Rattle.upon_std_functions.specs.Items.{value_at_key}
-use Rattle.upon_std_orders.proofs.Giving.{gives_sorted}
-use Rattle.upon_std_orders.proofs.calls.SortByCall2LSResultResultVecValueStringAllocError.call.Goals as goal
-
-pub returns : goal.returns
-returns c = gives_sorted c.sorted.result (value_at_key c.args.second.now) c.args.first.now c.sorted.ensures

@@ -1,5 +1,0 @@
-use Rattle.upon_std_orders.proofs.LawLemmas.{sorted_permutes, sorted_ascends, sorted_stays}
-use Rattle.upon_std_orders.proofs.laws.sorted.Goals as goal
-
-pub returns : goal.returns
-returns c = record { permutation = sorted_permutes; ascends = sorted_ascends; stable = sorted_stays }

@@ -1,6 +1,0 @@
-mod Items
-mod Integers
-mod Pieces
-mod Appending
-mod Sums
-mod LawLemmas

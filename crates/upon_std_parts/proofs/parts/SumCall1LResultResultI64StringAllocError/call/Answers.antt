@@ -1,5 +1,0 @@
-use Rattle.upon_std_parts.proofs.Sums.{gives_sum}
-use Rattle.upon_std_parts.proofs.parts.SumCall1LResultResultI64StringAllocError.call.Goals as goal
-
-pub returns : goal.returns
-returns c = gives_sum c.sum.result c.args.first.now c.sum.ensures

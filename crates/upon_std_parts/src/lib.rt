@@ -1,9 +1,0 @@
-// Functions that take lists and texts apart or put them together. An engine begins without them; its user adds those
-// wanted.
-#![tactic(auto)]
-
-pub mod laws;
-mod lists;
-mod numbers;
-pub mod parts;
-mod texts;

@@ -1,4 +1,0 @@
-use Rattle.upon_std_writing.proofs.json_text.write_copy.Goals as goal
-
-pub returns-in-Ok : goal.returns-in-Ok
-returns-in-Ok c = c.write_string.ensures c.args.text.now c.in-Ok.ensures

@@ -1,7 +1,0 @@
-use Rattle.std.proofs.Common.{refl}
-use Rattle.base64.proofs.EngineFacts.{decode_of-encode_of}
-use Rattle.base64.specs.Engines.{standard}
-use Rattle.upon_std_writing.proofs.laws.base64_again.Goals as goal
-
-pub returns : goal.returns
-returns c = λ bytes small. decode_of-encode_of standard bytes refl small

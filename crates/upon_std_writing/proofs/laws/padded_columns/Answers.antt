@@ -1,5 +1,0 @@
-use Rattle.upon_std_writing.proofs.Blanks.{padded_left-columns, padded_right-columns, centered-columns}
-use Rattle.upon_std_writing.proofs.laws.padded_columns.Goals as goal
-
-pub returns : goal.returns
-returns c = record { left = padded_left-columns; right = padded_right-columns; center = centered-columns }

@@ -1,5 +1,0 @@
-use Rattle.upon_std_writing.proofs.UrlLemmas.{url_text-clean, url_text-decoded}
-use Rattle.upon_std_writing.proofs.laws.url_again.Goals as goal
-
-pub returns : goal.returns
-returns c = record { clean = url_text-clean; again = url_text-decoded }

@@ -1,3 +1,0 @@
-pub mod Contexts
-pub mod Fitting
-pub mod Written

@@ -1,0 +1,240 @@
+// What is shown: a value through a formatter, into an output.
+ghost use Rattle.std.specs.Prelude.{◌≡◌, ◌∷◌, [], false, length};
+ghost use Rattle.std.specs.Fmt.{signed_decimal};
+ghost use Rattle.upon_types.specs.Answers.{Formatted};
+ghost use Rattle.upon_types.specs.AstPath.{ident_of};
+ghost use Rattle.upon_types.specs.Val.{Val};
+ghost use Rattle.upon_types.specs.View.{view};
+ghost use Rattle.upon_lookup.specs.Finding.{Finding};
+ghost use Rattle.upon_lookup.specs.Seen.{made_view};
+ghost use Rattle.upon_meaning_spec.specs.Emission.{callable_outcome, format_outcome, nothing_but, or_fault};
+ghost use Rattle.upon_meaning_spec.specs.Evaluation.{operand};
+ghost use Rattle.upon_meaning_spec.specs.DefaultFormat.{bool_text, format_text};
+ghost use Rattle.upon_meaning_spec.specs.CallFaults.{unknown_callable};
+ghost use Rattle.upon_fmt.specs.Formatter.{text_of, is_marked, Formats, HasEnd};
+ghost use Rattle.upon_vm_steps.specs.Halt.{Emits, GivesFinding, Marks};
+ghost use Rattle.upon_vm_steps.specs.Operands.{row};
+
+use crate::callables::{Applied, Callables};
+use crate::calls::report;
+use crate::fault::{self, Fault, FaultKind, Halt};
+use itoa::Buffer;
+use std::alloc::Global;
+use std::slice;
+use upon_fmt::fmt::{self, Formatter};
+use upon_fmt::output::Output;
+use upon_lookup::value::Made;
+use upon_types::types::Span;
+use upon_types::types::ast::Ident;
+use upon_types::value::{Value, ValueCow};
+
+/// Shows a value by the default formatter, whose fault lies at the span.
+pub fn emit_value<C: Callables, W: Output>(
+    alloc: Global,
+    callables: &C,
+    value: &Value,
+    span: Span,
+    out: &mut W,
+) -> Result<(), Halt>
+    ensures same { W.holds out.new ≡ W.holds out.old }
+    ensures mark { Marks result (W.mark out.old) (W.mark out.new) }
+    ensures emitted { Emits
+        result
+        (W.given out.old)
+        (W.given out.new)
+        (format_outcome (C.default_formatter callables.now (view value.now)) span) }
+{
+    if callables.is_plain() {
+        match value {
+            Value::String(text) => return give_text(text.as_str(), out),
+            Value::Integer(number) => return give_number(*number, out),
+            Value::Bool(truth) => return give_text(word_of(*truth), out),
+            _ => {}
+        }
+    }
+    let mut f = Formatter::new(alloc);
+    let end = callables.default_format(&mut f, value);
+    give(&f, end, span, out)
+}
+
+/// Does the same of what a loop says of itself. A text is copied for a formatter alone.
+pub fn emit_made<C: Callables, W: Output>(
+    alloc: Global,
+    callables: &C,
+    made: Made<'_>,
+    span: Span,
+    out: &mut W,
+) -> Result<(), Halt>
+    ensures same { W.holds out.new ≡ W.holds out.old }
+    ensures mark { Marks result (W.mark out.old) (W.mark out.new) }
+    ensures emitted { Emits
+        result
+        (W.given out.old)
+        (W.given out.new)
+        (format_outcome (C.default_formatter callables.now (made_view made.entry)) span) }
+{
+    match made {
+        Made::Text(text) if callables.is_plain() => give_text(text, out),
+        made => match made.to_value(alloc) {
+            Ok(value) => emit_value(alloc, callables, &value, span, out),
+            Err(_) => Err(Halt::Memory),
+        },
+    }
+}
+
+/// Shows what the formatter or the function of a name makes of operands. A formatter writes into `f`, whose text and
+/// mark are taken away first.
+pub fn emit_with<C: Callables, W: Output>(
+    alloc: Global,
+    callables: &C,
+    name: &Ident,
+    values: &[ValueCow],
+    spans: &[Span],
+    whole: Span,
+    f: &mut Formatter,
+    out: &mut W,
+) -> Result<(), Halt>
+    requires { length values.now ≡ length spans.now }
+    ensures same { W.holds out.new ≡ W.holds out.old }
+    ensures mark { Marks result (W.mark out.old) (W.mark out.new) }
+    ensures emitted { Emits
+        result
+        (W.given out.old)
+        (W.given out.new)
+        (callable_outcome (C.default_formatter callables.now) (ident_of name.now) whole (row values.now spans.now)
+        (C.callables callables.now name.now.name)) }
+{
+    f.clear();
+    match callables.apply(alloc, name.name.as_str(), &mut *f, values) {
+        Applied::Formatted(end) => give(&*f, end, name.span, out),
+        Applied::Called(answer) => {
+            let found = report(alloc, answer, name, values, spans, name.span);
+            emit_found(alloc, callables, found, whole, out)
+        }
+        Applied::Miscounted => Err(fault::formatter_expects(alloc, values.len(), name.span)),
+        Applied::Unknown => emit_unknown(alloc, name, out),
+    }
+}
+
+/// Shows what the formatter or the function of a name makes of one value of a span, as [`emit_with`] does.
+#[inline(always)]
+pub fn emit_with_one<C: Callables, W: Output>(
+    alloc: Global,
+    callables: &C,
+    name: &Ident,
+    value: &Value,
+    span: Span,
+    whole: Span,
+    f: &mut Formatter,
+    out: &mut W,
+) -> Result<(), Halt>
+    ensures same { W.holds out.new ≡ W.holds out.old }
+    ensures mark { Marks result (W.mark out.old) (W.mark out.new) }
+    ensures emitted { Emits
+        result
+        (W.given out.old)
+        (W.given out.new)
+        (callable_outcome (C.default_formatter callables.now) (ident_of name.now) whole
+        (operand (view value.now) span ∷ [])
+        (C.callables callables.now name.now.name)) }
+{
+    let given = ValueCow::Borrowed(value);
+    let values = slice::from_ref(&given);
+    let spans = slice::from_ref(&span);
+    emit_with(alloc, callables, name, values, spans, whole, f, out)
+}
+
+// The name is no callable's.
+fn emit_unknown<W: Output>(alloc: Global, name: &Ident, out: &W) -> Result<(), Halt>
+    ensures { Emits result (W.given out.now) (W.given out.now) (nothing_but (unknown_callable name.now.span)) }
+{
+    let _ = out;
+    Err(fault::wrong(alloc, "unknown formatter or function", name.span))
+}
+
+// A function's value goes through the default formatter, whose fault lies at the whole.
+#[inline(always)]
+fn emit_found<C: Callables, W: Output>(
+    alloc: Global,
+    callables: &C,
+    found: Result<Value, Halt>,
+    whole: Span,
+    out: &mut W,
+) -> Result<(), Halt>
+    ensures same { W.holds out.new ≡ W.holds out.old }
+    ensures mark { Marks result (W.mark out.old) (W.mark out.new) }
+    ensures emitted { (x : Finding Val) → GivesFinding found x → Emits
+        result
+        (W.given out.old)
+        (W.given out.new)
+        (or_fault x (λ v. format_outcome (C.default_formatter callables.now v) whole)) }
+{
+    match found {
+        Ok(value) => emit_value(alloc, callables, &value, whole, out),
+        Err(halt) => Err(halt),
+    }
+}
+
+// A text goes out as it is.
+#[inline(always)]
+fn give_text<W: Output>(text: &str, out: &mut W) -> Result<(), Halt>
+    ensures same { W.holds out.new ≡ W.holds out.old }
+    ensures mark { Marks result (W.mark out.old) (W.mark out.new) }
+    ensures emitted { (span : Span) → Emits
+        result
+        (W.given out.old)
+        (W.given out.new)
+        (format_outcome (format_text text.now) span) }
+{
+    match out.give(text) {
+        Ok(()) => Ok(()),
+        Err(_) => Err(Halt::Output),
+    }
+}
+
+// The word of a truth value.
+fn word_of(truth: bool) -> &'static str
+    ensures { result.now ≡ bool_text truth }
+{
+    if truth { "true" } else { "false" }
+}
+
+// An integer goes out in decimal.
+fn give_number<W: Output>(number: i64, out: &mut W) -> Result<(), Halt>
+    ensures same { W.holds out.new ≡ W.holds out.old }
+    ensures mark { Marks result (W.mark out.old) (W.mark out.new) }
+    ensures emitted { (span : Span) → Emits
+        result
+        (W.given out.old)
+        (W.given out.new)
+        (format_outcome (format_text (signed_decimal number)) span) }
+{
+    let mut digits = Buffer::new();
+    give_text(digits.format(number), out)
+}
+
+// What was written goes out, also before the formatter's fault; where memory was refused, nothing does.
+fn give<W: Output>(f: &Formatter, end: fmt::Result, span: Span, out: &mut W) -> Result<(), Halt>
+    ensures same { W.holds out.new ≡ W.holds out.old }
+    ensures mark { Marks result (W.mark out.old) (W.mark out.new) }
+    ensures emitted { (o : Formatted) → (is_marked f.now ≡ false → (text_of f.now ≡ o.text) × HasEnd end o.end) → Emits
+        result
+        (W.given out.old)
+        (W.given out.new)
+        (format_outcome o span) }
+{
+    let Some(text) = f.text() else {
+        return Err(Halt::Memory);
+    };
+    if out.give(text).is_err() {
+        return Err(Halt::Output);
+    }
+    match end {
+        Ok(()) => Ok(()),
+        Err(error) => Err(Halt::Fault(Fault {
+            kind: FaultKind::Format,
+            reason: error.message(),
+            span,
+        })),
+    }
+}
