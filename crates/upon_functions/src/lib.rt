@@ -1,4 +1,4 @@
-// The functions that templates call: what a function is, what it takes and returns, and functions made of Rust's callables.
+// The functions that templates call: what a function is, what it takes and returns, and functions made of callables.
 #![tactic(auto)]
 
 pub mod arguments;

@@ -1,4 +1,5 @@
-// The standard functions, in groups, and all of them under one type. An engine begins without functions; its user adds those wanted.
+// The standard functions, in groups, and all of them under one type. An engine begins without functions; its user adds
+// those wanted.
 #![tactic(auto)]
 
 pub mod basic;
