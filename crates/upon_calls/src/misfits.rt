@@ -10,10 +10,10 @@ use crate::failure::Failure;
 use crate::work::Pages;
 use std::alloc::{AllocError, Global};
 use upon_check::accepts::accepts;
-use upon_engine::engine::Engine;
-use upon_engine::texts::{AnyEngine, EngineTexts};
 use upon_check::pictures::{Pictures, show_refusal};
 use upon_check::reasons::Known;
+use upon_engine::engine::Engine;
+use upon_engine::texts::{AnyEngine, EngineTexts};
 use upon_shape::shape::Shape;
 
 /// Returns the pictures of where pages may fail on values of a shape, of at most a hundred places. The text is empty if

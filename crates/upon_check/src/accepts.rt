@@ -9,14 +9,14 @@ ghost use Rattle.upon_check.specs.EndsOn.{EndsOn, EndsAs};
 ghost use Rattle.upon_check.specs.Verdict.{IsAcceptedBy};
 
 use crate::accepted::Accepted;
+use crate::declared::Declared;
 use crate::levels::how_it_ends;
+use crate::plan::{Plan, Planned};
 use crate::planning::plan_for;
 use crate::refusal::{Misfit, Refusal};
+use crate::scope::Scope;
 use crate::verdict::{add, add_misfits_of_plan, doubts_in};
 use std::alloc::Global;
-use crate::declared::Declared;
-use crate::plan::{Plan, Planned};
-use crate::scope::Scope;
 use upon_engine::engine::Engine;
 use upon_engine::texts::{AnyEngine, EngineTexts};
 use upon_shape::shape::Shape;

@@ -1,6 +1,6 @@
 // The hint below a picture: which names are there that are near to the one that is written.
-use std::alloc::{AllocError, Global};
 use crate::doubt::Unsure;
+use std::alloc::{AllocError, Global};
 use upon_near::said::near_text;
 use upon_shape::shape::{Keys, Shape};
 

@@ -8,11 +8,11 @@ ghost use Rattle.upon_check.specs.Levels.{AddsAccepted, IsAcceptedAs};
 ghost use Rattle.upon_check.specs.Verdict.{IsAcceptedBy};
 
 use crate::accepted::{Accepted, MOST_DEEP};
+use crate::declared::Declared;
+use crate::plan::{Plan, Planned};
 use crate::refusal::Refusal;
 use crate::verdict::doubts_in;
 use std::alloc::{AllocError, Global};
-use crate::declared::Declared;
-use crate::plan::{Plan, Planned};
 use upon_engine::engine::Engine;
 
 /// Returns how a template ends that a plan accepts: within which depth, if the templates of the plan have no ring that

@@ -4,8 +4,8 @@ ghost use Rattle.upon_types.specs.Span.{LiesIn};
 
 use crate::hints::{hint_of, with_hint};
 use crate::reasons::{Known, TOO_DEEP, reason_of};
-use std::alloc::{AllocError, Global};
 use crate::refusal::{Misfit, Refusal};
+use std::alloc::{AllocError, Global};
 use upon_engine::engine::Engine;
 use upon_types::error::{Error, ErrorKind};
 use upon_types::types::Span;

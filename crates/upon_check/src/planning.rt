@@ -1,13 +1,13 @@
 // A plan for a template: which templates it includes, also by others, and what is known where they are. What a plan
 // lacks is in doubt where it is included, so nothing is to be shown of how it is made.
 
-use crate::refusal::Refusal;
-use crate::verdict::doubts_in;
-use std::alloc::Global;
 use crate::declared::Declared;
 use crate::doubt::{Doubt, Unsure};
 use crate::plan::{Plan, Planned};
+use crate::refusal::Refusal;
 use crate::scope::Scope;
+use crate::verdict::doubts_in;
+use std::alloc::Global;
 use upon_engine::engine::Engine;
 
 // How many templates a plan has at most, each as often as what is known there differs.

@@ -1,8 +1,8 @@
 // The line that says why a template may fail at a place.
-use crate::told::{all_told, told};
-use std::alloc::{AllocError, Global};
 use crate::declared::{Declared, DeclaredCallable};
 use crate::doubt::Unsure;
+use crate::told::{all_told, told};
+use std::alloc::{AllocError, Global};
 use upon_engine::engine::Engine;
 use upon_shape::shape::Shape;
 

@@ -1,7 +1,7 @@
 // Why a template is not accepted.
 
-use std::alloc::AllocError;
 use crate::doubt::Doubt;
+use std::alloc::AllocError;
 use upon_types::types::Span;
 
 /// A place in a template where it may fail, and what is not sure there.

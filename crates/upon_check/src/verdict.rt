@@ -6,13 +6,13 @@ ghost use Rattle.upon_check.specs.Plan.{plan_view, planned_view};
 ghost use Rattle.upon_engine.specs.Engine.{engine_templates};
 ghost use Rattle.upon_check.specs.Verdict.{IsAcceptedBy};
 
-use crate::refusal::{Misfit, Refusal};
-use std::alloc::{AllocError, Global};
 use crate::declared::Declared;
 use crate::doubt::Doubt;
 use crate::plan::{Plan, Planned};
+use crate::refusal::{Misfit, Refusal};
 use crate::unchecked::Unchecked;
 use crate::walk::doubts_of;
+use std::alloc::{AllocError, Global};
 use upon_engine::engine::Engine;
 
 /// Returns where a template is in doubt, where includes are those that a plan has.

@@ -11,8 +11,8 @@ ghost use Rattle.upon_compiler.specs.Events.{include_with_event};
 
 mod branches;
 
-use std::alloc::{AllocError, Global};
 use crate::types::program::Instr;
+use std::alloc::{AllocError, Global};
 use upon_types::types::Span;
 use upon_types::types::ast::{Ident, String};
 

@@ -6,10 +6,10 @@ ghost use Rattle.upon_functions.specs.Outcome.{Returned, Gives};
 ghost use Rattle.upon_functions.specs.Says.{Says, arguments_view};
 ghost use Rattle.upon_types.specs.Val.{Val};
 
-use std::alloc::Global;
 use crate::arguments::OwnedArgument;
 use crate::function::CallError;
 use crate::returns::FunctionReturn;
+use std::alloc::Global;
 use upon_types::value::{Value, ValueCow};
 
 /// Names what a closure answers.

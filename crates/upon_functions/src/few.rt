@@ -4,11 +4,11 @@ ghost use Rattle.upon_functions.specs.Adapters.{adapter_answer};
 ghost use Rattle.upon_functions.specs.Outcome.{Returned, Gives};
 ghost use Rattle.upon_types.specs.Val.{Val};
 
-use std::alloc::Global;
-use std::marker::PhantomData;
 use crate::arguments::OwnedArgument;
 use crate::function::{CallError, Function};
 use crate::returns::FunctionReturn;
+use std::alloc::Global;
+use std::marker::PhantomData;
 use upon_types::value::{Value, ValueCow};
 
 /// A callable without arguments.

@@ -11,9 +11,9 @@ ghost use Rattle.upon_types.specs.Span.{LiesIn, slice};
 ghost use Rattle.upon_lexer.specs.LiteralReasons.{report_of};
 ghost use Rattle.upon_lexer.specs.Literals.{fault_of_digits, before_of};
 
+use crate::compile::chars::char_at;
 use crate::literal_fault::{LiteralFault, Refusal};
 use std::alloc::{AllocError, Global};
-use crate::compile::chars::char_at;
 use upon_types::types::{Span, Token, slice};
 
 /// What is wrong with the digits of a number.

@@ -12,8 +12,8 @@ ghost use Rattle.upon_engine.specs.Template.{template_tree};
 
 use crate::template_names::{begins, count_after};
 use std::alloc::AllocError;
-use upon_engine::template::Template;
 use upon_compiler::types::program::Instr;
+use upon_engine::template::Template;
 use upon_types::types::ast::Access;
 
 /// What begins a path: a name, or an index.

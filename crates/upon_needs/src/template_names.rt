@@ -14,8 +14,8 @@ ghost use Rattle.upon_engine.specs.Template.{template_tree};
 
 use std::alloc::{AllocError, Global};
 use std::collections::BTreeSet;
-use upon_engine::template::Template;
 use upon_compiler::types::program::Instr;
+use upon_engine::template::Template;
 use upon_types::types::ast::{Access, LoopVars};
 
 /// Returns the name that begins an instruction's path.

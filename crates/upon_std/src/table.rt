@@ -1,16 +1,16 @@
 // All standard functions under one type, each with the name under which templates call it.
 ghost use Rattle.std.specs.Prelude.{◌≡◌};
 
-use std::alloc::Global;
-use upon_functions::function::{CallError, Function};
 use crate::basic::comparing::{Comparing, Relation};
 use crate::basic::integers::{Integers, Operation, Sign};
 use crate::basic::lists::Lists;
 use crate::basic::table::StandardFunction as Basic;
 use crate::basic::texts::Texts;
-use crate::ordering::orders::Orders;
 use crate::cutting::parts::Parts;
 use crate::encoding::writing::Writing;
+use crate::ordering::orders::Orders;
+use std::alloc::Global;
+use upon_functions::function::{CallError, Function};
 use upon_types::value::{Value, ValueCow};
 
 /// A standard function. [`ALL`] has each of them.

@@ -7,14 +7,14 @@ use crate::form::{Form, ITEMS, ORDERED};
 use crate::rows::{and_of_any, for_each, only};
 use std::alloc::{AllocError, Global};
 use upon_check::declared::Signature;
-use upon_std::table::StandardFunction;
 use upon_std::basic::comparing::Comparing;
 use upon_std::basic::lists::Lists;
 use upon_std::basic::table::StandardFunction as Basic;
 use upon_std::basic::texts::Texts;
-use upon_std::ordering::orders::Orders;
 use upon_std::cutting::parts::Parts;
 use upon_std::encoding::writing::Writing;
+use upon_std::ordering::orders::Orders;
+use upon_std::table::StandardFunction;
 
 // Returns what a standard function takes and gives.
 pub(crate) fn signatures_of(

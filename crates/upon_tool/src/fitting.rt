@@ -18,9 +18,9 @@ use upon_tool_data::sources::STANDARD;
 use upon_tool_io::arguments::{FitCall, ShapeCall};
 use upon_tool_io::files::ReadFault;
 use upon_tool_messages::failure::{Failure, report};
-use upon_tool_pages::sources::{FolderFile, files_in, text_of};
 use upon_tool_pages::contexts::shape_of;
 use upon_tool_pages::fitting::{OnShape, fits};
+use upon_tool_pages::sources::{FolderFile, files_in, text_of};
 use upon_tool_pages::written::send_schema;
 
 /// Checks files, and whether they end without a fault on contexts, and returns the status.

@@ -17,7 +17,6 @@ use std::rt::Files;
 use std::time::Clock;
 use upon_engine::within::Limits;
 use upon_std::table::{ALL, StandardFunction};
-use upon_tool_messages::judge::Declared;
 use upon_tool_data::context::context;
 use upon_tool_data::sources::STANDARD;
 use upon_tool_data::words::{DataWords, check};
@@ -27,6 +26,7 @@ use upon_tool_io::arguments::{
 use upon_tool_many::build::Build;
 use upon_tool_many::each::Each;
 use upon_tool_messages::failure::{Failure, report};
+use upon_tool_messages::judge::Declared;
 use upon_tool_messages::terminal::Terminal;
 use upon_tool_pages::rendering::{Page, is_limited};
 use upon_tool_pages::sources::{files_in, text_of};

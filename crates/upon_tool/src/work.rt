@@ -21,7 +21,6 @@ use upon_engine::texts::{AnyEngine, EngineTexts};
 use upon_engine::{laws_of_templates, theorem};
 use upon_html::formatters::Verbatim;
 use upon_std::table::StandardFunction;
-use upon_tool_messages::judge::Declared;
 use upon_tool_data::sources::STANDARD;
 use upon_tool_io::arguments::Escape;
 use upon_tool_io::output::{Replacement, WriteFault};
@@ -29,12 +28,13 @@ use upon_tool_many::build::Build;
 use upon_tool_many::each::Each;
 use upon_tool_messages::call_check::CallCheck;
 use upon_tool_messages::failure::Failure;
+use upon_tool_messages::judge::Declared;
 use upon_tool_messages::library::{Library, Refusal};
 use upon_tool_pages::check::{check_file, check_text};
+use upon_tool_pages::fitting::language_for;
 use upon_tool_pages::many::{show_build, show_each};
 use upon_tool_pages::rendering::{Page, explain, known_of, send, show};
 use upon_tool_pages::sources::{FolderFile, text_of};
-use upon_tool_pages::fitting::language_for;
 use upon_types::value::Value;
 
 /// What an engine is to hold.

@@ -4,13 +4,13 @@ ghost use Rattle.std.specs.Prelude.{◌≡◌, ◌≤◌, ◌↔◌, IfOk, OnErr
 ghost use Rattle.upon_types.specs.Span.{LiesIn};
 ghost use Rattle.upon_tool_messages.specs.CallCheck.{checked_callables, is_right_so_far};
 
+use crate::calls::{FoundCall, calls_in};
 use crate::failure::report_hinted;
+use crate::judge::{CallFault, Declared, fault_of};
 use crate::near::callable_hint;
 use crate::picture::PICTURES;
 use std::alloc::{AllocError, Global};
 use std::io;
-use crate::calls::{FoundCall, calls_in};
-use crate::judge::{CallFault, Declared, fault_of};
 use upon_types::error::{Error, ErrorKind};
 use upon_types::types::Span;
 

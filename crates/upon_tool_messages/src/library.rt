@@ -7,12 +7,12 @@ ghost use Rattle.upon_tool_messages.specs.Library.{library_callables, library_na
 
 use crate::failure::{is_memory, report_fault};
 use crate::includes::including;
+use crate::judge::Declared;
 use std::alloc::{AllocError, Global};
 use std::collections::BTreeMap;
 use std::io;
 use upon_engine::engine::Engine;
 use upon_needs::template_names::includes;
-use crate::judge::Declared;
 use upon_tool_io::files::ReadFault;
 use upon_types::error::Error;
 

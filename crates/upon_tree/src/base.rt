@@ -11,13 +11,13 @@ ghost use Rattle.upon_tag_parser.specs.TagParsing.{IfStuck, IsStuck, StartsBase}
 ghost use Rattle.upon_tree.specs.Opened.{tree_reader_text, IsTreeStep};
 ghost use Rattle.upon_tree.specs.Opened.{CallTreeGoesOn, OpenTreeGoesOn, OpenTreeStuck};
 
+use crate::ast::{BaseExpr, Ident};
 use crate::expression::TreeReader;
 use crate::made::{arguments_at, call_base, call_without_arguments, literal_base, path_base};
 use crate::opened::{Applied, Open, Step};
 use upon_lexer::literal::Lexed;
 use upon_tag_parser::compile::parse::path::{Failure, Parsed, expect, take, take_op};
 use upon_tag_parser::compile::parse::want::Want;
-use crate::ast::{BaseExpr, Ident};
 use upon_types::types::{Span, Token};
 
 impl<'a> TreeReader<'a> {

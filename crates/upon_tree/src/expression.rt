@@ -10,13 +10,13 @@ ghost use Rattle.upon_tree.specs.Opened.{EndTreeGoesOn, EndTreeStuck};
 ghost use Rattle.upon_tree.specs.Opened.{OpenTreeGoesOn, OpenTreeStuck, PartTreeGoesOn};
 ghost use Rattle.upon_tree.specs.Opened.{PartTreeStuck, ReadsTreeOn, ReadsTreeStuck};
 
+use crate::ast::{BaseExpr, Expr};
 use crate::made::{arguments_at, filter_with, filter_without_arguments, paren_base, part_of};
 use crate::opened::{Applied, Open, Receiver, Step};
 use std::alloc::AllocError;
 use upon_lexer::literal::Lexed;
 use upon_tag_parser::compile::parse::path::{Failure, Parsed, TagParser, expect, take};
 use upon_tag_parser::compile::parse::want::Want;
-use crate::ast::{BaseExpr, Expr};
 use upon_types::types::{Span, Token};
 
 /// Reads trees from the tokens of tags.

@@ -11,13 +11,13 @@ ghost use Rattle.upon_types.specs.Expression.{list as list_expression, mapping};
 ghost use Rattle.upon_tree.specs.Opened.{tree_reader_text, IsTreeStep, ListTreeGoesOn};
 ghost use Rattle.upon_tree.specs.Opened.{MapTreeGoesOn, OpenTreeGoesOn, OpenTreeStuck};
 
+use crate::ast::{BaseExpr, String};
 use crate::expression::TreeReader;
 use crate::made::{list_base, map_base};
 use crate::opened::{Entries, Items, Open, Step};
 use upon_lexer::literal::Lexed;
 use upon_tag_parser::compile::parse::path::{Parsed, expect, take};
 use upon_tag_parser::compile::parse::want::Want;
-use crate::ast::{BaseExpr, String};
 use upon_types::types::{Span, Token};
 
 // A list, from its opening bracket to its closing one.

@@ -6,10 +6,10 @@ ghost use Rattle.upon_types.specs.Expression.{arguments, base, call, filtered, l
 ghost use Rattle.upon_types.specs.Expression.{paren, var};
 ghost use Rattle.upon_types.specs.View.{view};
 
-use std::alloc::{AllocError, Global};
 use crate::ast::{
     Args, BaseExpr, Call, Expr, Filter, Ident, List, Literal, Map, Paren, String, Var,
 };
+use std::alloc::{AllocError, Global};
 use upon_types::types::Span;
 
 /// Returns the expression of a path.

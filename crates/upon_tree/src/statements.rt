@@ -10,12 +10,10 @@ ghost use Rattle.upon_tree.specs.Statements.{builder_state, nothing_read, statem
 ghost use Rattle.upon_tree.specs.Statements.{block_opened, branch_begun, tree_block_ended, tree_else_if_begun};
 ghost use Rattle.upon_tree.specs.Statements.{branch_of, whole_block};
 
+use crate::ast::{Expr, ForLoop, IfElse, Include, InlineExpr, Scope, Stmt, String, Template, With};
 use std::alloc::{AllocError, Global};
 use std::mem;
 use upon_tag_parser::compile::parse::kind::Opening;
-use crate::ast::{
-    Expr, ForLoop, IfElse, Include, InlineExpr, Scope, Stmt, String, Template, With,
-};
 use upon_types::types::Span;
 
 // A block that is open.

@@ -11,8 +11,8 @@ ghost use Rattle.upon_vm_steps.specs.Machine.{active_of};
 
 use std::alloc::{AllocError, Global};
 use upon_types::error::{Error, ErrorKind};
-use upon_vm_steps::fault::{Fault, FaultKind, Halt};
 use upon_vm_steps::act::Stop;
+use upon_vm_steps::fault::{Fault, FaultKind, Halt};
 use upon_vm_steps::machine::Running;
 
 /// Why a run ends before its program does.

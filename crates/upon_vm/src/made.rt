@@ -5,8 +5,8 @@ use crate::weight::{PLACE, weight};
 use upon_compiler::types::program::Instr;
 use upon_lookup::source::ValueSource;
 use upon_types::value::ValueCow;
-use upon_vm_steps::operands::Operands;
 use upon_vm_steps::machine::Machine;
+use upon_vm_steps::operands::Operands;
 use upon_vm_steps::source::{Program, ProgramSource};
 use upon_vm_steps::step::fetch;
 

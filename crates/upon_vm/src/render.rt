@@ -19,8 +19,8 @@ use upon_fmt::output::Output;
 use upon_lookup::source::ValueSource;
 use upon_render::stack::Stack;
 use upon_vm_steps::callables::Callables;
-use upon_vm_steps::operands::Operands;
 use upon_vm_steps::machine::{Machine, Running};
+use upon_vm_steps::operands::Operands;
 use upon_vm_steps::source::ProgramSource;
 
 /// Renders a program over a stack without frames: what its template means by itself.

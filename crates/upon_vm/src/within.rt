@@ -39,8 +39,8 @@ use upon_types::error::{self, Error};
 use upon_types::types::Span;
 use upon_vm_steps::callables::Callables;
 use upon_vm_steps::fault::{Fault, FaultKind};
-use upon_vm_steps::operands::Operands;
 use upon_vm_steps::machine::{Machine, Running};
+use upon_vm_steps::operands::Operands;
 use upon_vm_steps::source::ProgramSource;
 
 /// How a run within limits ends.

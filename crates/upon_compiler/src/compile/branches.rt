@@ -9,8 +9,8 @@ ghost use Rattle.upon_compiler.specs.After.{after_event, between_branches, branc
 ghost use Rattle.upon_compiler.specs.Events.{opening_event, else_if_event, else_event, end_event};
 
 use super::{Compiler, OpenBlock};
-use std::alloc::AllocError;
 use crate::types::program::Instr;
+use std::alloc::AllocError;
 use upon_types::types::Span;
 use upon_types::types::ast::LoopVars;
 

@@ -6,12 +6,12 @@ ghost use Rattle.upon_functions.specs.Outcome.{Returned, Gives};
 ghost use Rattle.upon_types.specs.Val.{Val, text_val, map_val};
 ghost use Rattle.upon_types.specs.View.{view, entries_view};
 
-use std::alloc::Global;
-use std::collections::BTreeMap;
-use std::marker::PhantomData;
 use crate::arguments::{OwnedArgument, lent};
 use crate::function::{CallError, Function};
 use crate::returns::FunctionReturn;
+use std::alloc::Global;
+use std::collections::BTreeMap;
+use std::marker::PhantomData;
 use upon_types::value::{Value, ValueCow};
 
 /// A callable of a lent map and an owned argument.

@@ -6,11 +6,11 @@ ghost use Rattle.upon_functions.specs.Outcome.{Returned, Gives};
 ghost use Rattle.upon_types.specs.Val.{Val, text_val};
 ghost use Rattle.upon_types.specs.View.{view};
 
-use std::alloc::Global;
-use std::marker::PhantomData;
 use crate::arguments::{OwnedArgument, lent};
 use crate::function::{CallError, Function};
 use crate::returns::FunctionReturn;
+use std::alloc::Global;
+use std::marker::PhantomData;
 use upon_types::value::{Value, ValueCow};
 
 /// A callable of a lent text and an owned argument.

@@ -6,8 +6,8 @@ ghost use Rattle.upon_std.specs.Basic.Choices.{choose_answer};
 pub use crate::basic::order::Relation;
 use crate::basic::order::{is_true, order, refusal};
 use std::alloc::{AllocError, Global};
-use upon_functions::{Call1V, Call2VV, Fn1V, Fn2VV};
 use upon_functions::function::{CallError, Function};
+use upon_functions::{Call1V, Call2VV, Fn1V, Fn2VV};
 use upon_types::value::{Value, ValueCow};
 
 /// A function that compares values, or chooses among them. Values that count as false are those of `if`.

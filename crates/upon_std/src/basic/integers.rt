@@ -1,8 +1,8 @@
 // Functions of integers of 64 bits. None wraps: what 64 bits do not hold is refused.
 use crate::basic::decimal::text_with_places;
 use std::alloc::{AllocError, Global};
-use upon_functions::{Call1, Call2, Fn1, Fn2};
 use upon_functions::function::{CallError, Function};
+use upon_functions::{Call1, Call2, Fn1, Fn2};
 use upon_types::value::{Value, ValueCow};
 
 /// What is made of two integers.

@@ -11,11 +11,9 @@ use crate::basic::copies::copy_at;
 use crate::basic::joined::joined;
 use std::alloc::{AllocError, Global};
 use std::collections::BTreeMap;
-use upon_functions::{
-    Call1, Call1L, Call1M, Call1V, Call2LS, Fn1, Fn1L, Fn1M, Fn1V, Fn2LS,
-};
 use upon_functions::arguments::lent;
 use upon_functions::function::{CallError, Function};
+use upon_functions::{Call1, Call1L, Call1M, Call1V, Call2LS, Fn1, Fn1L, Fn1M, Fn1V, Fn2LS};
 use upon_types::value::{Value, ValueCow};
 
 /// A function of lists and maps.

@@ -7,8 +7,8 @@ ghost use Rattle.std.specs.StrCase.Upper.{str_to_uppercase};
 ghost use Rattle.upon_std.specs.Basic.Parts.{has_part};
 
 use std::alloc::{AllocError, Global};
-use upon_functions::{Call1S, Call2SO, Call2SS, Fn1S, Fn2SO, Fn2SS};
 use upon_functions::function::{CallError, Function};
+use upon_functions::{Call1S, Call2SO, Call2SS, Fn1S, Fn2SO, Fn2SS};
 use upon_types::value::{Value, ValueCow};
 
 /// A function of texts.

@@ -5,8 +5,8 @@ ghost use Rattle.upon_types.specs.View.{view, vals_view};
 ghost use Rattle.upon_std.specs.Basic.Items.{value_at_key};
 ghost use Rattle.upon_std.specs.Cutting.Items.{concatenated, sliced, plucked, having};
 
-use std::alloc::{AllocError, Global};
 use crate::basic::copies::{copy_at, copy_items};
+use std::alloc::{AllocError, Global};
 use upon_types::value::{Value, look};
 
 // The items of one list, then of another.

@@ -6,11 +6,11 @@ ghost use Rattle.upon_std.specs.Cutting.Parts.{slice_answer, where_answer, repla
 
 use crate::{lists, numbers, texts};
 use std::alloc::{AllocError, Global};
+use upon_functions::arguments::{OwnedArgument, lent};
+use upon_functions::function::{CallError, Function};
 use upon_functions::{
     Call1L, Call1S, Call2, Call2LS, Call2SO, Call2SS, Fn1L, Fn1S, Fn2, Fn2LS, Fn2SO, Fn2SS,
 };
-use upon_functions::arguments::{OwnedArgument, lent};
-use upon_functions::function::{CallError, Function};
 use upon_types::value::{Value, ValueCow};
 
 /// A function that takes a list or a text apart, or puts it together. [`ALL`] has each of them.

@@ -6,8 +6,8 @@ use crate::encoding::callables::{
     WriteShell, WriteYaml,
 };
 use std::alloc::Global;
-use upon_functions::{Fn1, Fn1S, Fn1V, Fn2SO};
 use upon_functions::function::{CallError, Function};
+use upon_functions::{Fn1, Fn1S, Fn1V, Fn2SO};
 use upon_types::value::{Value, ValueCow};
 
 /// A function that writes a value for another reader. [`ALL`] has each of them.

@@ -8,11 +8,11 @@ ghost use Rattle.upon_std.specs.Ordering.Grouping.{group_val, grouped};
 ghost use Rattle.upon_std.specs.Basic.Items.{value_at_key};
 ghost use Rattle.upon_std.specs.Ordering.Spelling.{spelling};
 
+use crate::basic::copies::copy_at;
 use crate::ordering::distinct::distinct;
 use crate::ordering::spelling::spelling;
 use std::alloc::{AllocError, Global};
 use std::collections::BTreeMap;
-use crate::basic::copies::copy_at;
 use upon_types::value::{Value, look};
 
 // A group for each value that items have at a key, in the order in which these first come.

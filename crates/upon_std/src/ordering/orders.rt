@@ -3,8 +3,8 @@ ghost use Rattle.std.specs.Prelude.{◌≡◌};
 
 use crate::ordering::calls::{GroupBy, Sort, SortBy, Unique};
 use std::alloc::{AllocError, Global};
-use upon_functions::{Fn1L, Fn2LS};
 use upon_functions::function::{CallError, Function};
+use upon_functions::{Fn1L, Fn2LS};
 use upon_types::value::{Value, ValueCow};
 
 /// A function that orders, thins out or groups the items of a list. [`ALL`] has each of them.

@@ -8,10 +8,10 @@ ghost use Rattle.upon_std.specs.Basic.Order.{order_of, unordered};
 ghost use Rattle.upon_std.specs.Ordering.Ranks.{kind_rank, rank_cmp};
 ghost use Rattle.upon_std.specs.Ordering.Sorting.{ascending, keys_refusal, sorted_by, IsSortedList};
 
+use crate::basic::copies::copy_items;
 use crate::ordering::keys::Key;
 use std::alloc::{AllocError, Global};
 use std::cmp::Ordering;
-use crate::basic::copies::copy_items;
 use upon_types::value::Value;
 
 // A copy of the items in ascending order of their keys, or the refusal to sort them.

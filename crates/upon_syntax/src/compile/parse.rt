@@ -23,8 +23,8 @@ mod tell;
 
 use crate::compile::parse::program::{read_program, read_tree};
 use std::alloc::Global;
-use upon_delimiters::search::Searcher;
 use upon_compiler::types::program::Instr;
+use upon_delimiters::search::Searcher;
 pub use upon_lexer::{literal, literal_fault};
 pub use upon_tag_parser::compile::parse::{base, expression, list, path, scalar, tag, want};
 use upon_tree::ast::Template;
