@@ -1,4 +1,4 @@
-"""What checks/house counts in words: the files that speak of each kind of statement, and long lines."""
+"""What checks/house counts in words: the files that speak of each kind of statement, long lines, and texts said twice."""
 import glob
 import os
 import re
@@ -25,6 +25,10 @@ KINDS = (
     kind("for|loop", "loop|block|tag|start|next"),
     kind("with", "block|tag|start|end", r"|\(with \w|\bwith : "),
 )
+# What may have quotes and is no text: comments, and a quote as a character. A text of code, and the words of one.
+NO_TEXT, TEXT, WORD = re.compile(r"//.*$|'\"'", re.M), re.compile(r'"((?:\\.|[^"\\])*)"'), re.compile(r"[A-Za-z]{2,}")
+# Crates whose texts are those of examples.
+OF_EXAMPLES = ("crates/upon_examples/", "crates/upon_users/", "crates/upon_bench/")
 # A copy of the language before `for .. else`, and a page that a script writes, which no statement changes by hand.
 UNTOUCHED = ("crates/upon_before_spec/", "docs/proof/DEFINITIONS.md")
 
@@ -54,3 +58,15 @@ def long_lines(files, most):
             if len(line) > most:
                 (imports if IMPORT.match(line) else found).append(f"{path}:{number}: {len(line)} columns")
     return found, imports
+
+
+def said_twice(code):
+    """The texts of two words or more that stand in more than one file of code: who changes one has to find the others."""
+    places = {}
+    for path, text in code:
+        for said in set(TEXT.findall(NO_TEXT.sub("", text))):
+            if len(WORD.findall(said)) >= 2 and not path.startswith(OF_EXAMPLES):
+                places.setdefault(said, []).append(path)
+    for said, paths in sorted(places.items()):
+        if len(paths) > 1:
+            yield f'"{said}": {", ".join(paths)}'
