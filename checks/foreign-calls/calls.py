@@ -72,7 +72,7 @@ RENDERED = [
     ({"page": '{% include "foot" %}'}, {}, {}, MISSING),
     (NESTED, {}, {"max_include_depth": 2}, "render error: reached maximum include depth (2)"),
 ]
-# The same, with what an error's picture ends with.
+# Calls that pass a limit: the options, and what the error's picture ends with.
 LIMITED = [
     ({"max_steps": 3}, "reached the limit of 3 steps"),
     ({"max_output": 3}, "reached the limit of 3 bytes"),

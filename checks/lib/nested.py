@@ -7,7 +7,7 @@ import sys
 
 
 def hidden(before, begin, middle, end="", after=""):
-    """The same five texts in a tag that is compiled, and not run, since `c` is empty."""
+    """The five texts of a row, put into a tag that is compiled, and not run, since `c` is empty."""
     return "{% if c %}{{ " + before, begin, middle, end, after + " }}{% endif %}"
 
 

@@ -76,7 +76,7 @@ RendersValue name text v (Ok u) old new = Shown name text v (Ok tt) old new
 RendersValue name text v (Err e) old new =
     Shown name text v (Err e) old new ⊎ (IsSyntaxErrorOf name default_delimiters text e × Keeps old new)
 
--- the same on the map of the words: each text at its key, of equal keys the last
+-- a text is rendered on the map that the words make, with each text at its key; of words with one key the last counts
 abbrev pub RendersOn : List ℕ → List (String Global) → List ℕ → Result (Unit {0}) Error → Option (List ℕ)
     → Option (List ℕ) → Type 0
 RendersOn name words text (Ok u) old new =

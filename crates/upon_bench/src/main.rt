@@ -98,7 +98,7 @@ enum EngineWork {
     Compile,
     // Render, on the context with so many more names.
     Render(u32),
-    // The same, where serde writes the context anew each time.
+    // Render, on a context that serde writes anew each time.
     Serde(u32),
 }
 

@@ -20,7 +20,7 @@ refused_so a (Refused b reason) so said = (said.0, so said.1)
 refused_so a (NotText b) so said = absurd said
 refused_so a OutOfMemory so said = tt
 
--- the same of what a call answers
+-- a call that is refused for one reason is refused for each reason that follows from it
 pub err_so : {A : Type 0} (a : Argument) {P Q : Type 0} (r : Result A Failure) → (P → Q) → IfErr r (RefusedIf a P) → IfErr r (RefusedIf a Q)
 err_so a (Ok x) so said = tt
 err_so a (Err f) so said = refused_so a f so said

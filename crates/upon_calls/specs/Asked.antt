@@ -53,7 +53,7 @@ abbrev pub are_keys : Known → Entries → Bool
 are_keys known no_entries = true
 are_keys known (entry_then key v es) = is_known known key && are_keys known es
 
--- the same of a value, of which only a map has keys
+-- whether each key of a value is one of an option; a value that is no map has no keys
 abbrev pub has_keys : Known → Val → Bool
 has_keys known (map_val es) = are_keys known es
 has_keys known _ = true

@@ -140,7 +140,7 @@ pub record ChecksRight (templates options text : List ℕ) : Type 0 where
   pub right : AreRightOn asked contexts value sources
   pub empty : text ≡ []
 
--- One of them is not, or contexts are given: then it isn't known that each page ends so.
+-- A template is not right; or contexts are given, and it isn't known whether each page ends well on each of them.
 pub record ChecksWrong (templates options text : List ℕ) : Type 0 where
   pub asked : Asked
   pub contexts : Option Contexts

@@ -124,7 +124,7 @@ pub record PagesEnd (contexts : Contexts) (e : Texts) (templates : Val) (sources
   pub there : AreThere contexts.pages templates
   pub ends : All (λ name. EndsOnEach e name contexts.shape) (checked_pages contexts.pages sources)
 
--- the same, if contexts are given
+-- if contexts are given, each page is a template, and ends on each of them without a fault but the depth of includes
 abbrev pub PagesEndIf : Option Contexts → Texts → Val → List (List ℕ × List ℕ) → Type 0
 PagesEndIf None e templates sources = Unit {0}
 PagesEndIf (Some contexts) e templates sources = PagesEnd contexts e templates sources

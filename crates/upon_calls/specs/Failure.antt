@@ -1,4 +1,4 @@
--- Why a call gives no text of its own, and the text that says so.
+-- The texts and the numbers that say why a call gives no text of its own.
 use Rattle.std.specs.Prelude.{◌≡◌, ℕ, List, ◌++◌, codes, Bool, true, false, Option, Some, None, string_bytes}
 use Rattle.std.specs.Str.{IsUtf8}
 use Rattle.upon_types.specs.Fault.{Kind, syntax, serialize, render, function, format, io, memory, Fault}

@@ -1,4 +1,4 @@
--- What a template needs, and the JSON that says so.
+-- What a template needs, and the JSON in which a call gives it.
 use Rattle.std.specs.Prelude.{◌≡◌, ◌↔◌, ℕ, List, map, true, is_some, codes, Contains, Some}
 use Rattle.serde_json.specs.Data.{Data, boolean, string, array, object, member, no_members}
 use Rattle.serde_json.specs.View.{items_of}

@@ -12,12 +12,12 @@ abbrev pub Steps : Declared → (List ℕ → Scope → Bool) → ℕ → Known 
 Steps declared included at k i ds next =
     (ds ≡ instr_doubts declared included k i) × (next ≡ stepped declared included at k i)
 
--- the same whatever is declared and included
+-- these doubts at an instruction, and this known after it, whatever is declared and included
 abbrev pub AlwaysSteps : ℕ → Known → Instr → List Doubt → Known → Type 0
 AlwaysSteps at k i ds next =
     (declared : Declared) (included : List ℕ → Scope → Bool) → Steps declared included at k i ds next
 
--- the same whatever is included
+-- these doubts at an instruction, and this known after it, by what is declared, whatever is included
 abbrev pub StepsDeclared : Declared → ℕ → Known → Instr → List Doubt → Known → Type 0
 StepsDeclared declared at k i ds next =
     (included : List ℕ → Scope → Bool) → Steps declared included at k i ds next

@@ -121,7 +121,7 @@ impl<'t> Known<'t> {
         Ok(())
     }
 
-    // Begins the body of an `if`, where the operand that was tested was so.
+    // Begins the body of an `if`, in which the operand that was tested is true if `so` is, and else false.
     pub(crate) fn test(
         &mut self,
         alloc: Global,

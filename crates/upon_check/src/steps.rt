@@ -50,7 +50,7 @@ pub(crate) fn jumps<'t>(
     }
 }
 
-// The body of an `if` begins, where the operand on top was so.
+// Begins the body of an `if`, in which the operand on top is true if `so` is, and else false.
 pub(crate) fn tests<'t>(
     alloc: Global,
     known: &mut Known<'t>,

@@ -13,7 +13,7 @@ use Rattle.upon_compiler.specs.After.{between_branches}
 abbrev pub then_from : List Instr → (ℕ → List Instr) → List Instr
 then_from code rest = code ++ rest (length code)
 
--- the same after a value
+-- after a base and then a value, what depends on how many instructions both have
 pub value_first : (base value : List Instr) (rest : ℕ → List Instr)
     → then_from (base ++ value) rest ≡ base ++ (value ++ rest (length base + length value))
 value_first base value rest =

@@ -73,7 +73,7 @@ entries_view-set_value key (e ∷ es) w =
       | false ↦ ap (entry_then (string_bytes e.0) (view e.1)) more
     ])
 
--- the same value in its place changes nothing
+-- a value that is put in its own place changes nothing
 replaced-same : (key : List ℕ) (v : Val) (es : Entries) → entry_at key es ≡ Some v → replaced_value key v es ≡ es
 replaced-same key v no_entries is = refl
 replaced-same key v (entry_then other w es) is =

@@ -19,7 +19,7 @@ same_list (p ∷ ps) (q ∷ qs) lengths same =
 below_or_at : (j i : ℕ) → j < i + 1 → (j < i) ⊎ (i ≡ j)
 below_or_at j i l = grind arith
 
--- the same delimiter below an index and at it
+-- lists with the same delimiters below an index, and the same one at it, have the same ones below the next index
 pub same_further : (ps qs : List DelimiterText) (i : ℕ) → ((j : ℕ) → j < i → SameAt ps qs j) → SameAt ps qs i
     → (j : ℕ) → j < i + 1 → SameAt ps qs j
 same_further ps qs i before here j l = elim (below_or_at j i l) [

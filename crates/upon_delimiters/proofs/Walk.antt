@@ -117,7 +117,7 @@ longest_of_all ds s p k (Some found) short before =
 pub none_shorter : (ds : List DelimiterText) (s : List ℕ) (p : ℕ) → LongestShorter 0 ds s p None
 none_shorter ds s p j inside short occurs = absurd (omega (arith, short))
 
--- the same by the offset that was reached
+-- a walk in the trie from the offset `at`, by the offset `end` that it has reached
 module _ (nodes : List Node) (s : List ℕ) (at end m : ℕ) (after : at ≤ end)
     (leads : LeadsTo nodes 0 (take (end - at) (drop at s)) m) where
   here : at + (end - at) ≡ end

@@ -91,7 +91,7 @@ module _ (way : Way) (ds : List DelimiterText) (s : List ℕ) (at end : ℕ) (fi
   marks_fit marks is texts none q after below i inside occurs = ∥∥₁_elim fits (λ x y. absurd x) (λ f.
       none ds texts (subst Fits is f) q after below i inside occurs)
 
--- the same at one offset
+-- at one offset: if a searcher's way finds no delimiter there, none of the searcher's delimiters is there
 module _ (way : Way) (ds : List DelimiterText) (s : List ℕ) (at : ℕ) (fits : ∥ WayFits way ds ∥₁) where
   abbrev Fitting : Way → Type 0
   Fitting w = WayFits w ds

@@ -15,7 +15,7 @@ pub record BeginsText (begins : Begins) (text : List ℕ) : Type 0 where
 abbrev pub BeginEach : Begins → List DelimiterText → Type 0
 BeginEach begins delimiters = (i : ℕ) → i < length delimiters → BeginsText begins (text_at delimiters i)
 
--- the same, if it is known
+-- if it is known which bytes delimiters begin with, each delimiter begins with these
 abbrev pub MayBeginEach : Option Begins → List DelimiterText → Type 0
 MayBeginEach None delimiters = Unit {0}
 MayBeginEach (Some begins) delimiters = BeginEach begins delimiters

@@ -72,7 +72,7 @@ impl Marks {
         end
     }
 
-    // The same, by a look at each offset.
+    // Returns the first offset from one to another at which a delimiter may begin, else the other, by a look at each.
     fn next_of_each(&self, bytes: &[u8], at: usize, end: usize) -> usize
         requires order { at ≤ end }
         requires within { end ≤ length bytes.now }

@@ -37,7 +37,7 @@ impl Entry {
     }
 }
 
-/// The same of the default syntax, which takes no memory.
+/// A delimiter of the default syntax: its kind and its text, for which no memory is taken.
 #[derive(Clone, Copy)]
 struct StaticEntry {
     kind: Delimiter,

@@ -70,7 +70,7 @@ module _ {X Y : Type 0} {P : X → Type 0} {Q : Y → Type 0} (formats : DynBox 
       subst (λ z. TextWithin e.depth limits (runs texts z name source tree v) (meaning texts z name source tree v) result) (sym (only_table (get_by_text e.templates) table it))
       (subst (λ z. TextWithin e.depth limits (runs texts (engine_templates e) name z.source z.tree v) (meaning texts (engine_templates e) name z.source z.tree v) result) is said)
 
-  -- the same of what a writer receives
+  -- what a writer receives of a held template, within limits, it receives of its text and its tree, by any table
   pub sends_within_by : (name : Option (List ℕ)) (t : Template) (source : List ℕ) (tree : Statements) (v : Val) (result : Result (Unit {0}) Error) (old new : Option (List ℕ))
       → t ≡ made source tree
       → WritesWithin e.depth IsAnyIo limits (runs texts (engine_templates e) name t.source t.tree v) result old new (meaning texts (engine_templates e) name t.source t.tree v)
@@ -149,7 +149,7 @@ module _ (e : Texts) (table : Table) (name : Option (List ℕ)) (source : List �
   pub steps_mean : (n : ℕ) → EndsWithin e table name source tree v n → out n ≡ Some (meaning e table name source tree v)
   steps_mean n some = let o = some_by (out n) some in o.1 ∙ ap Some (same_out n ends.0 o.0 o.1 ends.1)
 
--- the same of an engine
+-- numbers of steps within which renderings by an engine end
 module _ {X Y : Type 0} {P : X → Type 0} {Q : Y → Type 0} (formats : DynBox X Global P → Formatter) (answers : DynBox Y Global Q → Function) (e : Held X Y P Q) where
   pub some_steps_of : (table : Table) (name : Option (List ℕ)) (source : List ℕ) (tree : Statements) (v : Val)
       → (n : ℕ) × EndsWithin (texts_of formats answers e) table name source tree v n

@@ -67,7 +67,7 @@ template_held (Some h) s tree is has =
     let only : ∥ HasTree (template_syntax h) (template_source h) tree ∥₁ → tree ≡ template_tree h = λ k. ∥∥₁_elim k (Statements-one_path tree (template_tree h)) (only_held h tree) in
     subst F same (λ k. ap (λ t. Some (made (template_source h) t)) (sym (only k))) has
 
--- the same, where a template is known to be there
+-- a template that is known to be held under a name is the one of its text and of the tree that this has
 pub held_named : (o : Option HeldTemplate) (r : Template) (s : Stored) (tree : Statements)
     → option_map template_of o ≡ Some r → option_map stored_template o ≡ Some s → ∥ HasTree s.syntax s.text tree ∥₁ → r ≡ made s.text tree
 held_named o r s tree here is has =
@@ -113,7 +113,7 @@ module _ {X Y : Type 0} {P : X → Type 0} {Q : Y → Type 0} (formats : DynBox 
       subst (λ z. AnswersText e.depth (meaning (texts_of formats answers e) z name source tree v) result) (sym (only_table (get_by_text e.templates) table it))
       (subst (λ z. AnswersText e.depth (alone (rendering (texts_of formats answers e) (engine_templates e)) z name (context v) (states tt tt)) result) is said)
 
-  -- the same of what a writer receives
+  -- what a writer receives of a held template, it receives of its text and its tree, by any table
   pub sends_by : (name : Option (List ℕ)) (t : Template) (source : List ℕ) (tree : Statements) (v : Val) (result : Result (Unit {0}) Error) (old new : Option (List ℕ))
       → t ≡ made source tree
       → WritesReported e.depth IsAnyIo result old new (alone (rendering (texts_of formats answers e) (engine_templates e)) t name (context v) (states tt tt))

@@ -79,7 +79,7 @@ module _ {X Y : Type 0} {P : X → Type 0} {Q : Y → Type 0} (formats : DynBox 
   pub templates_kept : (m : BTreeMap (String Global) HeldTemplate) → IsUnchanged e.templates m → texts_of formats answers (record e { templates = m }) ≡ texts_of formats answers e
   templates_kept m same = ap (λ entries. record (texts_of formats answers e) { texts = shows_entries stored_template entries }) same
 
-  -- the same of the callables
+  -- after a write to the callables, and after one that was refused
   pub callables_after : (m : BTreeMap (String Global) (Boxes X Y P Q)) (bs name : List ℕ) (w : Option (Boxes X Y P Q))
       → bs ≡ name → UpdatesBy string_cmp (λ k. slice_cmp nat_cmp bs (string_bytes k)) e.callables m w
       → texts_of formats answers (record e { callables = m }) ≡ record (texts_of formats answers e) { callables = update bytes_eq (texts_of formats answers e).callables name (option_map (callable_of formats answers) w) }

@@ -26,7 +26,7 @@ abbrev pub outcome_within : {V T : Type 0} → Calls V → Resolver T → ℕ �
 outcome_within calls resolve left t name (on_root root) s = alone_within calls resolve left t name root s
 outcome_within calls resolve left t name (no_value f) s = fault_outcome f s
 
--- the same in a rendering, under a name or none; the template itself counts as one of the depth
+-- a template over a base in a rendering, under a name or none; the template itself counts as one of the depth
 abbrev pub outcome_over : {V T : Type 0} → Rendering V T → Template → Option (List ℕ) → ContextBase → States V T
     → Outcome (States V T)
 outcome_over rendering t name base s =

@@ -1,4 +1,4 @@
--- What a rendering is made of, and what its template means so.
+-- What a rendering is made of, and what its template means in it.
 use Rattle.std.specs.Prelude.{ℕ, List, Option, option_map}
 use Rattle.upon_types.specs.Answers.{Callable, Formatter}
 use Rattle.upon_lookup.specs.Source.{Source}
@@ -20,7 +20,7 @@ pub record Call (V T : Type 0) : Type 0 where
 abbrev pub outcome : {V T : Type 0} → Call V T → Outcome (States V T)
 outcome c = outcome_over c.rendering c.template c.name c.base c.from
 
--- the same call with another depth
+-- a call, with this depth in place of its own
 abbrev pub at_depth : {V T : Type 0} → ℕ → Call V T → Call V T
 at_depth limit c = record c { rendering = record c.rendering { limit = limit } }
 

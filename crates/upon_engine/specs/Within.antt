@@ -38,7 +38,7 @@ AnswersWithin e limits name source tree v result =
     (table : Table) → IsTable e.texts table
     → TextWithin e.depth limits (runs e table name source tree v) (meaning e table name source tree v) result
 
--- the same of what a writer that may fail receives, by what it has and had
+-- what a writer that may fail receives of a rendering within limits, by what it had and has; whatever the table is
 abbrev pub SendsWithin : Texts → Limits → Option (List ℕ) → List ℕ → Statements → Val → Result (Unit {0}) Error
     → Option (List ℕ) → Option (List ℕ) → Type 0
 SendsWithin e limits name source tree v result old new =

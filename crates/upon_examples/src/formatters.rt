@@ -98,7 +98,7 @@ impl Format for Demanded {
     }
 }
 
-// The refusal. If there is no memory for its message, the formatter is told so.
+// Returns the error of a missing value. If there is no memory for its message, the formatter is told of that.
 fn missing(f: &mut Formatter) -> fmt::Error
     ensures text { text_of f.new ≡ text_of f.old }
     ensures message { is_marked f.new ≡ false

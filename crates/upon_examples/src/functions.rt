@@ -51,7 +51,7 @@ impl Call1<i64, Result<Result<i64, String>, AllocError>> for Positive {
     }
 }
 
-/// The same, by a closure.
+/// A number above 0, by a closure; others are refused.
 #[derive(Drop)]
 pub struct PositiveByClosure;
 

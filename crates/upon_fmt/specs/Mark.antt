@@ -10,7 +10,7 @@ waiting Clear = None
 waiting (Waits error) = Some error
 waiting (Taken error) = None
 
--- the same mark, if no error waits
+-- the mark after the error that waits is taken; if none waits, the mark stays
 abbrev pub set_aside : Mark → Mark
 set_aside Clear = Clear
 set_aside (Waits error) = Taken error

@@ -50,7 +50,7 @@ Takes is_copy stands_for misfit i v (Err Memory) = is_copy ≡ true
 Takes is_copy stands_for misfit i v (Err (Arity n)) = ⊥
 Takes is_copy stands_for misfit i v (Err (Fault text)) = ⊥
 
--- the same of an argument that is borrowed, for which no memory is taken
+-- an argument that is borrowed is taken as what it denotes, or its misfit is answered; no memory is taken for it
 abbrev pub TakesLent : {A : Type 0} → (A → Val) → Option Misfit → ℕ → Val → Result A CallError → Type 0
 TakesLent = Takes false
 

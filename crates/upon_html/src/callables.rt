@@ -13,7 +13,7 @@ use upon_fmt::fmt::{Format, Formatter};
 use upon_types::value::{Value, ValueCow};
 use upon_vm_steps::callables::{Applied, Callables, Called};
 
-/// The same functions and formatters, with the text that each formatter writes escaped, also that of the default one.
+/// Functions and formatters, with the text that each formatter writes escaped, also that of the default one.
 #[derive(Drop)]
 pub struct Escaping<C> {
     callables: C,

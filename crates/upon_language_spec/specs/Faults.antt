@@ -154,7 +154,7 @@ pub record UndelimitedString (delimiters : List DelimiterText) (s : List ℕ) (p
 abbrev pub tag_tokens : List Lexeme → List Lexeme
 tag_tokens lexemes = without_spaces (open_tag lexemes)
 
--- the same as symbols
+-- the open tag's tokens without whitespace, as symbols
 abbrev pub tag_row : List ℕ → List Lexeme → List Symbol
 tag_row s lexemes = symbols_of s (tag_tokens lexemes)
 

@@ -106,7 +106,7 @@ IsNoSpace (Ok (Some given)) = is_space given.0 ≡ false
 IsNoSpace (Ok None) = Unit {0}
 IsNoSpace (Err e) = Unit {0}
 
--- the same after whitespace, of what is no whitespace
+-- what a call gives after tokens that are whitespace: a token that is not whitespace, no token, or an error
 pub record LexesAfterSpace (delimiters : List DelimiterText) (s : List ℕ) (ls : List Lexeme)
     (result : Result (Option (Token × Span)) Error) (after : LexerState) : Type 0 where
   pub spaces : List Lexeme

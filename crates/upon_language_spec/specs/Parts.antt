@@ -151,7 +151,7 @@ abbrev pub after : List Part → Token → Key → Option (List Part)
 after [] t k = None
 after (part ∷ parts) t k = left_of (goes part t k) (is_optional part) parts (after parts t k)
 
--- the same for a symbol
+-- what is to come after a symbol, where it may be
 abbrev pub after_symbol : List Part → Symbol → Option (List Part)
 after_symbol parts x = after parts x.token (keyword_of x.word)
 

@@ -51,7 +51,7 @@ abbrev pub GivesToken : Lexer → List Lexeme → Result (Option (Token × Span)
 GivesToken before ls result after = Lexes (lexer_delimiters before) (lexer_text before) (lexer_state before) ls result
     (lexer_state after)
 
--- the same after whitespace
+-- what a call that passes over whitespace gives to one who knows the tokens before it
 abbrev pub GivesAfterSpace : Lexer → List Lexeme → Result (Option (Token × Span)) Error → Lexer → Type 0
 GivesAfterSpace before ls result after = LexesAfterSpace (lexer_delimiters before) (lexer_text before) ls result
     (lexer_state after)

@@ -17,7 +17,7 @@ abbrev pub TellsFault : {A : Type 0} → List ℕ → Finding A → Error → Ty
 TellsFault source (found a) error = ⊥
 TellsFault source (at_fault fault) error = OrMemory (fault_with_picture source fault) (fault_of error)
 
--- the same, or memory ran out before
+-- the error is the fault that was met, with the picture of its span in the source; or memory ran out, also before that
 abbrev pub TellsFaultOrMemory : {A : Type 0} → List ℕ → Finding A → Error → Type 0
 TellsFaultOrMemory source (found a) error = fault_of error ≡ out_of_memory
 TellsFaultOrMemory source (at_fault fault) error = OrMemory (fault_with_picture source fault) (fault_of error)
@@ -27,7 +27,7 @@ abbrev pub AnswersAlways : {A B : Type 0} → (A → B) → List ℕ → Finding
 AnswersAlways shows source outcome (Ok a) = outcome ≡ found (shows a)
 AnswersAlways shows source outcome (Err error) = TellsFault source outcome error
 
--- the same of a call that takes memory also for what it gives
+-- what is found is given, for which memory is taken too; a fault is reported
 abbrev pub Answers : {A B : Type 0} → (A → B) → List ℕ → Finding B → Result A Error → Type 0
 Answers shows source outcome (Ok a) = outcome ≡ found (shows a)
 Answers shows source outcome (Err error) = TellsFaultOrMemory source outcome error

@@ -80,7 +80,7 @@ abbrev pub source_value : SourceAnswer Val → Span → Finding Val
 source_value (says v) at = found v
 source_value (refuses text) at = at_fault (wrong text at)
 
--- the same of a reply
+-- what the value source replies: a refusal lies at the whole path
 abbrev pub reply_value : {Q : Type 0} → Reply Q (SourceAnswer Val) → Span → Reply Q (Finding Val)
 reply_value r at = reply (source_value r.answer at) r.next
 

@@ -68,7 +68,7 @@ after_first (at_fault fault) go = found None
 abbrev pub context_walk : Member → List Member → Val → Finding (Option Val)
 context_walk first rest v = after_first (lookup_member v first) (walk rest)
 
--- the same of a path as a list; one without members finds nothing
+-- what a path finds in a context, as the list of its members; one without members finds nothing
 abbrev pub path_in_context : List Member → Val → Finding (Option Val)
 path_in_context [] v = found None
 path_in_context (first ∷ rest) v = context_walk first rest v

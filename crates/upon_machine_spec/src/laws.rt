@@ -33,7 +33,7 @@ pub fn runs_once<V, T>()
         → run calls resolve root m s ≡ Some a → run calls resolve root n s ≡ Some b → a ≡ b }
 {}
 
-/// If the spans in a template's tree lie in its text, all spans that the machine holds at its start lie so.
+/// If the spans in a template's tree lie in its text, so do all spans that the machine holds at its start.
 pub fn spans_lie_at_start<V, T>()
     ensures { (t : Template) (name : Option (List ℕ)) (left : ℕ) (s : States V T)
         → TreeLiesIn t.source t.tree → StateLies (at_start t name left s) }

@@ -1,4 +1,4 @@
--- An outcome beside the one of a greater depth, and what keeps the two so.
+-- An outcome beside the one of a greater depth, and what keeps the relation between the two.
 use Rattle.std.proofs.Common.{◌≡◌, ℕ, ◌+◌, List, [], ◌∷◌, ◌++◌, length, Bool, true, false, refl, sym, ap, ◌∙◌, append_assoc, append-nil, subst}
 use Rattle.upon_types.specs.Path.{Ident}
 use Rattle.upon_types.specs.Val.{Val}

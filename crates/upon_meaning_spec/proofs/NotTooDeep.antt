@@ -1,4 +1,4 @@
--- Outcomes that do not end because includes are too deep, and what keeps them so.
+-- Outcomes that do not end because includes are too deep, and what keeps this true of them.
 use Rattle.std.proofs.Common.{◌≢◌, ℕ, ◌+◌, List, [], ◌∷◌, length, Option, Some, None, Bool, true, false}
 use Rattle.upon_types.specs.declared.types.Span.{Span}
 use Rattle.upon_types.specs.Expression.{Expression, base, filtered, Base, var, literal, list, mapping, paren, call}

@@ -49,7 +49,7 @@ turns_hold P C (if_tag negated) v at spans over those = those (choose (condition
 turns_hold P C (for_tag names) v at spans over those = over names spans
 turns_hold P C (with_tag word) v at spans over those = those ((binding word.text (plain v) ∷ []) ∷ [])
 
--- the same for two blocks that are alike, and whether they may have another branch
+-- the turns of two blocks that are alike, over items or found, and whether each may have another branch
 pub alike_turns : (C : Bool → Finding (List (List Binding)) → Bool → Finding (List (List Binding)) → Type 0) (one other : Opening) (v : Val) (at at' : Span) → OpeningsAlike one other
     → ((may : Bool) (names names' : LoopVars) → NamesAlike names names' → C may (turns_over (items_of names v at)) may (turns_over (items_of names' v at')))
     → ((may : Bool) (all : List (List Binding)) → C may (found all) may (found all))

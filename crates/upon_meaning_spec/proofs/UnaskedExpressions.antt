@@ -19,7 +19,7 @@ use Rattle.upon_meaning_spec.specs.Outcome.{Outcome}
 abbrev pub above : List Binding → Val → Environment
 above bindings v = record { bindings = bindings; root = context v }
 
--- the same callables and default formatter, without a value source
+-- callables and a default formatter, without a value source
 abbrev pub sourceless : {V : Type 0} → Calls V → Calls (Unit {0})
 sourceless calls = record { callables = calls.callables; default_formatter = calls.default_formatter; ask = λ q path. reply (refuses []) q }
 

@@ -136,7 +136,7 @@ EndsAlike (fails f) (fails g) = without_span f ≡ without_span g
 EndsAlike too_deep too_deep = Unit {0}
 EndsAlike _ _ = ⊥
 
--- the same text and next states, and the same end but for the span of a fault
+-- two outcomes with one text and one next state, whose ends differ at most in the span of a fault
 pub record OutcomesAlike {Q : Type 0} (one other : Outcome Q) : Type 0 where
   pub text : one.text ≡ other.text
   pub end : EndsAlike one.end other.end

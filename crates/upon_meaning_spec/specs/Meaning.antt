@@ -70,7 +70,7 @@ abbrev pub loop_turns : ℕ → ℕ → List (List Binding) → List (List Bindi
 loop_turns n i [] = []
 loop_turns n i (bs ∷ more) = (binding (codes "loop") (loop_state i n) ∷ bs) ∷ loop_turns n (i + 1) more
 
--- the same for the items that are found
+-- what a loop binds in its turns over the items, if these are found
 abbrev pub turns_over : Finding (List (List Binding)) → Finding (List (List Binding))
 turns_over (found items) = found (loop_turns (length items) 0 items)
 turns_over (at_fault f) = at_fault f
@@ -87,7 +87,7 @@ abbrev pub each : {Q : Type 0} → Body Q → List (List Binding) → Body Q
 each body [] env q = text_outcome [] q
 each body (bs ∷ more) env q = then_do (body (bind_all bs env) q) (λ q'. each body more env q')
 
--- the same, or what the other branch gives if there is no turn
+-- the body in each turn, joined up to the first fault; what the other branch gives if there is no turn
 abbrev pub each_or : {Q : Type 0} → Body Q → Body Q → RunningTemplate → Finding (List (List Binding)) → Body Q
 each_or body other running (found []) env q = other env q
 each_or body other running (found (bs ∷ more)) env q = each body (bs ∷ more) env q

@@ -41,7 +41,7 @@ abbrev mutual
   WritesBy name (base b) = BaseWritesBy name b
   WritesBy name (filtered receiver word args span) = word.text ≡ name
 
-  -- the same of an expression without a filter
+  -- what an expression without a filter gives is written by the formatter of this name, if the name is a formatter's
   pub BaseWritesBy : List ℕ → Base → Type 0
   BaseWritesBy name (paren e span) = WritesBy name e
   BaseWritesBy name (call word args span) = word.text ≡ name

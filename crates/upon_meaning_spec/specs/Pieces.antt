@@ -67,7 +67,7 @@ module _ {V : Type 0} (calls : Calls V) where
     emit_pieces (filtered receiver name args span) env q =
         call_pieces name (append_operand (evaluate calls receiver env q) (evaluate_arguments calls args env)).answer
 
-    -- the same of an expression without a filter
+    -- what an expression without a filter writes; parentheses around it make no difference
     pub emit_base_pieces : Base → Environment → V → List TextPiece
     emit_base_pieces (paren e span) env q = emit_pieces e env q
     emit_base_pieces (call name args span) env q = call_pieces name (evaluate_arguments calls args env q).answer
@@ -96,7 +96,7 @@ each_pieces body pieces [] env q = []
 each_pieces body pieces (bs ∷ more) env q =
     then_pieces (pieces (bind_all bs env) q) (body (bind_all bs env) q) (λ q'. each_pieces body pieces more env q')
 
--- the same, or the pieces of the other branch if there is no turn
+-- the pieces of the body in each turn, up to the first fault; those of the other branch if there is no turn
 abbrev pub each_or_pieces : {Q : Type 0} → Body Q → BodyPieces Q → BodyPieces Q → Finding (List (List Binding))
     → BodyPieces Q
 each_or_pieces body pieces other (found []) env q = other env q

@@ -94,7 +94,7 @@ fn template_named<'t, 'e>(
     templates.get(name)
 }
 
-/// Puts a name at the end if both are so.
+/// Puts a name at the end of the names if it is new and is held.
 fn push_if<'t>(
     names: &mut Vec<&'t str>,
     name: &'t str,

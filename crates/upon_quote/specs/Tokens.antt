@@ -18,7 +18,7 @@ abbrev pub bytes_by : Escapes → List ℕ → List ℕ
 bytes_by escape_of [] = []
 bytes_by escape_of (c ∷ cs) = bytes_or_itself (escape_of c) c ++ bytes_by escape_of cs
 
--- the same, of a text's bytes
+-- a text's bytes, in which each character that has an escape is written as that
 abbrev pub quoted_bytes : Escapes → List ℕ → List ℕ
 quoted_bytes escape_of text = bytes_by escape_of (chars text)
 

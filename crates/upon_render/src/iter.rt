@@ -229,7 +229,7 @@ fn turns_to<'a>(here: &mut Option<Here<'a>>, value: &'a Value)
     }
 }
 
-// The same at the first item.
+// Begins with the first item of a list, which is lent.
 #[inline(never)]
 fn begins<'a>(here: &mut Option<Here<'a>>, value: &'a Value)
     ensures { here.new ≡ Some (record { index = 0; item = Lone (Borrowed value.entry) }) }
@@ -251,7 +251,7 @@ fn puts_lent<'a>(item: &mut Item<'a>, value: &'a Value)
     }
 }
 
-// The same in the place of an item that is let go.
+// Puts a lent item in the place of one that is dropped.
 #[inline(never)]
 fn replaces<'a>(item: &mut Item<'a>, value: &'a Value)
     ensures { item.new ≡ Lone (Borrowed value.entry) }

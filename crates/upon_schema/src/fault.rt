@@ -48,7 +48,7 @@ impl SchemaFault {
         }
     }
 
-    // The same, if there is memory for the path.
+    // The fault as one of the schema around, at a keyword or a key of it; fails if there is no memory for the path.
     fn moved(self, alloc: Global, step: &str) -> Result<SchemaFault, AllocError> {
         Ok(match self {
             SchemaFault::UnknownKeyword(path) => {

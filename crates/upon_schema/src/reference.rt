@@ -21,7 +21,7 @@ pub(crate) fn referred<'a>(root: &'a Value, reference: &str) -> Option<&'a Value
     definition(entry(root, "definitions")?, name)
 }
 
-// The definition at the key that is spelled so.
+// The definition at the key that `name` spells in a reference.
 fn definition<'a>(definitions: &'a Value, name: &str) -> Option<&'a Value>
     ensures { IfSome result (λ s. (key : List ℕ) × (name.now ≡ spelled key)
         × (key_of key (view definitions.now) ≡ Some (view s.now))) }
@@ -37,7 +37,7 @@ fn definition<'a>(definitions: &'a Value, name: &str) -> Option<&'a Value>
     None
 }
 
-// Whether a key is spelled so.
+// Whether `name` is the spelling of the key in a reference.
 fn is_spelled(name: &[u8], key: &[u8]) -> bool
     ensures { result ≡ true → name.now ≡ spelled key.now }
 {
@@ -51,7 +51,7 @@ fn is_spelled(name: &[u8], key: &[u8]) -> bool
     rest.is_empty()
 }
 
-// What is left of a spelling after that of a byte, if it begins so.
+// What is left of a spelling after that of a byte; `None` if it does not begin with it.
 fn after_byte(name: &[u8], byte: u8) -> Option<&[u8]>
     ensures { IfSome result (λ rest. name.now ≡ spelled_byte byte ++ rest.now) }
 {

@@ -55,7 +55,7 @@ reads_note n before after v begins is =
     let one = noted_one n after (λ key. no_datum (note_event n) (view v) key is) in
     subst (λ es. ReadsDatum es after (view v)) (sym (begins ∙ one)) (reads_one (note_event n) after (view v) is)
 
--- the same of a call that answers such a value
+-- a note of a value alone, where the value is what a call answers, if it does not fail
 pub reads_note_ok : {E : Type 0} (n : Note) (before after : List Event) (r : Result Value E) → before ≡ noted n after → IfOk r (λ v. option_map datum_value (datum_of (note_event n)) ≡ Some (view v)) → IfOk r (λ v. ReadsDatum before after (view v))
 reads_note_ok n before after (Ok v) begins is = reads_note n before after v begins is
 reads_note_ok n before after (Err error) begins is = tt

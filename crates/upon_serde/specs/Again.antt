@@ -12,12 +12,12 @@ abbrev mutual
   Ascends (list_val vs) = EachAscends vs
   Ascends (map_val es) = IsTrue (rises es) × EntriesAscend es
 
-  -- the same in each value of a list
+  -- each map in a value of the list has its keys in the order of their bytes
   pub EachAscends : Vals → Type 0
   EachAscends no_vals = ⊤
   EachAscends (val_then v vs) = Ascends v × EachAscends vs
 
-  -- the same in each value of a map
+  -- each map in a value of the map has its keys in the order of their bytes
   pub EntriesAscend : Entries → Type 0
   EntriesAscend no_entries = ⊤
   EntriesAscend (entry_then key v es) = Ascends v × EntriesAscend es

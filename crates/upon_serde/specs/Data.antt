@@ -105,7 +105,7 @@ key_text (unit_variant_key name case) = spelled case Variant name
 abbrev pub Pairs : Type 0
 Pairs = List (List ℕ × Val)
 
--- the same as entries
+-- keys with their values, as the entries of a map
 abbrev pub entries_from : Pairs → Entries
 entries_from [] = no_entries
 entries_from (p ∷ pairs) = entry_then p.0 p.1 (entries_from pairs)

@@ -105,7 +105,7 @@ impl Recorder {
         }
     }
 
-    // The same, where a key is open.
+    // Notes what is sent of a key that is open.
     #[inline(never)]
     fn settle_key(&mut self) -> Result<()>
         ensures sent { OnOk result (sent self.new ≡ sent self.old) }

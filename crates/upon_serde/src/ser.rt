@@ -44,7 +44,7 @@ pub fn to_value<T: Serialize + Drop>(alloc: Global, value: T) -> Result<Value>
     }
 }
 
-// The same, with whatever error an implementation answers.
+// Makes a value of what an implementation serializes, or returns whatever error it answers.
 fn read<T: Serialize + Drop>(alloc: Global, value: T) -> fault::Result<Value>
     ensures { IfOk result
         (λ v. (log : List Event) × T.writes value (Some []) (Some log) × ReadsDatum log [] (view v)) }

@@ -52,7 +52,7 @@ wider_step xs i x s ns h is =
     ∙ wider_one (take i xs) (drop (i + 1) xs) x s ns
     ∙ ap (λ (t : List (Key Shape)). (is_among (string_bytes x.name) (take i xs) || is_wider_at x ns) && keys_wider (seen_after t []) (ahead (drop (i + 1) xs) (other_keys s)) ns) (sym (cut_behind xs i x h is))
 
--- the same of keys beside those that were seen
+-- a name is listed if it is among the keys in front, or among those that were seen before these
 is_listed-both : (name : List ℕ) (front seen : List (Key Shape)) → is_listed name (seen_after front (seen_after seen [])) ≡ (is_among name front || is_among name seen)
 is_listed-both name front seen = is_listed-seen_after name front (seen_after seen []) ∙ ap (λ (b : Bool). is_among name front || b) (is_listed-seen name seen)
 

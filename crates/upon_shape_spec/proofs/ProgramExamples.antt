@@ -52,6 +52,6 @@ of_two_kinds = refl
 to_the_other_case : (s t outer : Scope) → known_after declared (λ name scope. false) 4 (known [] s (body_to 5 t outer ∷ [])) (jump 7) ≡ known [] t (other_to 7 outer ∷ [])
 to_the_other_case s t outer = refl
 
--- the same where that is empty: around both
+-- at the end of a body whose other case is empty: past both, with what was known around them
 past_both : (s t outer : Scope) → known_after declared (λ name scope. false) 4 (known [] s (body_to 5 t outer ∷ [])) (jump 5) ≡ known [] outer []
 past_both s t outer = refl

@@ -70,7 +70,7 @@ pub key_held : (key : List ℕ) (ks : Keys) (o : Option Val) → KeyFits key ks 
 key_held key (other_keys s) o h = h
 key_held key (key_then k required s ks) o h = held_chosen (bytes_eq key k) (key_shape required s) (at_key key ks) o (test_map (bytes_eq key k) same_held (key_held key ks o) h)
 
--- the same of a key that is equal
+-- what fits at a key fits at any key that is equal to it
 pub same_key_held : (key k : List ℕ) (ks : Keys) (o : Option Val) → KeyFits key ks o → bytes_eq key k ≡ true → HeldAt (at_key k ks) o
 same_key_held key k ks o h same = subst (λ (x : List ℕ). HeldAt (at_key x ks) o) ((bytes_eq-Decides key k).0 same) (key_held key ks o h)
 

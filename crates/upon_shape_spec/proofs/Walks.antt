@@ -24,7 +24,7 @@ module _ (declared : Declared) (included : List ℕ → Scope → Bool) where
       ∙ sym (append_assoc ds es (program_doubts declared included (at + length a + length b) next rest))
       ∙ ap (λ p. (ds ++ es) ++ program_doubts declared included p next rest) e
 
-  -- the same in other words
+  -- a walk along instructions is a walk along equal ones, with equal doubts
   pub with_code : (at : ℕ) (k next : Known) (c d : List Instr) (ds : List Doubt) → c ≡ d → Walks at k c ds next → Walks at k d ds next
   with_code at k next c d ds e w = subst (λ x. Walks at k x ds next) e w
 

@@ -53,7 +53,7 @@ pub record Branches : Type 0 where
   pub body : List NameShape → Scope
   pub other : Scope
 
--- the same, a row for each kind, over an expression and a scope: the branches of an `if` see what its test found
+-- the branches of a block, by its kind, its expression and a scope: those of an `if` see what its test found
 abbrev pub branches : Opening → Expression → Scope → Branches
 branches (if_tag negated) e scope = record {
   names = λ s. Some [];

@@ -100,7 +100,7 @@ module _ (declared : Declared) (scope : Scope) where
         ++ if_some (shape_then (expression_shape declared scope receiver) (arguments_shapes declared scope args))
         (given_doubts name.span (declared.callables name.text))
 
-    -- the same without a filter
+    -- that an expression without a filter comes to something
     pub base_doubts : Base → List Doubt
     base_doubts (var first rest) = path_doubts scope first rest
     base_doubts (literal v span) = []
@@ -150,7 +150,7 @@ module _ (declared : Declared) (scope : Scope) where
         ++ if_some (shape_then (expression_shape declared scope receiver) (arguments_shapes declared scope args))
         (shown_call_doubts name.span span (declared.callables name.text))
 
-    -- the same without a filter; parentheses make no difference
+    -- that an expression without a filter is shown; parentheses make no difference
     pub base_shown_doubts : Base → List Doubt
     base_shown_doubts (paren e span) = shown_doubts e
     base_shown_doubts (call name args span) =

@@ -38,7 +38,7 @@ value_given None shapes = None
 value_given (Some (gives_by given)) shapes = given shapes
 value_given (Some (formats s)) shapes = None
 
--- the same, if all the arguments come to something
+-- what a callable gives where its value is not shown, if all the arguments come to something; else nothing
 abbrev pub call_shape : Option DeclaredCallable → Option (List Shape) → Option Shape
 call_shape callable None = None
 call_shape callable (Some shapes) = value_given callable shapes
@@ -60,7 +60,7 @@ shows_given default None shapes = false
 shows_given default (Some (gives_by given)) shapes = is_taken default (given shapes)
 shows_given default (Some (formats s)) shapes = is_formatted s shapes
 
--- the same, if all the arguments come to something
+-- all the arguments come to something, and what a callable gives for them is shown
 abbrev pub shows_call : Shape → Option DeclaredCallable → Option (List Shape) → Bool
 shows_call default callable None = false
 shows_call default callable (Some shapes) = shows_given default callable shapes
@@ -73,7 +73,7 @@ module _ (declared : Declared) (scope : Scope) where
     expression_shape (filtered receiver name args span) =
         call_shape (declared.callables name.text) (shape_then (expression_shape receiver) (arguments_shapes args))
 
-    -- the same without a filter
+    -- the shape of what an expression without a filter comes to; none where it may come to a fault
     pub base_shape : Base → Option Shape
     base_shape (var first rest) = path_shape scope first rest
     base_shape (literal v span) = Some (literal_shape v)
@@ -106,7 +106,7 @@ module _ (declared : Declared) (scope : Scope) where
         shows_call declared.default_formats (declared.callables name.text)
         (shape_then (expression_shape receiver) (arguments_shapes args))
 
-    -- the same without a filter; parentheses make no difference
+    -- an expression without a filter is shown without a fault; parentheses make no difference
     pub base_is_shown : Base → Bool
     base_is_shown (paren e span) = is_shown e
     base_is_shown (call name args span) =

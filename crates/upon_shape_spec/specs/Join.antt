@@ -64,7 +64,7 @@ samples_shape [] = never
 samples_shape (v ∷ vs) = join_shapes (shape_of v) (samples_shape vs)
 
 abbrev mutual
-  -- the same, but that maps may have any other keys: of data that have more than the samples
+  -- a shape whose maps may have any other keys: it is for data that have more than the samples
   pub opened : Shape → Shape
   opened any_shape = any_shape
   opened (one_of p l m) = one_of p (opened_lists l) (opened_maps m)

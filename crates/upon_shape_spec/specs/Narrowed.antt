@@ -39,7 +39,7 @@ narrowed_names name members (b ∷ bs) =
     if bytes_eq name b.name then name_shape b.name (narrowed_bound members b.bound) ∷ bs
     else (b ∷ narrowed_names name members bs)
 
--- the same, of a path's first member
+-- what is bound to the name that is a path's first member, narrowed at the first binding of it
 abbrev pub narrowed_bindings : Access → List Member → List NameShape → List NameShape
 narrowed_bindings (by_index n span) members bs = bs
 narrowed_bindings (by_key word) members bs = narrowed_names word.text members bs
@@ -62,7 +62,7 @@ abbrev mutual
   true_scope (base b) scope = base_true_scope b scope
   true_scope (filtered receiver name args span) scope = scope
 
-  -- the same without a filter
+  -- where this expression without a filter is true: more is known of a path, and of nothing else
   pub base_true_scope : Base → Scope → Scope
   base_true_scope (var first rest) scope = narrowed_scope first rest scope
   base_true_scope (literal v span) scope = scope

@@ -58,7 +58,7 @@ BothFit None (Some c) = ⊥
 BothFit (Some b) None = ⊥
 BothFit (Some b) (Some c) = BoundFits b c
 
--- the same names are bound, each to what fits
+-- each name is bound in neither, or in both, to what fits
 abbrev pub NamesFit : List NameShape → List Binding → Type 0
 NamesFit bs cs = (name : List ℕ) → BothFit (first_bound_shape name bs) (first_bound name cs)
 
@@ -122,7 +122,7 @@ both_wider None (Some c) = false
 both_wider (Some b) None = false
 both_wider (Some b) (Some c) = bound_wider b c
 
--- the same of each of these names
+-- each of these names is bound in neither, or in both, in the first at least as widely
 abbrev pub names_wider : List NameShape → List NameShape → List NameShape → Bool
 names_wider [] bs cs = true
 names_wider (a ∷ as') bs cs =

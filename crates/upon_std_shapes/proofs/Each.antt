@@ -41,7 +41,7 @@ pub all_map : {A B : Type 0} (P : A → Type 0) (Q : B → Type 0) (f : A → B)
 all_map P Q f h [] k = tt
 all_map P Q f h (x ∷ xs) k = (h x k.0, all_map P Q f h xs k.1)
 
--- the same, where it holds of whatever is made
+-- what holds of whatever a function makes holds of each item of a list that the function is mapped over
 pub all_made : {A B : Type 0} (Q : B → Type 0) (f : A → B) → ((x : A) → Q (f x)) → (xs : List A) → AllByRecursion Q (map f xs)
 all_made Q f h [] = tt
 all_made Q f h (x ∷ xs) = (h x, all_made Q f h xs)

@@ -24,7 +24,7 @@ item_shapes =
 abbrev pub for_each_item : (Shape → Signature) → List Signature
 for_each_item one = map one item_shapes
 
--- the same, and after these one more
+-- a signature for each shape of items, and after these one more
 abbrev pub for_each_item_and : (Shape → Signature) → Signature → List Signature
 for_each_item_and one last = map one item_shapes ++ (last ∷ [])
 

@@ -18,7 +18,7 @@ module _ (delimiters : List DelimiterText) (s : List ℕ) where
       let rest = cut_split (mode_after mode l.token) mode' l.span.n n ls ks h.2 in
       record { between = rest.between; at = rest.at; first = (h.0, h.1, rest.first); second = rest.second }
 
-  -- the same tokens from the same offset end at the same one, in the same mode
+  -- two cuts of the same tokens from one offset end at one offset and in one mode
   pub cut_same : (mode a b : Mode) (m n k : ℕ) (ls : List Lexeme) → Cut delimiters s mode m ls a n → Cut delimiters s mode m ls b k → (a ≡ b) × (n ≡ k)
   cut_same mode a b m n k [] x y = (sym x.0 ∙ y.0, sym x.1 ∙ y.1)
   cut_same mode a b m n k (l ∷ ls) x y = cut_same (mode_after mode l.token) a b l.span.n n k ls x.2 y.2

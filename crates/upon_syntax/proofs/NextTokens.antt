@@ -129,7 +129,7 @@ module _ (delimiters : List DelimiterText) (s : List ℕ) where
   said_first span reason e first (inl said) = inr (span, reason, first, said)
   said_first span reason e first (inr memory) = inl memory
 
-  -- the same, as the code says it of the same text at the same span
+  -- an error says the first fault if the code made it for an equal text and an equal span
   pub said_at : (s' : List ℕ) (span span' : Span) (reason : List ℕ) (e : Error) → s' ≡ s → span' ≡ span → IsFirstFault delimiters s span reason → OrMemory (fault_with_picture s' (bare_fault syntax (Some reason) (Some span'))) (fault_of e) → IsSyntaxError delimiters s e
   said_at s' span span' reason e same at first said =
       let F : List ℕ → Type 0 = λ x. OrMemory (fault_with_picture x (bare_fault syntax (Some reason) (Some span'))) (fault_of e) in

@@ -194,7 +194,7 @@ reads_then delimiters s sort ls left after tokens more a b =
       same = spaces_append a.inner b.inner ∙ (λ i. a.same i ++ b.same i);
     }
 
--- the same, whichever tokens were before
+-- one part of the tag after another, whichever tokens were before
 pub reads_more : (delimiters : List DelimiterText) (s : List ℕ) (before left after : LexerState) (tokens more : List Lexeme) → ReadsTokens delimiters s before left tokens → ReadsTokens delimiters s left after more → ReadsTokens delimiters s before after (tokens ++ more)
 reads_more delimiters s before left after tokens more a b = λ sort path ls read mode.
     let on = a sort path ls read mode in

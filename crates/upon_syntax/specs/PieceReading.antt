@@ -187,7 +187,7 @@ abbrev pub ReadsPiece : PieceReader → PieceReader → LexerState → List Lexe
 ReadsPiece reader after before ls old new kept = PieceRead (pieces_delimiters reader) (text_of_reader reader) before
     (pieces_state after) (pieces_blocks reader) (pieces_blocks after) ls (pieces_tokens after) old new kept
 
--- the same of the piece that was read, if one was; a comment leaves the instructions
+-- it goes on over the piece that was read, if one was; over a comment, which leaves the instructions as they were
 abbrev pub ReadsFound : PieceReader → PieceReader → LexerState → List Lexeme → List CodeInstr → List CodeInstr
     → Option CodePiece → Type 0
 ReadsFound reader after before ls old new None = ReaderGoesOn reader after before ls [] × (new ≡ old)

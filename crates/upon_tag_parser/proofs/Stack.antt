@@ -32,7 +32,7 @@ pub record Started (s : List ℕ) (a : List Part) (all now : List Lexeme) : Type
   pub leads : Leads s a all to now
   pub starts : StartsBase s to others now
 
--- the same where an expression may start, with its filters
+-- the tokens lead to where an expression may start, after which its filters and then something else are to come
 pub record PartStarted (s : List ℕ) (a : List Part) (all now : List Lexeme) : Type 0 where
   pub to : List Part
   pub others : List Part

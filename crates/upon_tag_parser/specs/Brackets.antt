@@ -37,7 +37,7 @@ pub record Place : Type 0 where
 abbrev pub place : List Lexeme → List CodeInstr → Place
 place tokens code = record { tokens = tokens; code = program_view code }
 
--- the same at tokens of the code
+-- at these tokens of the code, after these instructions of the code
 abbrev pub place_of : List Lexed → List CodeInstr → Place
 place_of tokens code = place (lexemes_of tokens) code
 
@@ -50,14 +50,14 @@ pub record BaseRead (s : List ℕ) (span : Span) (from to : Place) : Type 0 wher
   pub code : to.code ≡ from.code ++ base_code tree
   pub is_at : span ≡ base_span tree
 
--- the same of an expression so far: more filters may follow
+-- an expression so far was read, which is at this span, and its instructions were appended; more filters may follow
 pub record PartRead (s : List ℕ) (span : Span) (from to : Place) : Type 0 where
   pub tree : Expression
   pub reads : ReadsPart s tree from.tokens to.tokens
   pub code : to.code ≡ from.code ++ expression_code tree
   pub is_at : span ≡ expression_span tree
 
--- the same of an expression, with which what is next does not go on
+-- an expression was read, with which what is next does not go on; it is at this span, its instructions were appended
 pub record ExpressionRead (s : List ℕ) (span : Span) (from to : Place) : Type 0 where
   pub tree : Expression
   pub reads : ReadsExpression s tree from.tokens to.tokens
@@ -186,11 +186,11 @@ abbrev pub OpenGoesOnAt : List ℕ → Open → Span → Place → Step → Plac
 OpenGoesOnAt s top span here last there = (whole : Bool) (from : Place) → IsBaseGiven s whole top span from here
     → IsStep s whole last from there
 
--- the same wherever the Base is
+-- A Base was read in what is open, wherever it is, up to here: what is read there goes on with it, up to there.
 abbrev pub OpenGoesOn : List ℕ → Open → Place → Step → Place → Type 0
 OpenGoesOn s top here last there = (span : Span) → OpenGoesOnAt s top span here last there
 
--- the same where the tokens are stuck
+-- A Base at this span was read in what is open, up to here, and the tokens are stuck.
 abbrev pub OpenStuckAt : List ℕ → Open → Span → Place → Want → List Lexed → Type 0
 OpenStuckAt s top span here want left = (whole : Bool) (from : Place) → IsBaseGiven s whole top span from here
     → StuckFrom s whole from.tokens want left
@@ -204,7 +204,7 @@ abbrev pub ListGoesOn : List ℕ → Beginning → Place → Step → Place → 
 ListGoesOn s start here last there = (whole : Bool) (from : Place) → ListTo s start from here
     → IsStep s whole last from there
 
--- the same of a map and an entry
+-- a map was read up to an entry's start, here: what is read there goes on with it, up to there
 abbrev pub MapGoesOn : List ℕ → Beginning → Place → Step → Place → Type 0
 MapGoesOn s start here last there = (whole : Bool) (from : Place) → MapTo s start from here
     → IsStep s whole last from there
@@ -219,7 +219,7 @@ abbrev pub PartGoesOn : List ℕ → Option Span → Span → Place → Step →
 PartGoesOn s opening span here last there = (whole : Bool) (from start : Place) → PartStart whole opening from start
     → PartRead s span start here → IsStep s whole last from there
 
--- the same where the tokens are stuck
+-- An expression was read so far, up to here, and the tokens are stuck.
 abbrev pub PartStuck : List ℕ → Option Span → Span → Place → Want → List Lexed → Type 0
 PartStuck s opening span here want left = (whole : Bool) (from start : Place) → PartStart whole opening from start
     → PartRead s span start here → StuckFrom s whole from.tokens want left
@@ -230,7 +230,7 @@ EndGoesOn s opening span here last there = (whole : Bool) (from start : Place) (
     → PartStart whole opening from start → ExpressionRead s span start (record { tokens = here; code = code })
     → IsStep s whole last from (record { tokens = there; code = code })
 
--- the same where the tokens are stuck
+-- An expression was read, up to these tokens, with which they do not go on, and they are stuck.
 abbrev pub EndStuck : List ℕ → Option Span → Span → List Lexeme → Want → List Lexed → Type 0
 EndStuck s opening span here want left = (whole : Bool) (from start : Place) (code : List Instr)
     → PartStart whole opening from start → ExpressionRead s span start (record { tokens = here; code = code })

@@ -38,7 +38,7 @@ pub record BaseStart (s : List ℕ) (from others : List Part) (all now : List Le
   pub leads : Leads s from all to now
   pub starts : StartsBase s to others now
 
--- the same, where it is known only which tokens a Base may begin with
+-- some parts where the tokens are, which take what a Base may begin with, and what is to come after it
 pub record BaseTaken (s : List ℕ) (from others : List Part) (all now : List Lexeme) : Type 0 where
   pub to : List Part
   pub leads : Leads s from all to now

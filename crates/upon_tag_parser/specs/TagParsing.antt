@@ -43,7 +43,7 @@ abbrev pub OnStuck : Failure → (Want → List Lexed → Type 0) → Type 0
 OnStuck Memory P = Unit {0}
 OnStuck (Stuck want left) P = P want left.now
 
--- the same of a result that is a failure
+-- where a result is a failure and the parser is stuck, that is said of the wanted word and of the tokens left
 abbrev pub IfStuck : {A : Type 0} → Result A Failure → (Want → List Lexed → Type 0) → Type 0
 IfStuck (Ok a) P = Unit {0}
 IfStuck (Err e) P = OnStuck e P

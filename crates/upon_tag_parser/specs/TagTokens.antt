@@ -51,6 +51,6 @@ pub record IsRestOf (rest tokens : List Lexeme) : Type 0 where
   pub joins : tokens ≡ read ++ rest
   pub no_minus : minus_last false read ≡ false
 
--- the same of the code's tokens
+-- the last of the code's tokens, after some that were read and do not end with a minus
 abbrev pub IsRest : List Lexed → List Lexed → Type 0
 IsRest rest tokens = IsRestOf (lexemes_of rest) (lexemes_of tokens)

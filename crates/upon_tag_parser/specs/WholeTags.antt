@@ -72,14 +72,14 @@ pub record ReadsTag (s : List ℕ) (tag : BlockTag) (ts rest : List Lexeme) : Ty
   pub leads : Leads s (block_word ∷ []) ts to rest
   pub ending : IsEnding s to EndBlock an_end_block rest
 
--- the same, with its instructions appended, of a tag of which the code keeps this
+-- a tag, of which the code keeps this, was read up to where its end may be, and its instructions were appended
 pub record TagRead (s : List ℕ) (tag : Tag) (from to : Place) : Type 0 where
   pub tree : BlockTag
   pub reads : ReadsTag s tree from.tokens to.tokens
   pub keeps : Keeps tag tree
   pub code : to.code ≡ from.code ++ tag_code tree
 
--- the same of a tag that has no expression
+-- a tag without an expression, of which the code keeps this, was read up to where its end may be
 pub record ClosingRead (s : List ℕ) (tag : Tag) (ts rest : List Lexeme) : Type 0 where
   pub tree : BlockTag
   pub reads : ReadsTag s tree ts rest
@@ -109,7 +109,7 @@ pub record ReadsCondition (s : List ℕ) (negated : Bool) (e : Expression) (ts r
   pub quiet : QuietEnding ending rest
   pub no_more : No Pipe rest
 
--- the same, with its instructions appended
+-- a condition was read, with which what is next does not go on, and its instructions were appended
 pub record ConditionRead (s : List ℕ) (negated : Bool) (from to : Place) : Type 0 where
   pub tree : Expression
   pub reads : ReadsCondition s negated tree from.tokens to.tokens

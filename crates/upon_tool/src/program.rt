@@ -402,7 +402,7 @@ fn limits_of(call: &RenderCall<'_>) -> Limits
     }
 }
 
-// The same, if one is set.
+// The limits that are asked for, if one of them is set.
 fn limits_set(call: &RenderCall<'_>) -> Option<Limits>
     ensures { result ≡ limits_set (limits_asked call.now) }
 {

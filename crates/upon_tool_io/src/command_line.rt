@@ -71,7 +71,7 @@ pub(crate) const NAMES: &str = "names";
 enum Takes {
     // Nothing: it is there or not.
     Nothing,
-    // One value, which the help calls so.
+    // One value, with its name in the help.
     One(&'static str),
     // One value each time that it is there.
     Each(&'static str),
@@ -208,7 +208,7 @@ const FOLLOW_ROW: Row = Row {
     ..BLANK
 };
 
-// The same of a build.
+// The row of the option to follow links, for a build.
 const FOLLOW_SOURCE_ROW: Row = Row {
     help: "Follow links that lead out of SRC and DIR",
     ..FOLLOW_ROW
@@ -254,7 +254,7 @@ const OUT_ROW: Row = Row {
     ..BLANK
 };
 
-// The same of a build.
+// The row of the option that says where the output goes, for a build.
 const PAGES_ROW: Row = Row {
     name: OUT,
     takes: Takes::One("DIR"),
@@ -306,7 +306,7 @@ const KEEP_GOING_ROW: Row = Row {
     ..BLANK
 };
 
-// The same of a rendering, which has pages with `--each` alone.
+// The row of the option to go on after a page that fails, for a rendering, which has pages with `--each` alone.
 const KEEP_EACH_GOING_ROW: Row = Row {
     needs: &[EACH],
     ..KEEP_GOING_ROW

@@ -22,7 +22,7 @@ answers_within limits l e name text tree v r is said = subst (λ limits. Answers
 pub answers_whole : (limits : Option Limits) (e : Texts) (name : Option (List ℕ)) (text : List ℕ) (tree : Statements) (v : Val) (r : Result (String Global) Error) → limits ≡ None → AnswersTree e name text tree v r → AnswersIn limits e name text tree v r
 answers_whole limits e name text tree v r is said = subst (λ limits. AnswersIn limits e name text tree v r) (sym is) said
 
--- the same of an answer that may not be there
+-- an answer that is there, within limits, is an answer where these limits are set
 pub some_within : (limits : Option Limits) (l : Limits) (e : Texts) (name : Option (List ℕ)) (text : List ℕ) (tree : Statements) (v : Val) (r : Option (Result (String Global) Error)) → limits ≡ Some l → IsSomeAnd r (AnswersWithin e l name text tree v) → IsSomeAnd r (AnswersIn limits e name text tree v)
 some_within limits l e name text tree v r is said = subst (λ limits. IsSomeAnd r (AnswersIn limits e name text tree v)) (sym is) said
 

@@ -110,7 +110,7 @@ pub fn held_text(
 ) -> Result<String, PageFault>
     // If a text is held under the name, it is what that answers on the value.
     ensures text { IsHeldText limits (⟦<AnyEngine as EngineTexts>⟧.texts engine.now) name.now (view value.now) result }
-    // If none is, and only then, the fault says so.
+    // If none is, and only then, the fault is `NoTemplate`.
     ensures absent { (result ≡ Err NoTemplate) ↔
         ((⟦<AnyEngine as EngineTexts>⟧.texts engine.now).texts name.now ≡ None) }
 {

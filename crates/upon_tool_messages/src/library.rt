@@ -155,7 +155,7 @@ impl Library {
         }
     }
 
-    // The same of the name that a quoted string denotes.
+    // Returns the file of a quoted name that is no template, or the folder on the way to it that can't be read.
     fn refusal_at(&self, quoted: &str) -> Result<Option<(&str, &Refusal)>, AllocError> {
         let Ok(template) = including(self.alloc, quoted) else {
             return Err(AllocError);

@@ -32,7 +32,7 @@ writes_kept : {Q : Type 0} (limit : ℕ) (e : Error) (old mid new : Option (List
 writes_kept limit e old mid new o keeps (inl said) = inl (said.0, appends_kept old mid new o.text said.1 keeps)
 writes_kept limit e old mid new o keeps (inr said) = inr (said.0, (said.1.0, said.1.1, said.1.2, appends_kept old mid new said.1.0 said.1.3 keeps))
 
--- the same within limits
+-- what a failed rendering within limits has sent stays sent, if the output is kept
 within_kept : {Q : Type 0} (depth : ℕ) (limits : Limits) (ran : ℕ → Option (Outcome Q)) (e : Error) (old mid new : Option (List ℕ)) (o : Outcome Q) → Keeps mid new → WritesWithin depth IsAnyIo limits ran (Err e) old mid o → WritesWithin depth IsAnyIo limits ran (Err e) old new o
 within_kept depth limits ran e old mid new o keeps (inl said) = inl (said.0, appends_kept old mid new o.text said.1 keeps, said.2)
 within_kept depth limits ran e old mid new o keeps (inr said) = inr (said.0, (said.1.0, said.1.1, said.1.2, appends_kept old mid new said.1.0 said.1.3 keeps))

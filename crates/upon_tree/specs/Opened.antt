@@ -133,7 +133,7 @@ abbrev pub OpenTreeGoesOn : List ℕ → Open → BaseExpr → List Lexeme → S
 OpenTreeGoesOn s top b here last there = (whole : Bool) (from : List Lexeme) → IsBaseTreeGiven s whole top b from here
     → IsTreeStep s whole last from there
 
--- the same where the tokens are stuck
+-- A Base was read in what is open, up to here, and the tokens are stuck.
 abbrev pub OpenTreeStuck : List ℕ → Open → BaseExpr → List Lexeme → Want → List Lexed → Type 0
 OpenTreeStuck s top b here want left = (whole : Bool) (from : List Lexeme) → IsBaseTreeGiven s whole top b from here
     → StuckFrom s whole from want left
@@ -143,7 +143,7 @@ abbrev pub ListTreeGoesOn : List ℕ → Items → List Lexeme → Step → List
 ListTreeGoesOn s read here last there = (whole : Bool) (from : List Lexeme) → ListTreeTo s read from here
     → IsTreeStep s whole last from there
 
--- the same of a map and an entry
+-- a map was read up to an entry's start, here: what is read there goes on with it, up to there
 abbrev pub MapTreeGoesOn : List ℕ → Entries → List Lexeme → Step → List Lexeme → Type 0
 MapTreeGoesOn s read here last there = (whole : Bool) (from : List Lexeme) → MapTreeTo s read from here
     → IsTreeStep s whole last from there
@@ -159,7 +159,7 @@ PartTreeGoesOn s opening e here last there = (whole : Bool) (from start : List L
     → PartTreeStart whole opening from start → ReadsPart s (expression_tree e) start here
     → IsTreeStep s whole last from there
 
--- the same where the tokens are stuck
+-- An expression was read so far, up to here, and the tokens are stuck.
 abbrev pub PartTreeStuck : List ℕ → Option Span → Expr → List Lexeme → Want → List Lexed → Type 0
 PartTreeStuck s opening e here want left = (whole : Bool) (from start : List Lexeme)
     → PartTreeStart whole opening from start
@@ -171,7 +171,7 @@ EndTreeGoesOn s opening e here last there = (whole : Bool) (from start : List Le
     → PartTreeStart whole opening from start
     → ReadsExpression s (expression_tree e) start here → IsTreeStep s whole last from there
 
--- the same where the tokens are stuck
+-- An expression was read, up to these tokens, with which they do not go on, and they are stuck.
 abbrev pub EndTreeStuck : List ℕ → Option Span → Expr → List Lexeme → Want → List Lexed → Type 0
 EndTreeStuck s opening e here want left = (whole : Bool) (from start : List Lexeme)
     → PartTreeStart whole opening from start

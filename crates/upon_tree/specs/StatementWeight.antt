@@ -42,24 +42,24 @@ with_counts w = w.body + 2
 unfoldable pub stmt_weight : Stmt → ℕ
 stmt_weight = fold-Stmt ℕ ℕ ℕ ℕ ℕ stmt_counts for_counts if_counts scope_counts with_counts
 
--- the same of those of a scope
+-- the size of the statements of a scope, with those in them
 unfoldable pub scope_weight : Scope → ℕ
 scope_weight = fold-Scope ℕ ℕ ℕ ℕ ℕ stmt_counts for_counts if_counts scope_counts with_counts
 
--- the same of those for the other case
+-- the size of the statements for the other case, where there is one, with those in them
 abbrev pub else_weight : Option Scope → ℕ
 else_weight branch = others (option_map scope_weight branch)
 
--- the same of statements in a row
+-- the size of statements in a row, with those in them
 abbrev pub stmts_weight : List Stmt → ℕ
 stmts_weight ss = total (map stmt_weight ss)
 
--- the same of a statement that is open
+-- the size of a statement that was opened, by the bodies that it has
 abbrev pub bodies_weight : Bodies → ℕ
 bodies_weight Leaf = 1
 bodies_weight (One stmts) = stmts_weight stmts.items + 2
 bodies_weight (Two stmts others) = stmts_weight stmts.items + stmts_weight others.items + 3
 
--- the same of all that is yet to be dropped
+-- the size of all statements that are yet to be dropped
 abbrev pub nested_weight : Nested → ℕ
 nested_weight nested = bodies_weight nested.hand + stmt_weight nested.above

@@ -77,7 +77,7 @@ block_ended_in statements first (b ∷ blocks) =
     let all : List Statement = b.around ++ whole_block b.opening b.expression first (statements_from statements) ∷ [] in
     if b.is_else_if then block_ended_in all b.first_around blocks else so_far all b.first_around blocks
 
--- the same of a tree
+-- the tree so far after its innermost block ends, and with the `if` of an `else if` the one around it
 abbrev pub tree_block_ended : TreeSoFar → TreeSoFar
 tree_block_ended so = block_ended_in so.statements so.first so.blocks
 

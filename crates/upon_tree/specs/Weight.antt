@@ -74,75 +74,75 @@ base_weight =
     fold-BaseExpr ℕ ℕ ℕ ℕ ℕ ℕ ℕ ℕ base_counts expr_counts args_counts call_counts filter_counts list_counts map_counts
     paren_counts
 
--- the same of any expression
+-- the size of any expression, with those in it
 unfoldable pub expr_weight : Expr → ℕ
 expr_weight =
     fold-Expr ℕ ℕ ℕ ℕ ℕ ℕ ℕ ℕ base_counts expr_counts args_counts call_counts filter_counts list_counts map_counts
     paren_counts
 
--- the same of arguments
+-- the size of arguments, with the expressions in them
 unfoldable pub args_weight : Args → ℕ
 args_weight =
     fold-Args ℕ ℕ ℕ ℕ ℕ ℕ ℕ ℕ base_counts expr_counts args_counts call_counts filter_counts list_counts map_counts
     paren_counts
 
--- the same of a call
+-- the size of a call, with the expressions in it
 unfoldable pub call_weight : Call → ℕ
 call_weight =
     fold-Call ℕ ℕ ℕ ℕ ℕ ℕ ℕ ℕ base_counts expr_counts args_counts call_counts filter_counts list_counts map_counts
     paren_counts
 
--- the same of a filter
+-- the size of a filter, with the expressions in it
 unfoldable pub filter_weight : Filter → ℕ
 filter_weight =
     fold-Filter ℕ ℕ ℕ ℕ ℕ ℕ ℕ ℕ base_counts expr_counts args_counts call_counts filter_counts list_counts map_counts
     paren_counts
 
--- the same of a list
+-- the size of a list, with the expressions in it
 unfoldable pub list_weight : ListExpr → ℕ
 list_weight =
     fold-List ℕ ℕ ℕ ℕ ℕ ℕ ℕ ℕ base_counts expr_counts args_counts call_counts filter_counts list_counts map_counts
     paren_counts
 
--- the same of a map
+-- the size of a map, with the expressions in it
 unfoldable pub map_weight : MapExpr → ℕ
 map_weight =
     fold-Map ℕ ℕ ℕ ℕ ℕ ℕ ℕ ℕ base_counts expr_counts args_counts call_counts filter_counts list_counts map_counts
     paren_counts
 
--- the same of parentheses
+-- the size of parentheses, with the expressions in them
 unfoldable pub paren_weight : Paren → ℕ
 paren_weight =
     fold-Paren ℕ ℕ ℕ ℕ ℕ ℕ ℕ ℕ base_counts expr_counts args_counts call_counts filter_counts list_counts map_counts
     paren_counts
 
--- the same of arguments, if there may be none
+-- the size of arguments, if there are some, with the expressions in them
 abbrev pub maybe_weight : Option Args → ℕ
 maybe_weight args = arguments (option_map args_weight args)
 
--- the same of expressions in a row
+-- the size of expressions in a row, with those in them
 abbrev pub items_weight : List BaseExpr → ℕ
 items_weight bs = total (map base_weight bs)
 
--- the same of keys with expressions
+-- the size of keys with expressions, with those in them
 abbrev pub entries_weight : List (Quoted × BaseExpr) → ℕ
 entries_weight es = entries_total (map (λ e. (e.0, base_weight e.1)) es)
 
--- the same of an expression that is open
+-- the size of an expression that was opened, by the parts that it has
 abbrev pub parts_weight : Parts → ℕ
 parts_weight Leaf = 1
 parts_weight (Items items) = items_weight items.items + 2
 parts_weight (Entries entries) = entries_weight entries.items + 2
 parts_weight (Inside expr) = expr_weight expr.value + 2
 
--- the same of both rows that were left behind
+-- the size of both rows of expressions that were left behind
 abbrev pub ways_weight : BaseExpr → Expr → ℕ
 ways_weight bases exprs = base_weight bases + expr_weight exprs
 
--- the same of all that is yet to be dropped
+-- the size of all that is yet to be dropped: what is in hand, and both rows that were left behind
 abbrev pub work_weight : Work → ℕ
 work_weight work = expr_weight work.hand + ways_weight work.bases work.exprs
 
--- the same where nothing is in hand
+-- the size of all that is yet to be dropped, where nothing is in hand
 abbrev pub rest_weight : Rest → ℕ
 rest_weight rest = ways_weight rest.bases rest.exprs

@@ -1,4 +1,4 @@
--- Two values agree part by part exactly where they are one, so that `val_eq` may be computed so.
+-- Two values agree part by part exactly where they are one, so that `val_eq` may be computed part by part.
 use Rattle.std.specs.Prelude.{◌≡◌, Bool, true, false, ◌&&◌, bytes_eq, refl}
 use Rattle.std.specs.Bool.{Decides}
 use Rattle.std.proofs.Common.{ap, ap₂, sym, ◌∙◌}

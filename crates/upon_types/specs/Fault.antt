@@ -26,7 +26,7 @@ pub record Fault : Type 0 where
 abbrev pub bare_fault : Kind → Option (List ℕ) → Option Span → Fault
 bare_fault kind reason at = record { kind = kind; name = None; reason = reason; span = at; picture = None }
 
--- the same fault with the picture of its span in a source
+-- a fault, with the picture of its span in a source
 abbrev pub fault_with_picture : List ℕ → Fault → Fault
 fault_with_picture source fault = record fault { picture = option_map (picture source) fault.span }
 
@@ -43,7 +43,7 @@ fault_of_kind kind = bare_fault kind None None
 abbrev pub out_of_memory : Fault
 out_of_memory = fault_of_kind memory
 
--- the same fault in the template of a name
+-- a fault, in the template of a name
 abbrev pub fault_with_name : List ℕ → Fault → Fault
 fault_with_name name fault = record fault { name = Some name }
 

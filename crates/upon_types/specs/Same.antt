@@ -16,7 +16,7 @@ abbrev pub val_eq : Val → Val → Bool
 val_eq v w = decide (one_or_two v w)
 
 abbrev mutual
-  -- the same, part by part: both are of a kind, with the same inside
+  -- whether two values are one, part by part: both are of a kind, with the same inside
   pub val_agrees : Val → Val → Bool
   val_agrees none_val none_val = true
   val_agrees (bool_val a) (bool_val b) = beq a b
@@ -26,13 +26,13 @@ abbrev mutual
   val_agrees (map_val es) (map_val fs) = entries_agree es fs
   val_agrees _ _ = false
 
-  -- the same of lists, value by value
+  -- whether two lists are one, value by value
   pub vals_agree : Vals → Vals → Bool
   vals_agree no_vals no_vals = true
   vals_agree (val_then v vs) (val_then w ws) = val_agrees v w && vals_agree vs ws
   vals_agree _ _ = false
 
-  -- the same of maps, key by key and value by value
+  -- whether two maps are one, key by key and value by value
   pub entries_agree : Entries → Entries → Bool
   entries_agree no_entries no_entries = true
   entries_agree (entry_then k v es) (entry_then l w fs) = bytes_eq k l && (val_agrees v w && entries_agree es fs)

@@ -51,7 +51,7 @@ abbrev pub FailureMarks : Failure → Mark → Mark → Type 0
 FailureMarks (ErrorFailure e) old new = new ≡ old
 FailureMarks OutputFailure old new = new ≡ set_aside old
 
--- the same of a rendering
+-- the output's mark while a rendering is reported: if the output left something out, its error is taken
 abbrev pub ReportMarks : Result Ending Failure → Mark → Mark → Type 0
 ReportMarks (Ok end) old new = new ≡ old
 ReportMarks (Err failure) old new = FailureMarks failure old new
@@ -75,7 +75,7 @@ WritesReported limit IsOwn (Err e) old new o =
     ((fault_of_end limit o.end ≡ Some (fault_of e)) × Appends old new o.text)
     ⊎ (((fault_of e ≡ out_of_memory) ⊎ IsOwn e) × ReceivesPart old new o.text)
 
--- the same, and if the whole text was received, the sources are in the outcome's next states
+-- what is written and reported; and if the whole text was received, the sources are in the outcome's next states
 abbrev pub WritesAndLeaves : {Q : Type 0} → ℕ → (Error → Type 0) → Result (Unit {0}) Error → Option (List ℕ)
     → Option (List ℕ) → Outcome Q → Q → Type 0
 WritesAndLeaves limit IsOwn (Ok u) old new o next = (o.end ≡ good) × Appends old new o.text × (o.next ≡ next)

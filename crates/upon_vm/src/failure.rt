@@ -37,7 +37,7 @@ pub(crate) fn stopped(alloc: Global, running: Running, stop: Option<Stop>) -> Fa
     }
 }
 
-// The same of an instruction that is not carried out.
+// Returns the failure of a template that ran, if one of its instructions is not carried out.
 fn halted(alloc: Global, running: Running, halt: Halt) -> Failure
     requires { HaltLies running.program.source.now halt }
     ensures { FailsSo (active_of running.entry).running halt result }

@@ -33,7 +33,7 @@ pub fn reported<W: Output>(
     }
 }
 
-// The same of an end by itself.
+// Returns the result of a rendering that came to an end: nothing, or that includes were too deep.
 fn end_reported(alloc: Global, end: Ending, limit: usize) -> error::Result<()>
     ensures { EndReport limit end result }
 {

@@ -28,9 +28,9 @@ pub enum Applied {
     Unknown,
     /// Nothing: the name is a formatter's, and there is not one value.
     Miscounted,
-    /// The formatter wrote the value, and ended so.
+    /// The formatter wrote the value, and ended with this result.
     Formatted(fmt::Result),
-    /// The function was called, and answered so.
+    /// The function was called, and answered this.
     Called(Result<Value, CallError>),
 }
 
@@ -41,7 +41,7 @@ pub enum Called {
     Unknown,
     /// Nothing: the name is a formatter's.
     Formatter,
-    /// The function, which answered so.
+    /// The function, and what it answered.
     Function(Result<Value, CallError>),
 }
 

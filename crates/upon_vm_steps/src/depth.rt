@@ -22,7 +22,7 @@ pub(crate) fn fits(value: &Value, depth: usize) -> bool
     }
 }
 
-// The same of any value. It looks no deeper than that.
+// Returns whether at most so many lists and maps of the value are in each other. It looks no deeper than that.
 #[cycle(within)]
 fn is_within(value: &Value, depth: usize) -> bool
     ensures { IsTrue result ↔ (depth_of (view value.now) ≤ depth) }
@@ -34,7 +34,7 @@ fn is_within(value: &Value, depth: usize) -> bool
     }
 }
 
-// The same of each item.
+// Returns whether in each item at most so many lists and maps are in each other.
 #[cycle(within)]
 fn are_within(items: &[Value], depth: usize) -> bool
     ensures { IsTrue result ↔ (greatest_depth (vals_view items.now) ≤ depth) }
@@ -47,7 +47,7 @@ fn are_within(items: &[Value], depth: usize) -> bool
     true
 }
 
-// The same of each entry's value.
+// Returns whether in each entry's value at most so many lists and maps are in each other.
 #[cycle(within)]
 fn are_entries_within(entries: &BTreeMap<String, Value>, depth: usize) -> bool
     ensures { IsTrue result ↔ (greatest_entry_depth (entries_view entries.now.entries) ≤ depth) }

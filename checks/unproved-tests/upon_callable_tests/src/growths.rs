@@ -1,5 +1,5 @@
 // Renderings to a writer, pictures and refused additions, where a growth of memory may be refused: the same as ever, or
-// that memory is out. `checks/growths` refuses each in turn. What callables say of memory ends a rendering so.
+// that memory is out. `checks/growths` refuses each in turn. Memory that is out for a callable ends the rendering.
 use crate::callables::engine;
 use std::alloc::{AllocError, Global};
 use std::borrow::CowStr;

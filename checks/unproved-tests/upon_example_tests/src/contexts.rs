@@ -6,7 +6,7 @@ use upon_examples::contexts::{Placeholder, john, john_by_hand, john_of_a_program
 use upon_lookup::source::{ValueAccess, ValueAccessOp, ValueMember, ValueSource};
 use upon_serde::{Result, Value};
 
-// The same value, put together by the tests' own helpers.
+// The value that each example makes, put together by the tests' own helpers.
 fn wanted(alloc: Global) -> std::result::Result<Value, AllocError> {
     let post = one(alloc, "title", text(alloc, "Hello")?)?;
     let post = with(alloc, post, "likes", integers(alloc, &[1, 2])?)?;

@@ -88,7 +88,7 @@ impl<'s> Listing<'s> {
         self.text.push_str(">")
     }
 
-    // The same after a blank, or else the offsets.
+    // A blank, and then the source's part at a span, or the span's offsets if there is no source.
     fn at(&mut self, span: Span) -> Result<(), AllocError> {
         self.text.push_str(" ")?;
         if self.source.is_none() {

@@ -169,7 +169,7 @@ fn rings_of_references(rt: HostRuntime) -> Result<(), Fail> {
                 r##"{"type": "object", "properties": {"kids": {"type": "array", "items": {"$ref": "#"}}}}"##,
                 r#"{"properties":{"kids":{"type":"array"}},"type":"object"}"#,
             ),
-            // The same definition twice, of which neither is in the other.
+            // Two uses of one definition, neither of them in the other.
             (
                 r##"{"type": "object", "properties": {"a": {"$ref": "#/$defs/t"}, "b": {"$ref": "#/$defs/t"}}, "$defs": {"t": {"type": "string"}}}"##,
                 r#"{"properties":{"a":{"type":"string"},"b":{"type":"string"}},"type":"object"}"#,

@@ -106,7 +106,7 @@ pub fn render_from_fn<V: ValueSource>(
     template.render_from_fn(engine, values).to_string()
 }
 
-// The same of a reference.
+// Renderings of a reference to a template.
 pub fn ref_render<S: Serialize + Drop>(template: TemplateRef, context: S) -> Result<String> {
     template.render(context).to_string()
 }

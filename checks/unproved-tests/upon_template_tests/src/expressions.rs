@@ -160,7 +160,7 @@ fn refused_texts(rt: HostRuntime) -> std::result::Result<(), Fail> {
     all_answer(alloc, &Engine::new(alloc), &Value::None, &rows)
 }
 
-// The same sources on contexts of their own.
+// Sources on contexts that have few names.
 #[test]
 fn contexts_of_few_names(rt: HostRuntime) -> std::result::Result<(), Fail> {
     let alloc = rt.alloc();

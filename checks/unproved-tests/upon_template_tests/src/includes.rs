@@ -82,7 +82,7 @@ fn named(
     }
 }
 
-// The same to a writer, which has received this text before the fault.
+// What the template of a name answers to a writer on no value, which has received this text before the fault.
 fn writes(
     rt: &impl Abort,
     alloc: Global,

@@ -89,7 +89,7 @@ impl Compiler {
         }
     }
 
-    /// Ends the innermost block, which is an `if`, and each `if` that went on with an `else if` that ends so.
+    /// Ends the innermost block, which is an `if`. If it is an `else if`, the `if` around it ends too, and so on up.
     pub fn end_if(&mut self)
         ensures { compiler_state self.new ≡ after_event (end_event if_block) (compiler_state self.old) }
     {

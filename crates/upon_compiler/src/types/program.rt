@@ -24,7 +24,7 @@ pub enum Instr {
     LoopStart(Box<LoopVars>, Span),
     /// Gives the innermost loop its next item; if none is left, ends the loop and goes there.
     LoopNext(usize),
-    /// The same; if the loop had no item at all it goes to the first, else to the second.
+    /// Gives the innermost loop its next item, or ends it: goes to the first if it had no item, else to the second.
     LoopNextElse(usize, usize),
     /// Takes an operand, and gives it a name.
     WithStart(Ident),

@@ -137,7 +137,7 @@ open_tag_is front begin inner t each = split_from [] front begin inner t each
 pub before_tag_is : (front : List Lexeme) (begin : Lexeme) (inner : List Lexeme) → opens_tag begin.token ≡ true → EachInside inner → before_tag (front ++ (begin ∷ inner)) ≡ front
 before_tag_is front begin inner t each = split_closed [] [] front begin inner t each
 
--- the same where the begin ends what comes first
+-- the open tag, where its begin is the last of the tokens that come first
 pub open_tag_more : (front : List Lexeme) (begin : Lexeme) (inner : List Lexeme) → opens_tag begin.token ≡ true → EachInside inner → open_tag ((front ++ begin ∷ []) ++ inner) ≡ begin ∷ inner
 open_tag_more front begin inner t each = ap open_tag (append_assoc front (begin ∷ []) inner) ∙ open_tag_is front begin inner t each
 

@@ -27,7 +27,7 @@ module _ (s : List ℕ) where
   pub one_base_alone : (b : Base) → OneBase s b → OneExpression s (base b)
   one_base_alone b one f ts us mid rest same h p k q = base_before b one f ts us mid rest same h p.0 k q.0.0
 
-  -- the same filter after the same expression
+  -- two readings of a filter after one expression give one tree, and leave the same tokens
   one_filter : (e f : Expression) (name word : Ident) (args others : Arguments) (span place : Span) (ts us r x : List Lexeme) → OneFilterArgs s args → e ≡ f → ts ≡ us
       → IsFilter s e name args span ts r → BehindArgs r → IsFilter s f word others place us x → BehindArgs x → (filtered e name args span ≡ filtered f word others place) × (r ≡ x)
   one_filter e f name word args others span place ts us r x one before same h p k q =

@@ -167,7 +167,7 @@ module _ (s : List ℕ) where
   pub leads_token : {a b : List Part} {t : Token} {ts us : List Lexeme} → GoesBy t ts us → ((k : Key) → after a t k ≡ Some b) → Leads s a ts b us
   leads_token {a} {b} {t} (span, g) h = leads_by s g (h (keyword_of (word_of s t span)))
 
-  -- the same after what may still go on
+  -- one token of a kind that has no word, after parts that may still go on
   pub by_tail : {b : List Part} {t : Token} {ts us : List Lexeme} (tail : Tail) (ps : List Part) → GoesBy t ts us → leaves_base t ≡ true → ((k : Key) → after ps t k ≡ Some b) → Leads s (tail_parts tail ++ ps) ts b us
   by_tail {b} {t} tail ps g quiet h = leads_token g (λ k. tail_left tail ps t k quiet ∙ h k)
 

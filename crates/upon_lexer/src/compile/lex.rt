@@ -154,7 +154,7 @@ impl<'a> Lexer<'a> {
         }
     }
 
-    // The same where the token is whitespace, or none, or wrong.
+    // Returns the next token that is no whitespace, where whitespace is before it, or there is none, or it is wrong.
     #[cold]
     #[inline(never)]
     fn next_rare(&mut self) -> Result<Option<(Token, Span)>>

@@ -58,7 +58,7 @@ module _ {V T : Type 0} (calls : Calls V) (resolve : Resolver T) (root : Root) (
   gives_then : {A B : Type 0} (s : State V T) (r : Reply V (Finding A)) (next : A → V → Reply V (Finding B)) (s1 : A → V → State V T) (s2 : B → V → State V T) → Gives s r s1 → ((a : A) (q : V) → Gives (s1 a q) (next a q) s2) → Gives s (with_found r next) s2
   gives_then s r next s1 s2 x y = then_by s r.answer r.next next s1 s2 x (λ a e. y a r.next)
 
-  -- the same next state, in other words
+  -- the state after what was found, where a function is applied to that
   gives_map : {A B : Type 0} (s : State V T) (r : Reply V (Finding A)) (g : A → B) (s1 : A → V → State V T) (s2 : B → V → State V T) → Gives s r s1 → ((a : A) (q : V) → Comes calls resolve root (s1 a q) [] (s2 (g a) q)) → Gives s (with_found r (λ a q. reply (found (g a)) q)) s2
   gives_map s r g s1 s2 x y = gives_then s r (λ a q. reply (found (g a)) q) s1 s2 x y
 

@@ -16,7 +16,7 @@ use Rattle.upon_lookup.specs.Vals.{val_list}
 use Rattle.upon_lookup.specs.Walk.{miss, found_or_missed, index_in, key_in, member_by_access, lookup_member, after_member, walk, as_some, after_first, context_walk}
 use Rattle.upon_meaning_spec.specs.Alike.{SelectorsAlike, StepsAlike, without_span}
 
--- the same was found, or the faults are the same but for spans
+-- two look-ups found values that are related, or met faults that differ at most in their spans
 abbrev pub FoundAlike : {A : Type 0} → (A → A → Type 0) → Finding A → Finding A → Type 0
 FoundAlike R (found a) (found b) = R a b
 FoundAlike R (at_fault f) (at_fault g) = without_span f ≡ without_span g
@@ -185,7 +185,7 @@ members_same (a ∷ as') (b ∷ bs) h = ap₂ (λ (m : ValueMember) ms. m ∷ ms
 members_same [] (b ∷ bs) h = absurd h
 members_same (a ∷ as') [] h = absurd h
 
--- the same answer and the same next state
+-- two replies with answers that are alike, and with one next state
 pub record ReplyAlike {V A : Type 0} (R : A → A → Type 0) (r r' : Reply V (Finding A)) : Type 0 where
   pub answer : FoundAlike R r.answer r'.answer
   pub next : r.next ≡ r'.next

@@ -42,7 +42,7 @@ a_user h = let one = h.0 in cc
 each_text : accepted (for_each (codes "x") (name (codes "xs")) (show (path (codes "loop") (dot (codes "index") ∷ [])) ∷ show (name (codes "x")) ∷ []) ∷ []) texts
 each_text = (((refl, (refl, tt)), tt), tt)
 
--- the same where there may be no list
+-- a `for` over what may be no list is not accepted
 each_of_maybe : accepted (for_each (codes "x") (name (codes "xs")) (show (name (codes "x")) ∷ []) ∷ []) maybe_texts → ⊥
 each_of_maybe h = h.0.0
 

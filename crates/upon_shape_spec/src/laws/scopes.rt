@@ -37,7 +37,7 @@ pub fn expression_is_shown<V>()
         → IsTrue (is_shown declared scope e) → EndsWell (emit calls e env q).end }
 {}
 
-/// States that where an expression comes to what is true, the scope fits that says so.
+/// States that where an expression comes to what is true, the scope fits that knows the expression to be true.
 pub fn true_scope_fits<V>()
     ensures { (calls : Calls V) (scope : Scope) (env : Environment) (e : Expression) (q : V) → ScopeFits scope env
         → Finds (λ (o : Operand). IsTrue (truth o.value)) (evaluate calls e env q).answer

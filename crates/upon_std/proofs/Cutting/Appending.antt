@@ -41,7 +41,7 @@ pub next_piece : (made before between piece whole : List ℕ) (left pieces : Lis
 next_piece made before between piece whole left pieces are so_far =
     ap (λ t. made ++ t) (append_assoc before piece (put_together between between pieces)) ∙ ap (λ ps. made ++ put_together before between ps) (sym are) ∙ so_far
 
--- the same of lines
+-- a line with what stands before it, and then the others
 pub next_line : (made : List ℕ) (is_first : Bool) (width : ℕ) (line whole : List ℕ) (left lines : List (List ℕ)) → left ≡ line ∷ lines
     → made ++ indented_lines is_first width left ≡ whole → made ++ (line_after is_first width line ++ indented_lines false width lines) ≡ whole
 next_line made is_first width line whole left lines are so_far = ap (λ ls. made ++ indented_lines is_first width ls) (sym are) ∙ so_far

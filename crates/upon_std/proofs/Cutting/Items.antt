@@ -33,7 +33,7 @@ pub pushed_at : {X : Type 0} (f : X → Val) (xs : List X) (i : ℕ) (d : X) (ma
 pushed_at f xs i d made new v within of_new of_v so_far =
     ap (map view) of_new ∙ map_push view made v ∙ (λ k. so_far k ++ (of_v k ∷ [])) ∙ sym (map_more f xs i d within)
 
--- the same, where the item has a name
+-- one more item, which has a name in the code, and what is pushed for it
 pub pushed_more : {X : Type 0} (f : X → Val) (xs : List X) (i : ℕ) (x : X) (made new : List Value) (v : Value) → i < length xs → x ≡ get_or xs i x
     → new ≡ made ++ (v ∷ []) → view v ≡ f x → map view made ≡ map f (take i xs) → map view new ≡ map f (take (i + 1) xs)
 pushed_more f xs i x made new v within is of_new of_v so_far = pushed_at f xs i x made new v within of_new (of_v ∙ ap f is) so_far
@@ -103,7 +103,7 @@ left_out_more p xs i x made within is fails so_far =
     so_far ∙ ap (map view) (sym (filter_more p xs i x within ∙ ap (λ y. filter p (take i xs) ++ cond (p y) (y ∷ []) []) (sym is)
     ∙ ap (λ b. filter p (take i xs) ++ cond b (x ∷ []) []) fails ∙ append-nil (filter p (take i xs))))
 
--- the same, of indices that the code computed
+-- the part of a list between two indices that the code has cut to its length
 pub cut_view : (from to start end : ℕ) (xs : List Value) → end ≡ min to (length xs) → start ≡ min from end → vals_view (slice_range xs start end) ≡ sliced from to (vals_view xs)
 cut_view from to start end xs of_end of_start =
     ap (λ n. vals_view (slice_range xs start n)) of_end

@@ -17,12 +17,12 @@ abbrev mutual
   IsHeld (list_val vs) = AreHeld vs
   IsHeld (map_val es) = (rises es ≡ true) × HasHeld es
 
-  -- the same of each value
+  -- in each value integers are of 64 bits, texts are UTF-8, and the keys of each map rise
   pub AreHeld : Vals → Type 0
   AreHeld no_vals = ⊤
   AreHeld (val_then v vs) = IsHeld v × AreHeld vs
 
-  -- the same of each entry
+  -- each key is UTF-8, and in each value integers are of 64 bits, texts are UTF-8, and the keys of each map rise
   pub HasHeld : Entries → Type 0
   HasHeld no_entries = ⊤
   HasHeld (entry_then key v es) = IsUtf8 key × (IsHeld v × HasHeld es)
@@ -37,12 +37,12 @@ abbrev mutual
   nesting (list_val vs) = suc (items_nesting vs)
   nesting (map_val es) = suc (entries_nesting es)
 
-  -- the same within items
+  -- how deep lists and maps nest within items
   pub items_nesting : Vals → ℕ
   items_nesting no_vals = 0
   items_nesting (val_then v vs) = max (nesting v) (items_nesting vs)
 
-  -- the same within entries
+  -- how deep lists and maps nest within the values of entries
   pub entries_nesting : Entries → ℕ
   entries_nesting no_entries = 0
   entries_nesting (entry_then key v es) = max (nesting v) (entries_nesting es)

@@ -24,7 +24,7 @@ pub enum Relation {
 impl Relation {
     ghost use Rattle.upon_std.specs.Basic.Order.{relation_holds};
 
-    // Whether it holds of two values that are ordered so.
+    // Whether the relation holds of two values that are in this order.
     pub(crate) fn holds(self, order: Ordering) -> bool
         ensures { result ≡ relation_holds self order }
     {

@@ -202,7 +202,7 @@ fn drop_leaves(stmts: &mut Vec<Stmt>)
     while pop_leaf(stmts) {}
 }
 
-// Drops the last statement if it has no statements inside. Returns whether it is so.
+// Drops the last statement if it has no statements inside. Returns whether it dropped one.
 fn pop_leaf(stmts: &mut Vec<Stmt>) -> bool
     ensures less { IsTrue result → vec_len stmts.new < vec_len stmts.old }
     ensures within { stmts_weight stmts.new.items ≤ stmts_weight stmts.old.items }

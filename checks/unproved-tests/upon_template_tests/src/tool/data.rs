@@ -33,7 +33,7 @@ fn value(alloc: Global, text: &str) -> Result<Value, Fail> {
     json(alloc, text).map_err(|_| Fail::new(format_args!("no JSON: {text}")))
 }
 
-// The words say this value, given as JSON, or are refused so.
+// The words say the value that is given as JSON, or are refused with the text that is given.
 fn says(
     rt: &HostRuntime,
     words: &DataWords<'_, '_>,

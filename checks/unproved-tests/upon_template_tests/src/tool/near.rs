@@ -47,7 +47,7 @@ fn nearest_names(rt: HostRuntime) -> Result<(), Fail> {
         ("gr\u{fc}n", &["gr\u{e4}n"], "there is `gr\u{e4}n`"),
         ("Name", &["name", "NAME"], "there is `name`"),
         ("\u{1f600}", &["\u{1f601}"], "there is `\u{1f601}`"),
-        // The same name, and one that is too long to be compared.
+        // A name that is there itself, and one that is too long to be compared.
         ("name", &["name", "nam"], "there is `name`"),
         ("name", &["nam", "name "], "there are `nam` and `name `"),
         ("", &["a", "bc"], "there is `a`"),

@@ -11,7 +11,7 @@ beginning-longer sent more text =
     ap (λ l. l ++ take more (drop sent text)) (sym (take-take sent (sent + more) text (omega arith)))
     ∙ (ap (λ l. take sent (take (sent + more) text) ++ l) (sym (drop-take sent more text)) ∙ take-append-drop sent (take (sent + more) text))
 
--- the same of a slice that was sent
+-- a beginning of a text, and then more of a slice of which a part was sent
 slice-longer : (sent more most : ℕ) (text bytes : List ℕ) → bytes ≡ text → more ≤ most
     → take sent text ++ take more (take most (drop sent bytes)) ≡ take (sent + more) text
 slice-longer sent more most text bytes is within =

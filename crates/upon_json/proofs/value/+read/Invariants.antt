@@ -21,7 +21,7 @@ invariant-list-loop-alloc l = (turns : ℕ) × (length l.reader ≤ turns) × (l
 abbrev pub decreases-list-loop-alloc : goal.decreases-list-loop-alloc
 decreases-list-loop-alloc l = length l.reader
 
--- the same of the entries so far
+-- what the tokens hold is what they held at first, of which the entries so far were read
 abbrev pub invariant-map-loop-entries : goal.invariant-map-loop-entries
 invariant-map-loop-entries l = (turns : ℕ) × (length l.reader ≤ turns) × (length l.reader ≤ length l.initial.reader)
     × (reads_members l.depth l.initial.reader ≡ map_from (entries_view l.entries.entries) l.depth turns l.reader)

@@ -158,7 +158,7 @@ impl BaseExpr {
         }
     }
 
-    // The same as of an expression.
+    // Goes into the expression, which has no filter, or drops it if there is nothing in it.
     fn go_down(self, bases: BaseExpr, exprs: Expr) -> Result<Work, Rest>
         ensures same { IfOk result (λ next. work_weight next ≤ base_weight self + ways_weight bases exprs) }
         ensures inside { IfOk result (λ next. expr_weight next.hand < base_weight self) }
@@ -302,7 +302,7 @@ fn drop_last_items(items: &mut Vec<BaseExpr>)
     while pop_item(items) {}
 }
 
-// Drops the last item if it has nothing inside. Returns whether it is so.
+// Drops the last item if it has nothing inside. Returns whether it dropped one.
 fn pop_item(items: &mut Vec<BaseExpr>) -> bool
     ensures less { IsTrue result → vec_len items.new < vec_len items.old }
     ensures within { items_weight items.new.items ≤ items_weight items.old.items }
@@ -324,7 +324,7 @@ fn pop_item(items: &mut Vec<BaseExpr>) -> bool
     }
 }
 
-// The same with the last value of a map that has something inside.
+// Puts `bases` in the place of the last value with something inside, and returns that; or `bases` if there is none.
 #[inline(always)]
 fn hang_on_entries(
     entries: &mut Vec<(String, BaseExpr)>,
@@ -350,7 +350,7 @@ fn drop_last_entries(entries: &mut Vec<(String, BaseExpr)>)
     while pop_entry(entries) {}
 }
 
-// Drops the last entry if its value has nothing inside. Returns whether it is so.
+// Drops the last entry if its value has nothing inside. Returns whether it dropped one.
 fn pop_entry(entries: &mut Vec<(String, BaseExpr)>) -> bool
     ensures less { IsTrue result → vec_len entries.new < vec_len entries.old }
     ensures within { entries_weight entries.new.items ≤ entries_weight entries.old.items }
