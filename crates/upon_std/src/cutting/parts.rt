@@ -4,7 +4,7 @@ ghost use Rattle.upon_functions.specs.Says.{Says, arguments_view};
 ghost use Rattle.upon_functions.specs.Blames.{BlamesGiven};
 ghost use Rattle.upon_std.specs.Cutting.Parts.{slice_answer, where_answer, replace_answer};
 
-use crate::{lists, numbers, texts};
+use crate::cutting::{lists, numbers, texts};
 use std::alloc::{AllocError, Global};
 use upon_functions::arguments::{OwnedArgument, lent};
 use upon_functions::function::{CallError, Function};
