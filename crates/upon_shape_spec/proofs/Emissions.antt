@@ -17,7 +17,7 @@ use Rattle.upon_shape_spec.specs.ProgramDoubts.{shapes_of, with_known_taken}
 use Rattle.upon_shape_spec.proofs.Blocks.{EndFrom, sooner}
 use Rattle.upon_shape_spec.proofs.Expressions.{over, Puts, expression_walks, base_walks, arguments_walk}
 use Rattle.upon_shape_spec.proofs.Operands.{operand_of, base_operand, base_value_span, arguments_operands, counted, shaped}
-use Rattle.upon_shape_spec.proofs.Walks.{Walks, walk_then, walk_step, with_code, to_number}
+use Rattle.upon_shape_spec.proofs.AlongPrograms.{Walks, walk_then, walk_step, with_code, to_number}
 
 module _ (declared : Declared) (included : List ℕ → Scope → Bool) (scope : Scope) (opens : List Open) where
   -- a walk to where the blocks are left that end there

@@ -16,7 +16,7 @@ use Rattle.upon_shape_spec.specs.Known.{KnownOperand, Open, Known, known, known_
 use Rattle.upon_shape_spec.specs.ProgramDoubts.{shapes_of, with_known_taken}
 use Rattle.upon_shape_spec.proofs.Blocks.{EndFrom, sooner}
 use Rattle.upon_shape_spec.proofs.Operands.{operand_of, base_operand, bases_operands, arguments_operands, counted, shaped, list_with, list_begun, joined_with, item_put, list_ended, list_more, keys_with, entry_put, map_ended, map_more}
-use Rattle.upon_shape_spec.proofs.Walks.{Walks, walk_nothing, walk_then, walk_within, with_code, to_known}
+use Rattle.upon_shape_spec.proofs.AlongPrograms.{Walks, walk_nothing, walk_then, walk_within, with_code, to_known}
 
 module _ (declared : Declared) (included : List ℕ → Scope → Bool) (scope : Scope) (opens : List Open) where
   -- with these operands

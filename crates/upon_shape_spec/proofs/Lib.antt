@@ -18,7 +18,7 @@ pub mod NoDoubts
 pub mod Written
 pub mod Examples
 pub mod Blocks
-pub mod Walks
+pub mod AlongPrograms
 pub mod Operands
 pub mod Expressions
 pub mod Emissions

@@ -22,7 +22,7 @@ use Rattle.upon_shape_spec.proofs.Emissions.{emission_walks}
 use Rattle.upon_shape_spec.proofs.Expressions.{expression_walks}
 use Rattle.upon_shape_spec.proofs.Operands.{operand_of, tested}
 use Rattle.upon_shape_spec.proofs.SomeCode.{some_code}
-use Rattle.upon_shape_spec.proofs.Walks.{Walks, walk_nothing, walk_then, walk_step, walk_after, from_known, to_known, to_number}
+use Rattle.upon_shape_spec.proofs.AlongPrograms.{Walks, walk_nothing, walk_then, walk_step, walk_after, from_known, to_known, to_number}
 
 -- a body ends where its other case begins, or before
 begins_after : (branch : Else) (at : ℕ) → at ≤ else_start branch at

@@ -2,7 +2,7 @@ pub mod CaseTables
 pub mod Characters
 pub mod LowerLemmas
 pub mod UpperLemmas
-pub mod Encoding
-pub mod Ordering
-pub mod Cutting
-pub mod Basic
+pub mod EncodingLemmas
+pub mod OrderingLemmas
+pub mod CuttingLemmas
+pub mod BasicLemmas

@@ -1,5 +1,5 @@
 use Rattle.std.proofs.Common.{◌<◌, arith}
-use Rattle.upon_std.proofs.Basic.Powers.{power_positive, digit_written}
+use Rattle.upon_std.proofs.BasicLemmas.Powers.{power_positive, digit_written}
 use Rattle.upon_std.proofs.basic.decimal.push_last_digits.Goals as goal
 
 pub nonzero_div-digit : goal.nonzero_div-digit

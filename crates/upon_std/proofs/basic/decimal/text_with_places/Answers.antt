@@ -1,4 +1,4 @@
-use Rattle.upon_std.proofs.Basic.Powers.{power_positive}
+use Rattle.upon_std.proofs.BasicLemmas.Powers.{power_positive}
 use Rattle.upon_std.proofs.basic.decimal.text_with_places.Goals as goal
 
 pub nonzero_div-size : goal.nonzero_div-size

@@ -1,7 +1,7 @@
 use Rattle.std.proofs.Common.{ap, sym, ◌∙◌, arith}
 use Rattle.upon_functions.specs.Outcome.{refusal}
 use Rattle.upon_std.specs.Basic.Joined.{joined_result}
-use Rattle.upon_std.proofs.Basic.Joining.{begun, one_more_piece, stops, all_joined}
+use Rattle.upon_std.proofs.BasicLemmas.Joining.{begun, one_more_piece, stops, all_joined}
 use Rattle.upon_std.proofs.basic.joined.joined.Goals as goal
 
 pub loop-item-init : goal.loop-item-init

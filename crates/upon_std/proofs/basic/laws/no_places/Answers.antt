@@ -1,4 +1,4 @@
-use Rattle.upon_std.proofs.Basic.LawLemmas.{decimal_text-zero}
+use Rattle.upon_std.proofs.BasicLemmas.LawLemmas.{decimal_text-zero}
 use Rattle.upon_std.proofs.basic.laws.no_places.Goals as goal
 
 pub returns : goal.returns

@@ -1,5 +1,5 @@
 use Rattle.upon_types.specs.Truth.{truth}
-use Rattle.upon_std.proofs.Basic.LawLemmas.{not-not}
+use Rattle.upon_std.proofs.BasicLemmas.LawLemmas.{not-not}
 use Rattle.upon_std.proofs.basic.laws.not_twice.Goals as goal
 
 pub returns : goal.returns

@@ -1,4 +1,4 @@
-use Rattle.upon_std.proofs.Basic.LawLemmas.{integers_turned, texts_turned, less_turned, at_most_turned}
+use Rattle.upon_std.proofs.BasicLemmas.LawLemmas.{integers_turned, texts_turned, less_turned, at_most_turned}
 use Rattle.upon_std.proofs.basic.laws.order_is_turned.Goals as goal
 
 pub returns : goal.returns

@@ -1,6 +1,6 @@
 use Rattle.std.proofs.Common.{ap, ◌∙◌}
 use Rattle.upon_types.specs.View.{vals_view}
-use Rattle.upon_std.proofs.Basic.Items.{vals_view-reverse}
+use Rattle.upon_std.proofs.BasicLemmas.Items.{vals_view-reverse}
 use Rattle.upon_std.proofs.basic.lists.backwards.Goals as goal
 
 pub returns : goal.returns

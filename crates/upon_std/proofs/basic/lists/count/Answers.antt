@@ -2,7 +2,7 @@ use Rattle.std.proofs.Common.{◌≡◌, length, Some, ap, sym, ◌∙◌, arith
 use Rattle.upon_types.specs.View.{vals_view}
 use Rattle.upon_std.specs.Basic.Items.{vals_in_list}
 use Rattle.upon_types.proofs.Views.{view-List, view-Map}
-use Rattle.upon_std.proofs.Basic.Items.{length-val_list, length-entry_list}
+use Rattle.upon_std.proofs.BasicLemmas.Items.{length-val_list, length-entry_list}
 use Rattle.upon_std.proofs.basic.lists.count.Goals as goal
 
 pub returns-in-List : goal.returns-in-List

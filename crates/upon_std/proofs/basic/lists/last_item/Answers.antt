@@ -2,7 +2,7 @@ use Rattle.std.proofs.Common.{◌≡◌, sym, subst, ◌∙◌}
 use Rattle.std.specs.Result.{IfOk}
 use Rattle.upon_types.specs.View.{view}
 use Rattle.upon_types.proofs.Views.{view-None}
-use Rattle.upon_std.proofs.Basic.Items.{last_val-is}
+use Rattle.upon_std.proofs.BasicLemmas.Items.{last_val-is}
 use Rattle.upon_std.proofs.basic.lists.last_item.Goals as goal
 
 pub returns-in-Some : goal.returns-in-Some

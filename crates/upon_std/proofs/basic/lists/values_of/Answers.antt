@@ -1,6 +1,6 @@
 use Rattle.std.proofs.Common.{ap, sym, ◌∙◌}
 use Rattle.upon_types.specs.View.{vals_of}
-use Rattle.upon_std.proofs.Basic.Items.{copied_all, value_list}
+use Rattle.upon_std.proofs.BasicLemmas.Items.{copied_all, value_list}
 use Rattle.upon_std.proofs.basic.lists.values_of.Goals as goal
 
 pub returns : goal.returns

@@ -1,5 +1,5 @@
 use Rattle.std.proofs.lemmas.Str.Pattern.{contains_text}
-use Rattle.upon_std.proofs.Basic.Parts.{same_truth, found_part, has_part-HasSubslice}
+use Rattle.upon_std.proofs.BasicLemmas.Parts.{same_truth, found_part, has_part-HasSubslice}
 use Rattle.upon_std.proofs.basic.texts.has_inside.Goals as goal
 
 pub returns : goal.returns

@@ -1,6 +1,6 @@
 use Rattle.std.proofs.Common.{ap, ◌∙◌}
 use Rattle.upon_types.specs.View.{vals_view}
-use Rattle.upon_std.proofs.Cutting.Items.{concatenated_view}
+use Rattle.upon_std.proofs.CuttingLemmas.Items.{concatenated_view}
 use Rattle.upon_std.proofs.cutting.lists.concatenated.Goals as goal
 
 pub returns : goal.returns

@@ -5,7 +5,7 @@ use Rattle.upon_types.specs.Same.{val_eq}
 use Rattle.upon_types.specs.View.{view, vals_of}
 use Rattle.upon_types.specs.declared.value.Value.{Value}
 use Rattle.upon_std.specs.Basic.Items.{value_at_key}
-use Rattle.upon_std.proofs.Cutting.Items.{having_view, kept_more, left_out_more}
+use Rattle.upon_std.proofs.CuttingLemmas.Items.{having_view, kept_more, left_out_more}
 use Rattle.upon_std.proofs.cutting.lists.having.Goals as goal
 use Rattle.upon_std.proofs.cutting.lists.having.Goals.{then-has_at+in_ok-try_clone+in_ok-push, else-has_at}
 

@@ -4,7 +4,7 @@ use Rattle.upon_types.specs.Val.{key_of}
 use Rattle.upon_types.specs.View.{view, vals_of}
 use Rattle.upon_types.proofs.Views.{view-None}
 use Rattle.upon_std.specs.Basic.Items.{value_at_key}
-use Rattle.upon_std.proofs.Cutting.Items.{pushed_more, all_pushed, plucked_view}
+use Rattle.upon_std.proofs.CuttingLemmas.Items.{pushed_more, all_pushed, plucked_view}
 use Rattle.upon_std.proofs.cutting.lists.plucked.Goals as goal
 
 pub loop-item-preserved : goal.loop-item-preserved

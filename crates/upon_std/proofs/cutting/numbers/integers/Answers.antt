@@ -2,7 +2,7 @@ use Rattle.std.proofs.Common.{◌≡◌, ◌<ℤ◌, ◌+ℤ◌, pos, to_z, of_z
 use Rattle.std.proofs.lemmas.Grind.{common_steps}
 use Rattle.std.proofs.lemmas.Int.{ints}
 use Rattle.upon_types.proofs.Views.{view-Integer}
-use Rattle.upon_std.proofs.Cutting.Integers.{one_more_integer}
+use Rattle.upon_std.proofs.CuttingLemmas.Integers.{one_more_integer}
 use Rattle.upon_std.proofs.cutting.numbers.integers.Goals as goal
 
 pub loop-number-preserved : goal.loop-number-preserved

@@ -1,8 +1,8 @@
 use Rattle.std.proofs.Common.{◌<◌, length, codes, ap, sym, arith}
 use Rattle.std.specs.Str.Iter.{split_text}
 use Rattle.upon_std.specs.Cutting.Pieces.{indented_lines}
-use Rattle.upon_std.proofs.Cutting.Appending.{moved, too_long, all_made, next_line}
-use Rattle.upon_std.proofs.Cutting.Pieces.{shown, part_comes}
+use Rattle.upon_std.proofs.CuttingLemmas.Appending.{moved, too_long, all_made, next_line}
+use Rattle.upon_std.proofs.CuttingLemmas.Pieces.{shown, part_comes}
 use Rattle.upon_std.proofs.cutting.texts.indented.Goals as goal
 
 pub loop-line-preserved : goal.loop-line-preserved

@@ -2,7 +2,7 @@ use Rattle.std.proofs.Common.{◌≡◌, ◌++◌, ◌≤◌, length, string_byt
 use Rattle.std.specs.Str.Iter.{split_text, split_has_more, split_pattern}
 use Rattle.upon_std.specs.Basic.Parts.{most_bytes}
 use Rattle.upon_std.specs.Cutting.Pieces.{indented_lines, indented}
-use Rattle.upon_std.proofs.Cutting.Pieces.{shown}
+use Rattle.upon_std.proofs.CuttingLemmas.Pieces.{shown}
 use Rattle.upon_std.proofs.cutting.texts.indented.Given as goal
 
 -- what is made so far, and then the lines that are left, are the whole

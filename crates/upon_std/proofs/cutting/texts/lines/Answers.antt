@@ -1,7 +1,7 @@
 use Rattle.std.proofs.Common.{map, ap, ◌∙◌}
 use Rattle.std.proofs.lemmas.Iterator.Consumers.{map_from_collect}
 use Rattle.std.proofs.lemmas.Iterator.Splits.{YieldsList-from_lines}
-use Rattle.upon_std.proofs.Cutting.Items.{made_values}
+use Rattle.upon_std.proofs.CuttingLemmas.Items.{made_values}
 use Rattle.upon_std.proofs.cutting.texts.lines.Goals as goal
 
 pub returns : goal.returns

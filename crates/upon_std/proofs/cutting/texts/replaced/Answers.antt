@@ -1,8 +1,8 @@
 use Rattle.std.proofs.Common.{ap, sym}
 use Rattle.std.specs.Str.Iter.{split_text}
 use Rattle.upon_std.specs.Cutting.Pieces.{put_together}
-use Rattle.upon_std.proofs.Cutting.Appending.{moved, too_long, all_made, next_piece}
-use Rattle.upon_std.proofs.Cutting.Pieces.{shown, part_comes}
+use Rattle.upon_std.proofs.CuttingLemmas.Appending.{moved, too_long, all_made, next_piece}
+use Rattle.upon_std.proofs.CuttingLemmas.Pieces.{shown, part_comes}
 use Rattle.upon_std.proofs.cutting.texts.replaced.Goals as goal
 
 pub loop-piece-preserved : goal.loop-piece-preserved

@@ -4,7 +4,7 @@ use denote.Text.{Utf8}
 use Rattle.std.specs.Str.Iter.{split_text, split_has_more, split_pattern}
 use Rattle.upon_std.specs.Basic.Parts.{most_bytes}
 use Rattle.upon_std.specs.Cutting.Pieces.{put_together, replaced}
-use Rattle.upon_std.proofs.Cutting.Pieces.{shown}
+use Rattle.upon_std.proofs.CuttingLemmas.Pieces.{shown}
 use Rattle.upon_std.proofs.cutting.texts.replaced.Given as goal
 
 -- what is made so far, and then the parts that are left, are the whole

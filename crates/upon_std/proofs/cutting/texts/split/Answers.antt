@@ -1,7 +1,7 @@
 use Rattle.std.proofs.Common.{map, ap, ◌∙◌}
 use Rattle.std.proofs.lemmas.Iterator.Consumers.{map_from_collect}
-use Rattle.upon_std.proofs.Cutting.Items.{made_values}
-use Rattle.upon_std.proofs.Cutting.Pieces.{YieldsList-from_text_split}
+use Rattle.upon_std.proofs.CuttingLemmas.Items.{made_values}
+use Rattle.upon_std.proofs.CuttingLemmas.Pieces.{YieldsList-from_text_split}
 use Rattle.upon_std.proofs.cutting.texts.split.Goals as goal
 
 pub returns : goal.returns

@@ -1,7 +1,7 @@
 use Rattle.std.proofs.Common.{List, ℕ, Bor, ap, arith}
 use Rattle.upon_types.specs.Val.{text_val}
 use Rattle.upon_types.specs.View.{vals_of}
-use Rattle.upon_std.proofs.Cutting.Items.{pushed_at, all_pushed}
+use Rattle.upon_std.proofs.CuttingLemmas.Items.{pushed_at, all_pushed}
 use Rattle.upon_std.proofs.cutting.texts.text_values.Goals as goal
 
 pub loop-text-preserved : goal.loop-text-preserved

@@ -1,7 +1,7 @@
 use Rattle.std.proofs.Common.{arith}
 use Rattle.std.specs.Str.Iter.{chars_rest}
 use Rattle.std.proofs.lemmas.Str.{IsUtf8-past_char}
-use Rattle.upon_std.proofs.Encoding.Widths.{less_beside, columns_of_none}
+use Rattle.upon_std.proofs.EncodingLemmas.Widths.{less_beside, columns_of_none}
 use Rattle.upon_std.proofs.encoding.columns.columns_beside.Goals as goal
 
 pub loop-character-preserved : goal.loop-character-preserved

@@ -1,7 +1,7 @@
 use Rattle.std.proofs.Common.{refl, sym, arith}
 use Rattle.std.specs.Str.Iter.{chars_rest}
 use Rattle.std.proofs.lemmas.Str.{IsUtf8-past_char}
-use Rattle.upon_std.proofs.Encoding.Widths.{fits_beside, fits_no_more, all_fit}
+use Rattle.upon_std.proofs.EncodingLemmas.Widths.{fits_beside, fits_no_more, all_fit}
 use Rattle.upon_std.proofs.encoding.columns.fits.Goals as goal
 
 pub returns-then-left-taken : goal.returns-then-left-taken

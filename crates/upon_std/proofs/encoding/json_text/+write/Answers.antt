@@ -5,7 +5,7 @@ use Rattle.upon_types.proofs.Views.{view-String}
 use Rattle.upon_fmt.specs.Formatter.{Formats}
 use Rattle.upon_meaning_spec.specs.DefaultFormat.{format_text}
 use Rattle.upon_std.specs.Encoding.JsonText.{before, entry_name_text, json_entries, json_items, json_text}
-use Rattle.upon_std.proofs.Encoding.JsonWriting.{adds, begins, closes, formatted, items_at}
+use Rattle.upon_std.proofs.EncodingLemmas.JsonWriting.{adds, begins, closes, formatted, items_at}
 use Rattle.upon_std.proofs.encoding.json_text.+write.Goals as goal
 
 pub write_value-returns-in-String : goal.write_value-returns-in-String

@@ -1,7 +1,7 @@
 use Rattle.std.proofs.Common.{drop, true}
 use Rattle.upon_types.specs.View.{vals_view, entries_view}
 use Rattle.upon_std.specs.Encoding.JsonText.{json_entries, json_items}
-use Rattle.upon_std.proofs.Encoding.JsonWriting.{Keeps}
+use Rattle.upon_std.proofs.EncodingLemmas.JsonWriting.{Keeps}
 use Rattle.upon_std.proofs.encoding.json_text.+write.Given as goal
 
 -- the items that are left are still to be written

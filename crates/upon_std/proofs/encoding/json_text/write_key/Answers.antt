@@ -1,6 +1,6 @@
 use Rattle.std.proofs.Common.{[], ◌∷◌, refl}
 use Rattle.upon_std.specs.Encoding.JsonText.{entry_name_text, json_string}
-use Rattle.upon_std.proofs.Encoding.JsonWriting.{adds, begins, ends, formatted}
+use Rattle.upon_std.proofs.EncodingLemmas.JsonWriting.{adds, begins, ends, formatted}
 use Rattle.upon_std.proofs.encoding.json_text.write_key.Goals as goal
 
 pub returns : goal.returns

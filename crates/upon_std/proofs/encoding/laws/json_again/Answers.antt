@@ -1,4 +1,4 @@
-use Rattle.upon_std.proofs.Encoding.JsonAgain.{text_value-json_text}
+use Rattle.upon_std.proofs.EncodingLemmas.JsonAgain.{text_value-json_text}
 use Rattle.upon_std.proofs.encoding.laws.json_again.Goals as goal
 
 pub returns : goal.returns

@@ -1,4 +1,4 @@
-use Rattle.upon_std.proofs.Encoding.Blanks.{padded_left-columns, padded_right-columns, centered-columns}
+use Rattle.upon_std.proofs.EncodingLemmas.Blanks.{padded_left-columns, padded_right-columns, centered-columns}
 use Rattle.upon_std.proofs.encoding.laws.padded_columns.Goals as goal
 
 pub returns : goal.returns

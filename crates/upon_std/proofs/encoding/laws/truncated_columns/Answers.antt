@@ -1,4 +1,4 @@
-use Rattle.upon_std.proofs.Encoding.Fronts.{truncated-within, truncated-whole, front-longest, truncated-chars}
+use Rattle.upon_std.proofs.EncodingLemmas.Fronts.{truncated-within, truncated-whole, front-longest, truncated-chars}
 use Rattle.upon_std.proofs.encoding.laws.truncated_columns.Goals as goal
 
 pub returns : goal.returns

@@ -1,4 +1,4 @@
-use Rattle.upon_std.proofs.Encoding.UrlLemmas.{url_text-clean, url_text-decoded}
+use Rattle.upon_std.proofs.EncodingLemmas.UrlLemmas.{url_text-clean, url_text-decoded}
 use Rattle.upon_std.proofs.encoding.laws.url_again.Goals as goal
 
 pub returns : goal.returns

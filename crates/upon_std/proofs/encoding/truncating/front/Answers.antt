@@ -1,7 +1,7 @@
 use Rattle.std.proofs.Common.{refl, arith, string_bytes}
 use Rattle.std.specs.Str.Iter.{chars_rest}
 use Rattle.std.proofs.lemmas.Str.{IsUtf8-past_char}
-use Rattle.upon_std.proofs.Encoding.Fronts.{front-ends, front-more, front-whole}
+use Rattle.upon_std.proofs.EncodingLemmas.Fronts.{front-ends, front-more, front-whole}
 use Rattle.upon_std.proofs.encoding.truncating.front.Goals as goal
 
 pub returns-then-left-taken : goal.returns-then-left-taken

@@ -1,6 +1,6 @@
 use Rattle.std.proofs.Common.{◌≡◌, suc, ◌-◌, ◌∙◌, string_bytes, arith}
 use Rattle.std.proofs.lemmas.Result.{IfOk-weaker}
-use Rattle.upon_std.proofs.Encoding.Fronts.{truncated-cut, truncated-text}
+use Rattle.upon_std.proofs.EncodingLemmas.Fronts.{truncated-cut, truncated-text}
 use Rattle.upon_std.proofs.encoding.truncating.truncated.Goals as goal
 
 pub returns-then-fits : goal.returns-then-fits

@@ -2,8 +2,8 @@ use Rattle.std.proofs.Common.{◌≡◌, ◌+◌, ◌++◌, [], ◌∷◌, Vec, 
 use Rattle.std.proofs.lemmas.List.{map-append}
 use Rattle.upon_types.specs.View.{view}
 use Rattle.upon_types.specs.declared.value.Value.{Value}
-use Rattle.upon_std.proofs.Ordering.Repeats.{val_eq-Decides, kept_of, none_kept, all_kept, one_skipped, one_kept}
-use Rattle.upon_std.proofs.Ordering.Seen.{HasSpelled, none_seen, one_again, one_more, is_among, is_not_among}
+use Rattle.upon_std.proofs.OrderingLemmas.Repeats.{val_eq-Decides, kept_of, none_kept, all_kept, one_skipped, one_kept}
+use Rattle.upon_std.proofs.OrderingLemmas.Seen.{HasSpelled, none_seen, one_again, one_more, is_among, is_not_among}
 use Rattle.upon_std.proofs.ordering.distinct.distinct.Goals as goal
 use Rattle.upon_std.proofs.ordering.distinct.distinct.Goals.{then-is_new+in_ok-try_clone+in_ok-push, else-is_new}
 

@@ -4,7 +4,7 @@ use Rattle.upon_types.specs.View.{view}
 use Rattle.upon_types.specs.declared.value.Value.{Value}
 use Rattle.upon_std.specs.Ordering.Buckets.{HoldsMembers}
 use Rattle.upon_std.specs.Basic.Items.{value_at_key}
-use Rattle.upon_std.proofs.Ordering.Storing.{one_more_stored}
+use Rattle.upon_std.proofs.OrderingLemmas.Storing.{one_more_stored}
 use Rattle.upon_std.proofs.ordering.grouping.buckets.Goals as goal
 
 pub loop-item-preserved : goal.loop-item-preserved

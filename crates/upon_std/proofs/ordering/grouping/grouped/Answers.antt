@@ -3,7 +3,7 @@ use Rattle.std.proofs.lemmas.Grind.{common_steps}
 use Rattle.upon_types.specs.View.{view}
 use Rattle.upon_std.specs.Ordering.Grouping.{group_val, members}
 use Rattle.upon_std.specs.Basic.Items.{value_at_key}
-use Rattle.upon_std.proofs.Ordering.Storing.{one_more_made}
+use Rattle.upon_std.proofs.OrderingLemmas.Storing.{one_more_made}
 use Rattle.upon_std.proofs.ordering.grouping.grouped.Goals as goal
 
 pub loop-key-preserved : goal.loop-key-preserved

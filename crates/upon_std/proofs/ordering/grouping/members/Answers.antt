@@ -1,5 +1,5 @@
 use Rattle.upon_types.specs.View.{view}
-use Rattle.upon_std.proofs.Ordering.Storing.{found_bucket, no_bucket}
+use Rattle.upon_std.proofs.OrderingLemmas.Storing.{found_bucket, no_bucket}
 use Rattle.upon_std.proofs.ordering.grouping.members.Goals as goal
 
 pub returns-in-Some : goal.returns-in-Some

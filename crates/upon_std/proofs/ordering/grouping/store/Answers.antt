@@ -1,6 +1,6 @@
 use Rattle.std.proofs.Common.{◌≡◌}
 use Rattle.upon_std.specs.Ordering.Buckets.{lent_vals, stored_values}
-use Rattle.upon_std.proofs.Ordering.Storing.{bucket_there, bucket_absent, store_is}
+use Rattle.upon_std.proofs.OrderingLemmas.Storing.{bucket_there, bucket_absent, store_is}
 use Rattle.upon_std.proofs.ordering.grouping.store.Goals as goal
 use Rattle.upon_std.proofs.ordering.grouping.store.Goals.{in-Some, in-None}
 

@@ -1,4 +1,4 @@
-use Rattle.upon_std.proofs.Ordering.LawLemmas.{sorted_permutes, sorted_ascends, sorted_stays}
+use Rattle.upon_std.proofs.OrderingLemmas.LawLemmas.{sorted_permutes, sorted_ascends, sorted_stays}
 use Rattle.upon_std.proofs.ordering.laws.sorted.Goals as goal
 
 pub returns : goal.returns

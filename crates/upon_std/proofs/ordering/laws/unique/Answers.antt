@@ -1,4 +1,4 @@
-use Rattle.upon_std.proofs.Ordering.LawLemmas.{distinct_differ, distinct_keeps}
+use Rattle.upon_std.proofs.OrderingLemmas.LawLemmas.{distinct_differ, distinct_keeps}
 use Rattle.upon_std.proofs.ordering.laws.unique.Goals as goal
 
 pub returns : goal.returns

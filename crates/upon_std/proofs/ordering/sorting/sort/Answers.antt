@@ -4,8 +4,8 @@ use Rattle.upon_types.specs.View.{view}
 use Rattle.upon_types.specs.declared.value.Value.{Value}
 use Rattle.upon_std.specs.Ordering.Keys.{key_val}
 use Rattle.upon_std.specs.Ordering.Ranks.{rank_cmp}
-use Rattle.upon_std.proofs.Ordering.Rising.{sorted_by_closure, ascending-map}
-use Rattle.upon_std.proofs.Ordering.Ranks.{rank_weak}
+use Rattle.upon_std.proofs.OrderingLemmas.Rising.{sorted_by_closure, ascending-map}
+use Rattle.upon_std.proofs.OrderingLemmas.Ranks.{rank_weak}
 use Rattle.upon_std.proofs.ordering.sorting.sort.Goals as goal
 
 on_ok : {T E : Type 0} {P Q : Type 0} (r : Result T E) → (P → Q) → OnOk r P → OnOk r Q

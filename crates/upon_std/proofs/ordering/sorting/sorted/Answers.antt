@@ -1,7 +1,7 @@
 use Rattle.std.proofs.Common.{◌≡◌, Option, Some, None, map, option_map, string_bytes, refl, ap}
 use Rattle.upon_types.specs.View.{view}
 use Rattle.upon_std.specs.Ordering.Keys.{key_val}
-use Rattle.upon_std.proofs.Ordering.Ranks.{made_sorted}
+use Rattle.upon_std.proofs.OrderingLemmas.Ranks.{made_sorted}
 use Rattle.upon_std.proofs.ordering.sorting.sorted.Goals as goal
 
 not_some : {A : Type 0} (o : Option A) → ((x : A) → o ≡ Some x → ⊥) → o ≡ None

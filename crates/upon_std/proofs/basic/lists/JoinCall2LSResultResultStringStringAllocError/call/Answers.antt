@@ -1,4 +1,4 @@
-use Rattle.upon_std.proofs.Basic.Joining.{gives_joined}
+use Rattle.upon_std.proofs.BasicLemmas.Joining.{gives_joined}
 use Rattle.upon_std.proofs.basic.lists.JoinCall2LSResultResultStringStringAllocError.call.Goals as goal
 
 pub returns : goal.returns

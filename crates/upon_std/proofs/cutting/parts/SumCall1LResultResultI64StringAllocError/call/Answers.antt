@@ -1,4 +1,4 @@
-use Rattle.upon_std.proofs.Cutting.Sums.{gives_sum}
+use Rattle.upon_std.proofs.CuttingLemmas.Sums.{gives_sum}
 use Rattle.upon_std.proofs.cutting.parts.SumCall1LResultResultI64StringAllocError.call.Goals as goal
 
 pub returns : goal.returns

@@ -1,5 +1,5 @@
 use Rattle.upon_std.specs.Basic.Items.{value_at_key}
-use Rattle.upon_std.proofs.Ordering.Giving.{gives_sorted}
+use Rattle.upon_std.proofs.OrderingLemmas.Giving.{gives_sorted}
 use Rattle.upon_std.proofs.ordering.calls.SortByCall2LSResultResultVecValueStringAllocError.call.Goals as goal
 
 pub returns : goal.returns

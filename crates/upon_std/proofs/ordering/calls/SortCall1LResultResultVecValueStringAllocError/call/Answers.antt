@@ -1,5 +1,5 @@
 use Rattle.upon_types.specs.Val.{Val}
-use Rattle.upon_std.proofs.Ordering.Giving.{gives_sorted}
+use Rattle.upon_std.proofs.OrderingLemmas.Giving.{gives_sorted}
 use Rattle.upon_std.proofs.ordering.calls.SortCall1LResultResultVecValueStringAllocError.call.Goals as goal
 
 pub returns : goal.returns

@@ -17,9 +17,9 @@ use Rattle.upon_json.specs.Value.{value_of_json}
 use Rattle.upon_types.specs.Val.{Val, none_val, bool_val, int_val, text_val, list_val, map_val, Vals, no_vals, val_then, Entries, no_entries, entry_then}
 use Rattle.upon_std.specs.Encoding.Held.{IsHeld, AreHeld, HasHeld, nesting}
 use Rattle.upon_std.specs.Encoding.JsonText.{entry_name_text, json_entries, json_items, json_string, json_text}
-use Rattle.upon_std.proofs.Encoding.JsonNumbers.{IsNumber-signed, without_mark-signed}
-use Rattle.upon_std.proofs.Encoding.JsonStrings.{string_lexed}
-use Rattle.upon_std.proofs.Encoding.JsonTrees.{depth-json_of, HasNumbers-json_of, items_of, json_of, members_of, value_of-json_of}
+use Rattle.upon_std.proofs.EncodingLemmas.JsonNumbers.{IsNumber-signed, without_mark-signed}
+use Rattle.upon_std.proofs.EncodingLemmas.JsonStrings.{string_lexed}
+use Rattle.upon_std.proofs.EncodingLemmas.JsonTrees.{depth-json_of, HasNumbers-json_of, items_of, json_of, members_of, value_of-json_of}
 
 -- ---- what the printer writes
 

@@ -17,7 +17,7 @@ use Rattle.upon_types.specs.declared.value.Value.{Value}
 use Rattle.upon_std.specs.Ordering.Buckets.{numbers_cmp, lent_vals, stored_values, HoldsMembers, IsBucketOf}
 use Rattle.upon_std.specs.Ordering.Grouping.{members}
 use Rattle.upon_std.specs.Ordering.Spelling.{spelling}
-use Rattle.upon_std.proofs.Ordering.Seen.{at_spelling}
+use Rattle.upon_std.proofs.OrderingLemmas.Seen.{at_spelling}
 
 abbrev Numbers : Type 0
 Numbers = Vec ℕ Global

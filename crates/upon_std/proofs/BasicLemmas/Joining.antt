@@ -8,7 +8,7 @@ use Rattle.upon_types.specs.View.{view, vals_view}
 use Rattle.upon_types.specs.declared.value.Value.{Value}
 use Rattle.upon_std.specs.Basic.Items.{vals_in_list}
 use Rattle.upon_std.specs.Basic.Joined.{text_in, prefixed, piece_then, joined_from, joined_result, IsJoined}
-use Rattle.upon_std.proofs.Basic.Items.{val_list-vals_of}
+use Rattle.upon_std.proofs.BasicLemmas.Items.{val_list-vals_of}
 
 -- nothing before a text changes nothing
 prefixed-nil : (r : Result (List ℕ) Val) → prefixed [] r ≡ r

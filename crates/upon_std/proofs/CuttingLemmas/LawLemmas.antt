@@ -9,8 +9,8 @@ use Rattle.upon_std.specs.Basic.Items.{vals_in_list}
 use Rattle.upon_std.specs.Basic.Joined.{joined_from, prefixed}
 use Rattle.upon_std.specs.Cutting.Items.{concatenated, sliced}
 use Rattle.upon_std.specs.Cutting.Pieces.{pieces_after, pieces, put_together, replaced}
-use Rattle.upon_std.proofs.Cutting.Items.{val_list-vals_of, vals_of-val_list}
-use Rattle.upon_std.proofs.Cutting.Pieces.{front}
+use Rattle.upon_std.proofs.CuttingLemmas.Items.{val_list-vals_of, vals_of-val_list}
+use Rattle.upon_std.proofs.CuttingLemmas.Pieces.{front}
 
 onto_some : (c : ℕ) (ps : List (List ℕ)) → 0 < length (onto_first c ps)
 onto_some c [] = omega arith

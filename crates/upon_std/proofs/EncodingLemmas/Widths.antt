@@ -4,7 +4,7 @@ use Rattle.std.proofs.lemmas.Bool.Decides.{nat_tests}
 use Rattle.std.proofs.lemmas.Str.{chars_past_char}
 use Rattle.std.specs.Str.{IsUtf8}
 use Rattle.upon_std.specs.Encoding.Columns.{columns_of, width}
-use Rattle.upon_std.proofs.Encoding.Characters.{no_chars}
+use Rattle.upon_std.proofs.EncodingLemmas.Characters.{no_chars}
 
 -- the columns of a text are those of its first character and those of the others
 pub columns_of_next : (bs rest : List ℕ) (c : ℕ) → IsUtf8 bs → bs ≡ encode_utf8 c ++ rest → columns_of (chars bs) ≡ width c + columns_of (chars rest)

@@ -8,8 +8,8 @@ use Rattle.std.specs.Str.{IsUtf8}
 use Rattle.unicode_width.proofs.Computing.{unicode_width}
 use Rattle.upon_std.specs.Encoding.Columns.{columns_of, width}
 use Rattle.upon_std.specs.Encoding.Truncating.{cut, ellipsis, front, truncated}
-use Rattle.upon_std.proofs.Encoding.Blanks.{columns-append}
-use Rattle.upon_std.proofs.Encoding.Characters.{no_chars}
+use Rattle.upon_std.proofs.EncodingLemmas.Blanks.{columns-append}
+use Rattle.upon_std.proofs.EncodingLemmas.Characters.{no_chars}
 
 -- the first character is in the front where it fits
 chosen-within : (b : Bool) (c n : ℕ) (cs : List ℕ) → nat_le (width c) n ≡ b → columns_of cs ≤ n - width c → columns_of (cond b (c ∷ cs) []) ≤ n

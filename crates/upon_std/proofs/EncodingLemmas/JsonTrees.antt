@@ -12,7 +12,7 @@ use Rattle.upon_json.specs.Value.{put, value_of_json, items_values, members_over
 use Rattle.upon_types.specs.Val.{Val, none_val, bool_val, int_val, text_val, list_val, map_val, Vals, no_vals, val_then, Entries, no_entries, entry_then, rises}
 use Rattle.upon_types.proofs.Copies.{before_middle, joined}
 use Rattle.upon_std.specs.Encoding.Held.{IsHeld, AreHeld, HasHeld, nesting, items_nesting, entries_nesting}
-use Rattle.upon_std.proofs.Encoding.JsonNumbers.{IsNumber-signed, number_val-signed_decimal}
+use Rattle.upon_std.proofs.EncodingLemmas.JsonNumbers.{IsNumber-signed, number_val-signed_decimal}
 
 abbrev mutual
   -- the tree of a value

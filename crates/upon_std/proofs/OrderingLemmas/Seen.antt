@@ -13,8 +13,8 @@ use Rattle.upon_types.specs.Same.{val_eq}
 use Rattle.upon_types.specs.Val.{Val}
 use Rattle.upon_std.specs.Ordering.Buckets.{numbers_cmp}
 use Rattle.upon_std.specs.Ordering.Spelling.{spelling}
-use Rattle.upon_std.proofs.Ordering.Readings.{one_spelling}
-use Rattle.upon_std.proofs.Ordering.Repeats.{val_eq-Decides, list_any-push}
+use Rattle.upon_std.proofs.OrderingLemmas.Readings.{one_spelling}
+use Rattle.upon_std.proofs.OrderingLemmas.Repeats.{val_eq-Decides, list_any-push}
 
 abbrev pub Numbers : Type 0
 Numbers = Vec ℕ Global

@@ -9,10 +9,10 @@ use Rattle.upon_types.specs.Same.{val_eq}
 use Rattle.upon_types.specs.Val.{Val}
 use Rattle.upon_std.specs.Ordering.Distinct.{distinct}
 use Rattle.upon_std.specs.Ordering.Grouping.{members, group_val, group_items, grouped}
-use Rattle.upon_std.proofs.Ordering.Giving.{val_list-vals_of}
-use Rattle.upon_std.proofs.Ordering.LawLemmas.{distinct_differ, distinct_keeps}
-use Rattle.upon_std.proofs.Ordering.Repeats.{val_eq-Decides, filter_twice}
-use Rattle.upon_std.proofs.Ordering.Rising.{all_weaker}
+use Rattle.upon_std.proofs.OrderingLemmas.Giving.{val_list-vals_of}
+use Rattle.upon_std.proofs.OrderingLemmas.LawLemmas.{distinct_differ, distinct_keeps}
+use Rattle.upon_std.proofs.OrderingLemmas.Repeats.{val_eq-Decides, filter_twice}
+use Rattle.upon_std.proofs.OrderingLemmas.Rising.{all_weaker}
 
 itself : (v : Val) → val_eq v v ≡ true
 itself v = (val_eq-Decides v v).1 refl

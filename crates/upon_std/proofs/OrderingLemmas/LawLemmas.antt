@@ -12,9 +12,9 @@ use Rattle.upon_std.specs.Ordering.Distinct.{distinct}
 use Rattle.upon_std.specs.Ordering.Grouping.{members}
 use Rattle.upon_std.specs.Ordering.Ranks.{rank_cmp}
 use Rattle.upon_std.specs.Ordering.Sorting.{ascending, is_below, keys_refusal, values_or_refusal, sorted_by}
-use Rattle.upon_std.proofs.Ordering.Ranks.{rank_weak, ranked_is_sorted, then_equal}
-use Rattle.upon_std.proofs.Ordering.Repeats.{val_eq-Decides}
-use Rattle.upon_std.proofs.Ordering.Rising.{permuted_ascending, ascending_sorted, stays_ascending}
+use Rattle.upon_std.proofs.OrderingLemmas.Ranks.{rank_weak, ranked_is_sorted, then_equal}
+use Rattle.upon_std.proofs.OrderingLemmas.Repeats.{val_eq-Decides}
+use Rattle.upon_std.proofs.OrderingLemmas.Rising.{permuted_ascending, ascending_sorted, stays_ascending}
 
 -- what is sorted was not refused
 not_refused : (refusal : Option (List ℕ)) (vs ws : List Val) → values_or_refusal refusal vs ≡ Ok ws → (refusal ≡ None) × (vs ≡ ws)

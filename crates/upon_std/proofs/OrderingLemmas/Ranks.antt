@@ -9,7 +9,7 @@ use Rattle.upon_types.specs.Val.{Val, int_val, text_val}
 use Rattle.upon_std.specs.Basic.Order.{order_of, unordered}
 use Rattle.upon_std.specs.Ordering.Ranks.{kind_rank, integer_in, bytes_in, rank_cmp}
 use Rattle.upon_std.specs.Ordering.Sorting.{ascending, is_below, unless_ordered, first_unlike, keys_refusal, values_or_refusal, sorted_by}
-use Rattle.upon_std.proofs.Ordering.Rising.{ascending_agree}
+use Rattle.upon_std.proofs.OrderingLemmas.Rising.{ascending_agree}
 
 pub rank_total : IsTotalOrder rank_cmp
 rank_total = then_total (on_total kind_rank nat_cmp_total) (then_total (on_total integer_in int_cmp_total) (on_texts bytes_in))

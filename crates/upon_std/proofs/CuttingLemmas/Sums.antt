@@ -7,7 +7,7 @@ use Rattle.upon_types.specs.declared.value.Value.{Value}
 use Rattle.upon_std.specs.Basic.Items.{vals_in_list}
 use Rattle.upon_std.specs.Cutting.Numbers.{summed, said}
 use Rattle.upon_std.specs.Cutting.Outcomes.{sum_result}
-use Rattle.upon_std.proofs.Cutting.Items.{val_list-vals_of}
+use Rattle.upon_std.proofs.CuttingLemmas.Items.{val_list-vals_of}
 
 -- the sum, or its refusal, is what the callable returns
 pub gives_sum : {E : Type 0} (made : Result (Result ℤ (String Global)) E) (items : List Value) → IfOk made (λ r. said r ≡ summed (pos 0) (map view items))
