@@ -5,6 +5,7 @@ pub mod Triples
 pub mod Sources
 pub mod Filled
 pub mod Rendering
+pub mod Tables
 pub mod Needs
 pub mod Kept
 pub mod Each

@@ -11,6 +11,7 @@ use Rattle.upon_needs.specs.Names.{Rise}
 use Rattle.upon_engine.specs.Texts.{Stored, Texts}
 use Rattle.upon_engine.specs.Theorem.{IsTable, IsTemplateOf}
 use Rattle.upon_needs.specs.declared.needs.Needs.{Needs}
+use Rattle.upon_calls.specs.Rendering.{EachHasTree}
 use Rattle.upon_calls.specs.Names.{needs_data, ListsNamed, NeededBy}
 use Rattle.upon_calls.specs.declared.failure.Failure.{Failure}
 
@@ -21,14 +22,14 @@ none_held (Some held) None is none = absurd is
 none_held (Some held) (Some t) is none = absurd cc
 
 -- a text is what is needed, if there is a template
-lists_by : (e : Texts) (name text : List ℕ) (mine : Table) → IsTable e.texts mine → (table : Table) × IsTable e.texts table × ((other : Table) → IsTable e.texts other → other ≡ table)
+lists_by : (e : Texts) (name text : List ℕ) (mine : Table) → EachHasTree e → IsTable e.texts mine → (table : Table) × IsTable e.texts table × ((other : Table) → IsTable e.texts other → other ≡ table)
     → (t : Template) (needs : Needs) → mine name ≡ Some t → NeededBy mine t.tree needs → text ≡ compact_text (needs_data needs) → ListsNamed e name text
-lists_by e name text mine is_mine one t needs there needed is table is_table =
+lists_by e name text mine each is_mine one t needs there needed is = (each, λ table is_table.
     let same : mine ≡ table = one.2 mine is_mine ∙ sym (one.2 table is_table) in
-    (t, needs, ap (λ table. table name) (sym same) ∙ there, subst (λ table. NeededBy table t.tree needs) same needed, is)
+    (t, needs, ap (λ table. table name) (sym same) ∙ there, subst (λ table. NeededBy table t.tree needs) same needed, is))
 
 -- what a call lists
-module _ (e : Texts) (name : List ℕ) (mine : Table) (is_mine : IsTable e.texts mine)
+module _ (e : Texts) (name : List ℕ) (mine : Table) (each : EachHasTree e) (is_mine : IsTable e.texts mine)
     (one : (table : Table) × IsTable e.texts table × ((other : Table) → IsTable e.texts other → other ≡ table))
     (r : Result Needs AllocError) (absent : IsNone (Some r) ↔ (mine name ≡ None))
     (names : (t : Template) → mine name ≡ Some t → IfOk r (λ needs. (word : List ℕ) → Contains (needed_names needs) word ↔ NeedsName mine t.tree word))
@@ -38,7 +39,7 @@ module _ (e : Texts) (name : List ℕ) (mine : Table) (is_mine : IsTable e.texts
     (rise : (t : Template) → mine name ≡ Some t → IfOk r (λ needs. Rise (needed_names needs) × Rise (reached_templates needs) × Rise (missing_names needs))) where
   by_template : (text : List ℕ) (needs : Needs) → r ≡ Ok needs → text ≡ compact_text (needs_data needs) → (m : Option Template) → mine name ≡ m → ListsNamed e name text
   by_template text needs is said None none = let no : true ≡ false = absent.1 none in absurd cc
-  by_template text needs is said (Some t) there = lists_by e name text mine is_mine one t needs there (record {
+  by_template text needs is said (Some t) there = lists_by e name text mine each is_mine one t needs there (record {
     names = rw is at (names t there);
     templates = rw is at (templates t there);
     missing = rw is at (missing t there);

@@ -110,12 +110,12 @@ module _ (limits : Limits) (e : Texts) (name : List ℕ) (v : Val) (o : Option (
   pub named_means : (text : String Global) → o ≡ Some (Ok text) → MeansNamed limits e name v (string_bytes text)
   named_means text is =
       let t = there (Ok text) is (e.texts name) refl in
-      (t.0, t.1, t.2, t.3, means limits e (Some name) t.0.text t.1 v text t.4)
+      (each, t.0, t.1, t.2, t.3, means limits e (Some name) t.0.text t.1 v text t.4)
 
   pub named_fails : (error : Error) → o ≡ Some (Err error) → is_memory_kind (fault_of error).kind ≡ false → FailsNamed limits e name v (fault_of error)
   named_fails error is memory =
       let t = there (Err error) is (e.texts name) refl in
-      (t.0, t.1, t.2, t.3, ends limits e (Some name) t.0.text t.1 v error memory t.4)
+      (each, t.0, t.1, t.2, t.3, ends limits e (Some name) t.0.text t.1 v error memory t.4)
 
 -- ---- a text
 pub text_means : (limits : Limits) (e : Texts) (source compiled : List ℕ) (tree : Statements) (v : Val) (text : String Global) → compiled ≡ source → HasTree e.syntax source tree → AnswersIf (is_limited limits) limits e None compiled tree v (Ok text) → MeansText limits e source v (string_bytes text)

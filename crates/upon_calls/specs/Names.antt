@@ -13,6 +13,7 @@ use Rattle.upon_needs.specs.Names.{Rise}
 use Rattle.upon_engine.specs.Texts.{Texts}
 use Rattle.upon_engine.specs.Theorem.{IsTable}
 use Rattle.upon_needs.specs.declared.needs.Needs.{Needs}
+use Rattle.upon_calls.specs.Rendering.{EachHasTree}
 
 -- The names are those that the tree needs of its context, in ascending order; the templates those that it reaches and
 -- that the table has; the missing ones those that it reaches and that the table has not; the whole context counts if an
@@ -38,6 +39,6 @@ needs_data needs = object (member (codes "missing") (names_data (missing_names n
 
 -- a text is the JSON of what the template of a name needs, by the table of trees of what an engine holds
 abbrev pub ListsNamed : Texts → List ℕ → List ℕ → Type 0
-ListsNamed e name text = (table : Table) → IsTable e.texts table
+ListsNamed e name text = EachHasTree e × ((table : Table) → IsTable e.texts table
     → (t : Template) × (needs : Needs) × (table name ≡ Some t) × NeededBy table t.tree needs
-    × (text ≡ compact_text (needs_data needs))
+    × (text ≡ compact_text (needs_data needs)))

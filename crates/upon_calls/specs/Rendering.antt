@@ -39,17 +39,22 @@ EndsWith limits e name source tree v fault =
     × FitsLimits limits (runs e table name source tree v) (meaning e table name source tree v))
     ⊎ NamesLimit limits (runs e table name source tree v) (meaning e table name source tree v) fault
 
+-- each text that is held has a tree, so that there is a table of them
+abbrev pub EachHasTree : Texts → Type 0
+EachHasTree e = (name : List ℕ) (held : Stored) → e.texts name ≡ Some held
+    → (tree : Statements) × ∥ HasTree held.syntax held.text tree ∥₁
+
 -- a text is what the template of a name means on a value
 abbrev pub MeansNamed : Limits → Texts → List ℕ → Val → List ℕ → Type 0
 MeansNamed limits e name v text =
-    (held : Stored) × (tree : Statements) × (e.texts name ≡ Some held) × ∥ HasTree held.syntax held.text tree ∥₁
-    × IsMeaning limits e (Some name) held.text tree v text
+    EachHasTree e × (held : Stored) × (tree : Statements) × (e.texts name ≡ Some held)
+    × ∥ HasTree held.syntax held.text tree ∥₁ × IsMeaning limits e (Some name) held.text tree v text
 
 -- the rendering of the template of a name on a value ends with a fault
 abbrev pub FailsNamed : Limits → Texts → List ℕ → Val → Fault → Type 0
 FailsNamed limits e name v fault =
-    (held : Stored) × (tree : Statements) × (e.texts name ≡ Some held) × ∥ HasTree held.syntax held.text tree ∥₁
-    × EndsWith limits e (Some name) held.text tree v fault
+    EachHasTree e × (held : Stored) × (tree : Statements) × (e.texts name ≡ Some held)
+    × ∥ HasTree held.syntax held.text tree ∥₁ × EndsWith limits e (Some name) held.text tree v fault
 
 -- a text is what the template that another text is means on a value
 abbrev pub MeansText : Limits → Texts → List ℕ → Val → List ℕ → Type 0

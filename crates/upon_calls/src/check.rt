@@ -22,7 +22,6 @@ use crate::pages::{check_pages, pages_of};
 use crate::templates::sources_of;
 use std::alloc::{AllocError, Global};
 use std::borrow::CowStr;
-use upon_delimiters::search::Searcher;
 use upon_delimiters::syntax::Syntax;
 use upon_engine::engine::Engine;
 use upon_engine::template::Template;
@@ -101,14 +100,12 @@ fn check_all(
         ↔ AreRight (syntax_delimiters syntax) (view templates.now) (lent_pairs sources.now)) }
     ensures memory { IfErr result (λ f. f ≡ OutOfMemory) }
 {
-    let searcher = Searcher::with_syntax(syntax.try_clone()?);
     let mut engine = Engine::new(alloc);
     engine.set_syntax(syntax);
     let mut is_right = true;
     for (name, source) in sources {
         let checked = Checked {
             templates,
-            searcher: &searcher,
             name,
             source,
         };
@@ -122,8 +119,6 @@ fn check_all(
 struct Checked<'c> {
     // The templates, of which it is one.
     templates: &'c Value,
-    // What finds their delimiters.
-    searcher: &'c Searcher,
     // Its name.
     name: &'c str,
     // Its text.
@@ -143,7 +138,6 @@ fn check_text(
 {
     let Checked {
         templates,
-        searcher,
         name,
         source,
     } = checked;
@@ -162,10 +156,8 @@ fn check_text(
     if missing.is_empty() {
         return Ok(true);
     }
-    match show_includes(alloc, searcher, name, source, missing.as_slice(), pictures) {
-        Ok(()) => Ok(false),
-        Err(_) => Err(Failure::OutOfMemory),
-    }
+    show_includes(alloc, name, &template, missing.as_slice(), pictures)?;
+    Ok(false)
 }
 
 // The names that a template includes and that no template has, in ascending order.

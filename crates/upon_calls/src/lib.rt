@@ -8,6 +8,7 @@ mod declared;
 pub mod escaping;
 pub mod failure;
 mod includes;
+pub mod laws;
 mod misfits;
 pub mod names;
 pub mod options;

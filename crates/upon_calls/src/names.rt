@@ -48,6 +48,7 @@ pub(crate) fn list(alloc: Global, engine: &Engine<'_>, name: &str) -> Result<Str
     ensures fails { let texts = ⟦<AnyEngine as EngineTexts>⟧.texts engine.now in
         IfErr result (WorkFails (λ fault. ⊥) (texts.texts name.now ≡ None)) }
 {
+    theorem::held_has_tree(engine);
     theorem::one_table(engine);
     laws_of_templates::templates_are_the_table(engine);
     match needs_of(engine, name) {

@@ -3,3 +3,4 @@ pub mod IndexStarts
 pub mod OpenBlocks
 pub mod Unseen
 pub mod EngineNeeds
+pub mod Places

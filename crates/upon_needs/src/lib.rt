@@ -2,5 +2,6 @@
 #![tactic(auto)]
 
 pub mod needs;
+pub mod places;
 mod starts;
 pub mod template_names;

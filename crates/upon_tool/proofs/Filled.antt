@@ -37,7 +37,8 @@ use Rattle.upon_std.specs.Table.{standard_answer, standard_name}
 use Rattle.upon_std.specs.declared.table.StandardFunction.{StandardFunction}
 use Rattle.upon_tool.specs.Names.{needs_text}
 use Rattle.upon_tool_pages.specs.Rendering.{SendsPage, SendsWhole, StaysWithin}
-use Rattle.upon_tool.specs.Filled.{tool_engine, with_page, EachHasTree, TakesFiles, TakesRead, TakesText}
+use Rattle.upon_calls.specs.Rendering.{EachHasTree}
+use Rattle.upon_tool.specs.Filled.{tool_engine, with_page, TakesFiles, TakesRead, TakesText}
 use Rattle.upon_tool.specs.Work.{IsCheck, ListsNames, RefusesWork, Works}
 use Rattle.upon_tool_pages.specs.declared.sources.FolderFile.{FolderFile}
 use Rattle.upon_tool.specs.declared.work.Templates.{Templates}

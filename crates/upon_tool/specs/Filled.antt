@@ -5,7 +5,7 @@ use Rattle.std.specs.declared.alloc.Global.{Global}
 use Rattle.upon_types.specs.Tree.{Statements}
 use Rattle.upon_language_spec.specs.Grammar.{HasTree}
 use Rattle.upon_engine.specs.Changes.{with_text}
-use Rattle.upon_engine.specs.Texts.{Stored, Texts}
+use Rattle.upon_engine.specs.Texts.{Texts}
 use Rattle.upon_std.specs.declared.table.TheConstants.{ALL}
 use Rattle.upon_std.specs.declared.table.StandardFunction.{StandardFunction}
 use Rattle.upon_calls.specs.Filled.{escaping_engine, with_functions}
@@ -49,8 +49,3 @@ abbrev pub Fills : Templates → Texts → Type 0
 Fills templates e = (folder : Texts)
     × TakesFiles templates.files.items (tool_engine templates.escape templates.functions.now) folder
     × (e ≡ with_page templates.page folder)
-
--- each text that is held has a tree
-abbrev pub EachHasTree : Texts → Type 0
-EachHasTree e = (name : List ℕ) (held : Stored) → e.texts name ≡ Some held
-    → (tree : Statements) × ∥ HasTree held.syntax held.text tree ∥₁

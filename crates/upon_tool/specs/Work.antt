@@ -12,7 +12,8 @@ use Rattle.upon_needs.specs.declared.needs.Needs.{Needs}
 use Rattle.upon_calls.specs.Names.{NeededBy}
 use Rattle.upon_tool_data.specs.Sources.{is_standard}
 use Rattle.upon_tool_messages.specs.declared.failure.Failure.{Failure}
-use Rattle.upon_tool.specs.Filled.{EachHasTree, Fills}
+use Rattle.upon_calls.specs.Rendering.{EachHasTree}
+use Rattle.upon_tool.specs.Filled.{Fills}
 use Rattle.upon_tool_pages.specs.ManyPages.{BuildIsWell, EachIsWell}
 use Rattle.upon_tool_pages.specs.Missing.{EachIsRight, EachName, HeldIsRight}
 use Rattle.upon_tool.specs.Names.{needs_text}

@@ -4,15 +4,15 @@ ghost use Rattle.std.specs.Prelude.{◌≡◌, ◌≤◌, ◌↔◌, IfOk, OnErr
 ghost use Rattle.upon_types.specs.Span.{LiesIn};
 ghost use Rattle.upon_tool_messages.specs.CallCheck.{checked_callables, is_right_so_far};
 
-use crate::calls::{FoundCall, calls_in};
 use crate::failure::report_hinted;
 use crate::judge::{CallFault, Declared, fault_of};
 use crate::near::callable_hint;
 use crate::picture::PICTURES;
 use std::alloc::{AllocError, Global};
 use std::io;
+use upon_engine::template::Template;
+use upon_needs::places::{CallPlace, calls};
 use upon_types::error::{Error, ErrorKind};
-use upon_types::types::Span;
 
 /// What templates may call, and whether a call failed so far.
 #[derive(Clone, Copy)]
@@ -48,13 +48,13 @@ impl<'k> CallCheck<'k> {
         if self.is_right { 0 } else { 1 }
     }
 
-    /// Says which calls fail in the text of a template, the first hundred with their pictures. It fails if there is no
+    /// Says which calls fail in a template, the first hundred with their pictures. It fails if there is no
     /// memory.
     pub fn check<E: io::Write>(
         &mut self,
         alloc: Global,
         name: &str,
-        source: &str,
+        template: &Template<'_>,
         err: &mut E,
     ) -> Result<(), AllocError>
         ensures callables { checked_callables self.new ≡ checked_callables self.old }
@@ -64,12 +64,10 @@ impl<'k> CallCheck<'k> {
         ensures silent { OnOk result (is_right_so_far self.new ≡ true → err.new ≡ err.old) }
         ensures unended { OnErr result (self.new ≡ self.old) }
     {
-        let Ok(calls) = calls_in(alloc, source) else {
-            return Err(AllocError);
-        };
+        let calls = calls(template)?;
         let mut shown = 0usize;
-        for call in calls {
-            if self.check_call(alloc, name, source, call, shown < PICTURES, err)? {
+        for call in calls.as_slice() {
+            if self.check_call(alloc, name, template.source(), *call, shown < PICTURES, err)? {
                 shown = shown.saturating_add(1);
             }
         }
@@ -83,19 +81,20 @@ impl<'k> CallCheck<'k> {
         alloc: Global,
         name: &str,
         source: &str,
-        call: FoundCall,
+        call: CallPlace<'_>,
         is_pictured: bool,
         err: &mut E,
     ) -> Result<bool, AllocError>
+        requires { LiesIn source.now call.entry.span }
         ensures { IfOk result (λ is_wrong. is_wrong ≡ false → err.new ≡ err.old) }
     {
-        let called = source.get(call.name.m..call.name.n).unwrap_or_default();
+        let called = call.name;
         let Some(fault) = fault_of(alloc, &self.callables, called, call.arguments)? else {
             return Ok(false);
         };
         let reason = reason_of(alloc, fault, call.arguments)?;
-        if is_pictured && lies_in(source, call.name) {
-            let at = Some((source, call.name));
+        if is_pictured {
+            let at = Some((source, call.span));
             let error = Error::from_parts(alloc, ErrorKind::Render, Some(reason.as_str()), at);
             let hint = match fault {
                 CallFault::Unknown => callable_hint(alloc, &self.callables, called)?,
@@ -108,13 +107,6 @@ impl<'k> CallCheck<'k> {
         }
         Ok(true)
     }
-}
-
-// Whether a span lies in a text, and both its ends are between characters.
-fn lies_in(source: &str, span: Span) -> bool
-    ensures { result ≡ true → LiesIn source.now span }
-{
-    span.m <= span.n && source.is_char_boundary(span.m) && source.is_char_boundary(span.n)
 }
 
 // What an error says of a call that has so many arguments.

@@ -3,7 +3,6 @@
 #![tactic(auto)]
 
 pub mod call_check;
-pub mod calls;
 pub mod color;
 pub mod failure;
 mod hints;

@@ -6,15 +6,16 @@ ghost use Rattle.upon_tool_messages.specs.Gone.{IsOfGone};
 ghost use Rattle.upon_tool_messages.specs.Library.{library_callables, library_names, refused_as, read_refusal, IsOfAdded};
 
 use crate::failure::{is_memory, report_fault};
-use crate::includes::including;
 use crate::judge::Declared;
 use std::alloc::{AllocError, Global};
 use std::collections::BTreeMap;
 use std::io;
 use upon_engine::engine::Engine;
-use upon_needs::template_names::includes;
+use upon_engine::template::Template;
+use upon_needs::places::include_places;
 use upon_tool_io::files::ReadFault;
 use upon_types::error::Error;
+use upon_types::types::Span;
 
 /// Why a file is no template.
 #[derive(Drop)]
@@ -149,19 +150,7 @@ impl Library {
         engine: &Engine<'_>,
         error: &Error,
     ) -> Result<Option<(&str, &Refusal)>, AllocError> {
-        match included(engine, error) {
-            Some(quoted) => self.refusal_at(quoted),
-            None => Ok(None),
-        }
-    }
-
-    // Returns the file of a quoted name that is no template, or the folder on the way to it that can't be read.
-    fn refusal_at(&self, quoted: &str) -> Result<Option<(&str, &Refusal)>, AllocError> {
-        let Ok(template) = including(self.alloc, quoted) else {
-            return Err(AllocError);
-        };
-        let names = includes(&template)?;
-        match names.first() {
+        match missing_include(engine, error)? {
             Some(name) => Ok(self.refused_on_way(name)),
             None => Ok(None),
         }
@@ -180,12 +169,30 @@ impl Library {
     }
 }
 
-// The quoted name of the include that found no template, if that is what an error says.
-fn included<'n>(engine: &'n Engine<'_>, error: &Error) -> Option<&'n str> {
+/// Returns the name of the include that found no template, if that is what an error says. It fails if there is no
+/// memory.
+pub(crate) fn missing_include<'n>(
+    engine: &'n Engine<'_>,
+    error: &Error,
+) -> Result<Option<&'n str>, AllocError> {
     if error.reason() != Some("unknown template") {
-        return None;
+        return Ok(None);
     }
-    let template = engine.get_template(error.template_name()?)?;
-    let place = error.place()?;
-    template.source().get(place.m..place.n)
+    let (Some(name), Some(span)) = (error.template_name(), error.place()) else {
+        return Ok(None);
+    };
+    match engine.held(name) {
+        Some(template) => included_at(template, span),
+        None => Ok(None),
+    }
+}
+
+// The name of the include at a span of a template.
+fn included_at<'t>(template: &'t Template<'_>, span: Span) -> Result<Option<&'t str>, AllocError> {
+    for place in include_places(template)? {
+        if place.span == span {
+            return Ok(Some(place.name));
+        }
+    }
+    Ok(None)
 }

@@ -3,12 +3,11 @@ ghost use Rattle.std.specs.Prelude.{◌≡◌, [], None, IsOk, Ok, false};
 ghost use Rattle.upon_types.specs.Error.{fault_of};
 ghost use Rattle.upon_tool_messages.specs.Gone.{IsReaderGone};
 
-use crate::failure::{is_memory, report_hinted};
+use crate::failure::report_hinted;
 use crate::hints::{Marked, mark_in};
-use crate::includes::included;
 use crate::judge::Declared;
 use crate::known::Known;
-use crate::library::Library;
+use crate::library::{Library, missing_include};
 use std::alloc::{AllocError, Global};
 use std::io::Write;
 use upon_engine::engine::Engine;
@@ -32,15 +31,15 @@ pub fn report_near<E: Write>(
     say(alloc, error, near_hint(alloc, engine, known, error), err);
 }
 
-/// Says what the error of an include of this quoted name is, with its picture, and which files have a name near to it.
+/// Says what the error of an include of this name is, with its picture, and which files have a name near to it.
 pub(crate) fn report_include<E: Write>(
     alloc: Global,
     library: &Library,
-    quoted: &str,
+    name: &str,
     error: &Error,
     err: &mut E,
 ) {
-    say(alloc, error, of_file(alloc, library, quoted), err);
+    say(alloc, error, of_file(alloc, library, name), err);
 }
 
 // Says what an error is, with a hint.
@@ -110,7 +109,7 @@ fn near_hint(
             callable_hint(alloc, &functions, marked.text)
         }
         NO_CALLABLE => callable_hint(alloc, &known.library.callables(), marked.text),
-        NO_TEMPLATE => of_file(alloc, known.library, marked.text),
+        NO_TEMPLATE => of_include(alloc, engine, known.library, error),
         _ => Ok(None),
     }
 }
@@ -222,24 +221,24 @@ pub(crate) fn callable_hint(
     }
 }
 
-// The files with a name near to one that is quoted.
-fn of_file(alloc: Global, library: &Library, quoted: &str) -> Result<Option<String>, AllocError> {
-    let name = match included(alloc, quoted) {
-        Ok(name) => name,
-        Err(error) => return nothing_or_memory(&error),
-    };
+// The files with a name near to that of the include that found no template.
+fn of_include(
+    alloc: Global,
+    engine: &Engine<'_>,
+    library: &Library,
+    error: &Error,
+) -> Result<Option<String>, AllocError> {
+    match missing_include(engine, error)? {
+        Some(name) => of_file(alloc, library, name),
+        None => Ok(None),
+    }
+}
+
+// The files with a name near to this one.
+fn of_file(alloc: Global, library: &Library, name: &str) -> Result<Option<String>, AllocError> {
     let mut names = Vec::new(alloc);
     for file in library.names() {
         names.push(file.as_str())?;
     }
-    of_names(alloc, names.as_slice(), name.as_str())
-}
-
-// No names, of what could not be read as a name; unless memory is out.
-fn nothing_or_memory(error: &Error) -> Result<Option<String>, AllocError> {
-    if is_memory(error) {
-        Err(AllocError)
-    } else {
-        Ok(None)
-    }
+    of_names(alloc, names.as_slice(), name)
 }

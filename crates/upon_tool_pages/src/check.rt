@@ -77,22 +77,13 @@ pub fn check_text<E: io::Write>(
             return Ok(false);
         }
     };
-    calls.check(alloc, name, template.source(), err)?;
+    calls.check(alloc, name, &template, err)?;
     let missing = missing(alloc, engine, name, &template)?;
     if missing.is_empty() {
         return Ok(true);
     }
-    match show_includes(
-        alloc,
-        library,
-        name,
-        template.source(),
-        missing.as_slice(),
-        err,
-    ) {
-        Ok(()) => Ok(false),
-        Err(_) => Err(AllocError),
-    }
+    show_includes(alloc, library, name, &template, missing.as_slice(), err)?;
+    Ok(false)
 }
 
 /// Says what is wrong with the file of a name of a library, and returns whether nothing is but calls that fail, which

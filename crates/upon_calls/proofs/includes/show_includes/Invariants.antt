@@ -1,6 +1,0 @@
-use Rattle.std.proofs.Common.{◌≡◌}
-use Rattle.upon_lexer.specs.Lexers.{lexer_text}
-use Rattle.upon_calls.proofs.includes.show_includes.Given as goal
-
-abbrev pub invariant-loop : goal.invariant-loop
-invariant-loop l = lexer_text l.lexer ≡ l.source
