@@ -154,17 +154,18 @@ def taken(takes):
 
 def argument(row, known):
     """Returns the argument of a row. The name of a word is what the help calls it, in capitals."""
-    spelled = lambda name: several_of(known, name) if name == known["CONTEXTS"] else name if name.isupper() else f"--{name}"
     fields, name = taken(row["takes"]), row["name"]
     if name.isupper() != (row["takes"][0] in ("Takes::Itself", "Takes::Words")):
         sys.exit(f"{ROWS}: {name}: the name of a word, and of no option, is in capitals")
-    others = {of: tuple(map(spelled, row[of])) for of in ("unless", "needs", "excludes")}
+    others = {of: tuple(spelled(it, known) for it in row[of]) for of in ("unless", "needs", "excludes")}
     return Argument("" if name.isupper() else name, help=row["help"], is_required=row["is_required"], **others, **fields)
 
 
-def several_of(known, group):
-    """Returns how a group of options is spelled out where one of them is wanted."""
-    return "one of " + listed([f"--{name}" for name in known[f"OF_{group.upper()}"]], "or")
+def spelled(name, known):
+    """Returns how a row's mention of another one is said: an option, a word, or one of the group of contexts."""
+    if name == known["CONTEXTS"]:
+        return "one of " + listed([spelled(it, known) for it in known["OF_CONTEXTS"]], "or")
+    return name if name.isupper() else f"--{name}"
 
 
 def listed(words, last="and"):
