@@ -5,6 +5,8 @@ import re
 
 TOP = os.path.dirname(os.path.dirname(os.path.dirname(os.path.abspath(__file__))))
 PAGE = os.path.join(TOP, "docs", "contributing", "RECIPES.md")
+# Files that have no folder, by which they would be known.
+AT_THE_TOP = ("check-program", "check-tool", "CHANGELOG.md")
 
 
 def recipes():
@@ -33,7 +35,7 @@ def named(lines):
         point = re.match(r"- `(upon\w*)`[,:]", line)
         for words in re.findall(r"`([^`]+)`", line):
             crate = point.group(1) if point and re.match(r"(src|specs|proofs)/", words) else None
-            if crate or words.startswith(("docs/", "checks/", "conformance/")) or words == "check-program":
+            if crate or words.startswith(("docs/", "checks/", "conformance/")) or words in AT_THE_TOP:
                 paths = spelled_out(words.split()[0])
                 yield from (os.path.join("crates", crate, path) if crate else path for path in paths)
 

@@ -1,9 +1,15 @@
-// The program's commands and their arguments: a table of them, and how `clap` is told of it.
+// The program's commands and their arguments: a table of them, and how `clap` is told of it. `checks/write-arguments`
+// reads the table too, and writes completions, the manual page and the table of options in docs/TOOL.md.
 use clap::{Arg, ArgAction, ArgGroup, Command, value_parser};
 use std::alloc::{AllocError, Global};
 
 // The version: that of the language, and after the `+` that of this engine.
 const VERSION: &str = "0.11.0+1";
+
+const PROGRAM: &str = "upon-tool";
+
+const ABOUT: &str =
+    "Renders templates, builds folders of them, checks them, and lists what they need";
 
 pub(crate) const FILE: &str = "FILE";
 
@@ -21,8 +27,10 @@ pub(crate) const SCHEMA: &str = "schema";
 
 pub(crate) const SHAPE_OUT: &str = "shape-out";
 
-// The arguments of contexts.
+// The arguments of contexts: samples, or a schema.
 const CONTEXTS: &str = "contexts";
+
+const OF_CONTEXTS: [&str; 5] = [SCHEMA, DATA, ENV, SET_JSON, SET];
 
 pub(crate) const TEMPLATES: &str = "templates";
 
@@ -66,23 +74,31 @@ pub(crate) const CHECK: &str = "check";
 
 pub(crate) const NAMES: &str = "names";
 
+// What a value names, with what the help calls it. Shells complete files and folders.
+#[derive(Clone, Copy)]
+enum Value {
+    File(&'static str),
+    Folder(&'static str),
+    Text(&'static str),
+}
+
 // What an argument takes.
 #[derive(Clone, Copy)]
 enum Takes {
     // Nothing: it is there or not.
     Nothing,
-    // One value, with its name in the help.
-    One(&'static str),
+    // One value.
+    One(Value),
     // One value each time that it is there.
-    Each(&'static str),
+    Each(Value),
     // One of some words.
     Word(&'static str, &'static [&'static str]),
     // A whole number.
     Number(&'static str),
-    // It has no name, and is one word itself.
-    Itself,
-    // It has no name, and is one word or more.
-    Words,
+    // It has no name, and is one value itself.
+    Itself(Value),
+    // It has no name, and is one value or more.
+    Words(Value),
 }
 
 // An argument.
@@ -115,7 +131,7 @@ const BLANK: Row = Row {
 // The template of a rendering.
 const FILE_ROW: Row = Row {
     name: FILE,
-    takes: Takes::Itself,
+    takes: Takes::Itself(Value::File(FILE)),
     help: "The template, or - for standard input",
     is_required: true,
     ..BLANK
@@ -124,7 +140,7 @@ const FILE_ROW: Row = Row {
 // The templates that are checked.
 const FILES_ROW: Row = Row {
     name: FILE,
-    takes: Takes::Words,
+    takes: Takes::Words(Value::File(FILE)),
     help: "The templates, or - for standard input",
     unless: &[TEMPLATES, SHAPE_OUT],
     ..BLANK
@@ -132,7 +148,7 @@ const FILES_ROW: Row = Row {
 
 const SOURCE_ROW: Row = Row {
     name: SOURCE,
-    takes: Takes::Itself,
+    takes: Takes::Itself(Value::Folder(SOURCE)),
     help: "The folder of the templates and of the other files",
     is_required: true,
     ..BLANK
@@ -146,14 +162,14 @@ const ENV_ROW: Row = Row {
 
 const DATA_ROW: Row = Row {
     name: DATA,
-    takes: Takes::Each("DATA"),
+    takes: Takes::Each(Value::File("DATA")),
     help: "A file of JSON, JSON lines, CSV or TOML for the context, FILE or KEY=FILE; - for standard input",
     ..BLANK
 };
 
 const SAMPLES_ROW: Row = Row {
     name: DATA,
-    takes: Takes::Each("DATA"),
+    takes: Takes::Each(Value::File("DATA")),
     help: "Check that each FILE ends well on data as FILE of DATA has; KEY=FILE is put into each sample",
     ..BLANK
 };
@@ -167,22 +183,22 @@ const FORMAT_ROW: Row = Row {
 
 const SET_JSON_ROW: Row = Row {
     name: SET_JSON,
-    takes: Takes::Each("KEY=JSON"),
+    takes: Takes::Each(Value::Text("KEY=JSON")),
     help: "Set a value of JSON at a key of the context, over DATA; a.b is the member b of a",
     ..BLANK
 };
 
 const SET_ROW: Row = Row {
     name: SET,
-    takes: Takes::Each("KEY=TEXT"),
-    help: "Set a text so, over DATA and values of JSON",
+    takes: Takes::Each(Value::Text("KEY=TEXT")),
+    help: "Set a text at a key of the context, over DATA and values of JSON",
     ..BLANK
 };
 
 const SCHEMA_ROW: Row = Row {
     name: SCHEMA,
-    takes: Takes::One("SCHEMA"),
-    help: "Check that each FILE ends well on data that are valid by a JSON Schema",
+    takes: Takes::One(Value::File("SCHEMA")),
+    help: "Check that each FILE ends well on data that are valid by a JSON Schema; - for standard input",
     excludes: &[DATA, FORMAT, ENV, SET_JSON, SET],
     ..BLANK
 };
@@ -197,7 +213,7 @@ const SHAPE_OUT_ROW: Row = Row {
 
 const TEMPLATES_ROW: Row = Row {
     name: TEMPLATES,
-    takes: Takes::One("DIR"),
+    takes: Takes::One(Value::Folder("DIR")),
     help: "A folder, of which each file can be included by its path in it",
     ..BLANK
 };
@@ -216,14 +232,14 @@ const FOLLOW_SOURCE_ROW: Row = Row {
 
 const LAYOUT_ROW: Row = Row {
     name: LAYOUT,
-    takes: Takes::One("FILE"),
-    help: "A template that each page's text is put into, as content",
+    takes: Takes::One(Value::File("FILE")),
+    help: "A template that each page's text is put into, as content; - for standard input",
     ..BLANK
 };
 
 const HTML_ROW: Row = Row {
     name: HTML,
-    help: "Escape values for HTML, as --escape html does",
+    help: "Escape values for HTML, as --escape=html does",
     ..BLANK
 };
 
@@ -242,14 +258,14 @@ const STD_ROW: Row = Row {
 
 const FUNCTION_ROW: Row = Row {
     name: FUNCTION,
-    takes: Takes::Each("NAME"),
+    takes: Takes::Each(Value::Text("NAME")),
     help: "Let templates call a function or formatter of this name, with any arguments",
     ..BLANK
 };
 
 const OUT_ROW: Row = Row {
     name: OUT,
-    takes: Takes::One("OUT"),
+    takes: Takes::One(Value::File("OUT")),
     help: "Write to this file, which is replaced if all went well; with --each to this folder",
     ..BLANK
 };
@@ -257,7 +273,7 @@ const OUT_ROW: Row = Row {
 // The row of the option that says where the output goes, for a build.
 const PAGES_ROW: Row = Row {
     name: OUT,
-    takes: Takes::One("DIR"),
+    takes: Takes::One(Value::Folder("DIR")),
     help: "The folder of the pages, which is made",
     is_required: true,
     ..BLANK
@@ -286,7 +302,7 @@ const MAX_MEMORY_ROW: Row = Row {
 
 const EACH_ROW: Row = Row {
     name: EACH,
-    takes: Takes::One("KEY"),
+    takes: Takes::One(Value::Text("KEY")),
     help: "Render once for each item of the list at a key, which is item, and its entries are over the context's",
     needs: &[NAME, OUT],
     ..BLANK
@@ -294,7 +310,7 @@ const EACH_ROW: Row = Row {
 
 const NAME_ROW: Row = Row {
     name: NAME,
-    takes: Takes::One("TEMPLATE"),
+    takes: Takes::One(Value::Text("TEMPLATE")),
     help: "The name of an item's file in OUT, as {{ id }}.txt",
     needs: &[EACH],
     ..BLANK
@@ -415,12 +431,12 @@ const COMMANDS: [Asked; 4] = [
 
 // The program's command, with those below it.
 pub(crate) fn command<'a>(alloc: Global) -> Result<Command<'a>, AllocError> {
-    let command = Command::new(alloc, "upon-tool")
+    let command = Command::new(alloc, PROGRAM)
         .version(VERSION)
-        .about("Renders templates, builds folders of them, checks them, and lists what they need")
+        .about(ABOUT)
         .subcommand_required(true)
         .disable_help_subcommand(true);
-    with_commands(alloc, command.bin_name("upon-tool")?)
+    with_commands(alloc, command.bin_name(PROGRAM)?)
 }
 
 // The program's command with those below it, if they could be made.
@@ -464,9 +480,9 @@ fn with_rows<'a>(
     Ok(command)
 }
 
-// The arguments of contexts: samples, or a schema.
+// The arguments of contexts.
 fn contexts<'a>(alloc: Global) -> Result<ArgGroup<'a>, AllocError> {
-    let names = [SCHEMA, DATA, ENV, SET_JSON, SET];
+    let names = OF_CONTEXTS;
     ArgGroup::new(alloc, CONTEXTS).multiple(true).args(&names)
 }
 
@@ -499,12 +515,22 @@ fn taking<'a>(alloc: Global, row: &Row) -> Arg<'a> {
     let arg = Arg::new(alloc, row.name);
     match row.takes {
         Takes::Nothing => arg.long(row.name).action(ArgAction::SetTrue),
-        Takes::One(value) => option(arg, row.name, value),
-        Takes::Each(value) => option(arg, row.name, value).action(ArgAction::Append),
+        Takes::One(value) => option(arg, row.name, called(value)),
+        Takes::Each(value) => option(arg, row.name, called(value)).action(ArgAction::Append),
         Takes::Word(value, words) => option(arg, row.name, value).value_parser(words),
         Takes::Number(value) => option(arg, row.name, value).value_parser(value_parser!(usize)),
-        Takes::Itself => arg,
-        Takes::Words => arg.num_args(1..).action(ArgAction::Append),
+        Takes::Itself(value) => arg.value_name(called(value)),
+        Takes::Words(value) => arg
+            .value_name(called(value))
+            .num_args(1..)
+            .action(ArgAction::Append),
+    }
+}
+
+// What the help calls a value.
+fn called(value: Value) -> &'static str {
+    match value {
+        Value::File(name) | Value::Folder(name) | Value::Text(name) => name,
     }
 }
 
