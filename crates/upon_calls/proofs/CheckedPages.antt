@@ -9,7 +9,7 @@ use Rattle.upon_shape_spec.specs.Declared.{Declared, KeepsDeclared}
 use Rattle.upon_shape_spec.specs.Shape.{Shape}
 use Rattle.upon_needs.specs.Names.{texts}
 use Rattle.upon_engine.specs.Texts.{Texts}
-use Rattle.upon_check.specs.EndsOn.{EndsOn}
+use Rattle.upon_shape_check.specs.EndsOn.{EndsOn}
 use Rattle.upon_calls.specs.Asked.{Asked}
 use Rattle.upon_calls.specs.Calls.{AreRightOn}
 use Rattle.upon_calls.specs.Check.{AreRight}

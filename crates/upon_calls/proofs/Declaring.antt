@@ -7,8 +7,8 @@ use Rattle.upon_meaning_spec.specs.DefaultFormat.{default_format, formatter_or_d
 use Rattle.upon_shape_spec.specs.Declared.{CallableKeeps, Declared, DeclaredCallable, FormatsEach, KeepsDeclared, formats}
 use Rattle.upon_shape_spec.specs.Fits.{Fits}
 use Rattle.upon_shape_spec.specs.Shape.{Shape, plain, plain_shape, shown_values}
-use Rattle.upon_check.specs.Callables.{declared_view}
-use Rattle.upon_check.specs.declared.declared.Declared.{Declared as DeclaredCode}
+use Rattle.upon_shape_check.specs.Callables.{declared_view}
+use Rattle.upon_shape_check.specs.declared.declared.Declared.{Declared as DeclaredCode}
 use Rattle.upon_engine.specs.Changes.{with_callable, with_depth, with_syntax, with_text}
 use Rattle.upon_engine.specs.Texts.{Texts}
 use Rattle.upon_std.specs.Table.{standard_answer, standard_name}

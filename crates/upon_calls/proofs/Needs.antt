@@ -24,9 +24,12 @@ none_held (Some held) (Some t) is none = absurd cc
 -- a text is what is needed, if there is a template
 lists_by : (e : Texts) (name text : List ℕ) (mine : Table) → EachHasTree e → IsTable e.texts mine → (table : Table) × IsTable e.texts table × ((other : Table) → IsTable e.texts other → other ≡ table)
     → (t : Template) (needs : Needs) → mine name ≡ Some t → NeededBy mine t.tree needs → text ≡ compact_text (needs_data needs) → ListsNamed e name text
-lists_by e name text mine each is_mine one t needs there needed is = (each, λ table is_table.
-    let same : mine ≡ table = one.2 mine is_mine ∙ sym (one.2 table is_table) in
-    (t, needs, ap (λ table. table name) (sym same) ∙ there, subst (λ table. NeededBy table t.tree needs) same needed, is))
+lists_by e name text mine each is_mine one t needs there needed is = (
+  each,
+  λ table is_table.
+      let same : mine ≡ table = one.2 mine is_mine ∙ sym (one.2 table is_table) in
+      (t, needs, ap (λ table. table name) (sym same) ∙ there, subst (λ table. NeededBy table t.tree needs) same needed, is),
+)
 
 -- what a call lists
 module _ (e : Texts) (name : List ℕ) (mine : Table) (each : EachHasTree e) (is_mine : IsTable e.texts mine)

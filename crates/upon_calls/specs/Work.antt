@@ -4,10 +4,10 @@ use Rattle.upon_types.specs.Fault.{Fault}
 use Rattle.upon_types.specs.View.{view}
 use Rattle.upon_vm.specs.declared.limits.Limits.{Limits}
 use Rattle.upon_shape.specs.View.{shape_view}
-use Rattle.upon_check.specs.Callables.{declared_view}
+use Rattle.upon_shape_check.specs.Callables.{declared_view}
 use Rattle.upon_needs.specs.Names.{texts}
 use Rattle.upon_engine.specs.Texts.{Texts}
-use Rattle.upon_check.specs.EndsOn.{EndsOn}
+use Rattle.upon_shape_check.specs.EndsOn.{EndsOn}
 use Rattle.upon_calls.specs.Asked.{Asked}
 use Rattle.upon_calls.specs.Failure.{IsPicture}
 use Rattle.upon_calls.specs.Filled.{filled}

@@ -3,7 +3,7 @@ ghost use Rattle.std.specs.Prelude.{◌≡◌, ℕ, List, IfOk};
 ghost use Rattle.upon_meaning_spec.specs.DefaultFormat.{formatter_or_default};
 ghost use Rattle.upon_shape_spec.specs.Declared.{CallableKeeps, KeepsDeclared};
 ghost use Rattle.upon_shape.specs.View.{shape_view};
-ghost use Rattle.upon_check.specs.Callables.{declared_view};
+ghost use Rattle.upon_shape_check.specs.Callables.{declared_view};
 ghost use Rattle.upon_calls.specs.Asked.{asked_by};
 ghost use Rattle.upon_calls.specs.Escaping.{written_shape};
 ghost use Rattle.upon_calls.specs.Filled.{engine_for, escaping_engine};
@@ -12,8 +12,8 @@ use crate::escaping::Language;
 use crate::options::Options;
 use crate::work::standard;
 use std::alloc::{AllocError, Global};
-use upon_check::declared::Declared;
 use upon_shape::shape::{Plain, Shape};
+use upon_shape_check::declared::Declared;
 use upon_std_shapes::declare::declare_standard;
 
 /// Returns what is declared of the callables of an engine that these options fill, and of how it writes values: it

@@ -1,20 +1,20 @@
 // Whether pages are accepted on a shape, and the pictures of where they may fail.
 ghost use Rattle.std.specs.Prelude.{◌≡◌, [], IfErr, IfOk, OnOk, string_bytes};
 ghost use Rattle.upon_shape.specs.View.{shape_view};
-ghost use Rattle.upon_check.specs.Callables.{declared_view};
-ghost use Rattle.upon_check.specs.EndsOn.{EndsOn};
+ghost use Rattle.upon_shape_check.specs.Callables.{declared_view};
+ghost use Rattle.upon_shape_check.specs.EndsOn.{EndsOn};
 ghost use Rattle.upon_calls.specs.Work.{PagesFit};
 ghost use Rattle.upon_calls.specs.declared.failure.Failure.TheVariants.{OutOfMemory};
 
 use crate::failure::Failure;
 use crate::work::Pages;
 use std::alloc::{AllocError, Global};
-use upon_check::accepts::accepts;
-use upon_check::pictures::{Pictures, show_refusal};
-use upon_check::reasons::Known;
 use upon_engine::engine::Engine;
 use upon_engine::texts::{AnyEngine, EngineTexts};
 use upon_shape::shape::Shape;
+use upon_shape_check::accepts::accepts;
+use upon_shape_check::pictures::{Pictures, show_refusal};
+use upon_shape_check::reasons::Known;
 
 /// Returns the pictures of where pages may fail on values of a shape, of at most a hundred places. The text is empty if
 /// they may not, but that includes may be too deep one inside another.

@@ -23,7 +23,6 @@ use crate::names::list;
 use crate::options::Options;
 use std::alloc::Global;
 use std::borrow::CowStr;
-use upon_check::declared::Declared;
 use upon_engine::engine::Engine;
 use upon_engine::template::Template;
 use upon_engine::texts::{AnyEngine, EngineTexts};
@@ -31,6 +30,7 @@ use upon_engine::theorem;
 use upon_engine::within::Limits;
 use upon_html::formatters::Verbatim;
 use upon_shape::shape::Shape;
+use upon_shape_check::declared::Declared;
 use upon_std::table::{ALL, StandardFunction};
 use upon_types::value::Value;
 

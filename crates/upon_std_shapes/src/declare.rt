@@ -1,11 +1,11 @@
 // The standard functions declared under their names.
 ghost use Rattle.std.specs.Prelude.{◌≡◌, ℕ, List, take, OnOk, OnErr};
-ghost use Rattle.upon_check.specs.Callables.{declared_view};
+ghost use Rattle.upon_shape_check.specs.Callables.{declared_view};
 ghost use Rattle.upon_std_shapes.specs.Tables.{with_declared, with_all_declared};
 
 use crate::signatures::signatures_of;
 use std::alloc::{AllocError, Global};
-use upon_check::declared::Declared;
+use upon_shape_check::declared::Declared;
 use upon_std::table::StandardFunction;
 
 /// Declares what standard functions take and give, under their names, one after the other, each in place of what was

@@ -1,12 +1,12 @@
 // Signatures, one for each shape of items.
 ghost use Rattle.std.specs.Prelude.{◌≡◌, ◌++◌, [], ◌∷◌, map, IfOk};
 ghost use Rattle.upon_shape_spec.specs.Shape.{any_shape};
-ghost use Rattle.upon_check.specs.Callables.{signature_view};
+ghost use Rattle.upon_shape_check.specs.Callables.{signature_view};
 ghost use Rattle.upon_std_shapes.specs.Forms.{shape_of_item, signature_by};
 
 use crate::form::{Form, Item};
 use std::alloc::{AllocError, Global};
-use upon_check::declared::Signature;
+use upon_shape_check::declared::Signature;
 
 // Returns the signature of a function that takes and gives these, where items have this shape.
 fn signature(

@@ -1,12 +1,12 @@
 // The signatures of each standard function.
 ghost use Rattle.std.specs.Prelude.{◌≡◌, map, IfOk};
-ghost use Rattle.upon_check.specs.Callables.{signature_view};
+ghost use Rattle.upon_shape_check.specs.Callables.{signature_view};
 ghost use Rattle.upon_std_shapes.specs.Signatures.{comparing_signatures, texts_signatures, lists_signatures, basic_signatures, orders_signatures, parts_signatures, writing_signatures, standard_signatures};
 
 use crate::form::{Form, ITEMS, ORDERED};
 use crate::rows::{and_of_any, for_each, only};
 use std::alloc::{AllocError, Global};
-use upon_check::declared::Signature;
+use upon_shape_check::declared::Signature;
 use upon_std::basic::comparing::Comparing;
 use upon_std::basic::lists::Lists;
 use upon_std::basic::table::StandardFunction as Basic;

@@ -3,10 +3,10 @@ use std::alloc::{AllocError, Global};
 use std::borrow::CowStr;
 use std::test::Fail;
 use upon::{Engine, Value};
-use upon_check::accepted::Accepted;
-use upon_check::accepts::accepts;
-use upon_check::refusal::Refusal;
-use upon_check::declared::Declared;
+use upon_shape_check::accepted::Accepted;
+use upon_shape_check::accepts::accepts;
+use upon_shape_check::refusal::Refusal;
+use upon_shape_check::declared::Declared;
 use upon_shape::shape::Shape;
 
 fn is_sure(

@@ -2,11 +2,11 @@
 use std::alloc::{AllocError, Global};
 use std::borrow::CowStr;
 use upon::{Engine, Value};
-use upon_check::accepted::Accepted;
-use upon_check::accepts::accepts;
-use upon_check::refusal::{Misfit, Refusal};
-use upon_check::declared::Declared;
-use upon_check::doubt::Unsure;
+use upon_shape_check::accepted::Accepted;
+use upon_shape_check::accepts::accepts;
+use upon_shape_check::refusal::{Misfit, Refusal};
+use upon_shape_check::declared::Declared;
+use upon_shape_check::doubt::Unsure;
 use upon_shape::shape::Shape;
 
 // The word of what is not sure.

@@ -2,7 +2,7 @@
 use crate::tables::all_declared;
 use std::alloc::{AllocError, Global};
 use std::test::Fail;
-use upon_check::declared::{DeclaredCallable, Signature};
+use upon_shape_check::declared::{DeclaredCallable, Signature};
 use upon_functions::function::Function;
 use upon_json::context::context;
 use upon_shape::shape::Shape;

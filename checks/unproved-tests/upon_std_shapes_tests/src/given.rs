@@ -2,7 +2,7 @@
 use crate::tables::all_declared;
 use std::alloc::{AllocError, Global};
 use std::test::Fail;
-use upon_check::declared::Declared;
+use upon_shape_check::declared::Declared;
 use upon_json::context::context;
 use upon_shape::shape::Shape;
 use upon_types::value::{Value, look};

@@ -2,8 +2,8 @@
 use std::alloc::Global;
 use std::test::Fail;
 use upon::{Engine, Value};
-use upon_check::accepts::accepts;
-use upon_check::declared::Declared;
+use upon_shape_check::accepts::accepts;
+use upon_shape_check::declared::Declared;
 use upon_shape::shape::Shape;
 use upon_std::table::ALL;
 use upon_std_shapes::declare::declare_standard;

@@ -1,7 +1,7 @@
 // How many signatures each standard function has.
 use std::alloc::{AllocError, Global};
 use std::test::Fail;
-use upon_check::declared::{Declared, DeclaredCallable};
+use upon_shape_check::declared::{Declared, DeclaredCallable};
 use upon_shape::shape::Shape;
 use upon_std::table::ALL;
 use upon_std_shapes::declare::declare_standard;

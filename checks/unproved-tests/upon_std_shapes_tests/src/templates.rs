@@ -4,7 +4,7 @@ use std::alloc::{AllocError, Global};
 use std::borrow::CowStr;
 use std::test::Fail;
 use upon::{Engine, Value};
-use upon_check::accepts::accepts;
+use upon_shape_check::accepts::accepts;
 use upon_shape::shape::Shape;
 use upon_std::table::ALL;
 

@@ -1,5 +1,5 @@
 use Rattle.std.proofs.Common.{◌≡◌, subst}
-use Rattle.upon_check.specs.Callables.{declared_view}
+use Rattle.upon_shape_check.specs.Callables.{declared_view}
 use Rattle.upon_std_shapes.specs.Tables.{with_all_declared}
 use Rattle.upon_calls.specs.Asked.{asked_by}
 use Rattle.upon_calls.proofs.Declaring.{all_keep}

@@ -1,8 +1,8 @@
 use Rattle.std.proofs.Common.{ℕ, List}
 use Rattle.upon_shape.specs.View.{shape_view}
-use Rattle.upon_check.specs.Callables.{declared_view}
+use Rattle.upon_shape_check.specs.Callables.{declared_view}
 use Rattle.upon_engine.specs.Texts.{texts_of}
-use Rattle.upon_check.specs.EndsOn.{EndsOn}
+use Rattle.upon_shape_check.specs.EndsOn.{EndsOn}
 use Rattle.upon_calls.proofs.CheckedPages.{each_name_holds, name_holds, no_name_yet}
 use Rattle.upon_calls.proofs.misfits.misfits.Goals as goal
 

@@ -1,10 +1,10 @@
 use Rattle.std.proofs.Common.{◌≡◌, [], string_bytes, take}
 use Rattle.std.specs.Prelude.{All}
 use Rattle.upon_shape.specs.View.{shape_view}
-use Rattle.upon_check.specs.Callables.{declared_view}
+use Rattle.upon_shape_check.specs.Callables.{declared_view}
 use Rattle.upon_needs.specs.Names.{texts}
 use Rattle.upon_engine.specs.Texts.{texts_of}
-use Rattle.upon_check.specs.EndsOn.{EndsOn}
+use Rattle.upon_shape_check.specs.EndsOn.{EndsOn}
 use Rattle.upon_calls.proofs.misfits.misfits.Given as goal
 
 -- if there is no picture, each page so far ends

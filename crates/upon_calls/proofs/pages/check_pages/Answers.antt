@@ -2,7 +2,7 @@ use Rattle.std.proofs.Common.{◌∙◌, string_bytes, sym}
 use Rattle.std.proofs.lemmas.Bool.{eqb-true}
 use Rattle.std.proofs.lemmas.List.{nil_from_length}
 use Rattle.upon_shape.specs.View.{shape_view}
-use Rattle.upon_check.specs.Callables.{declared_view}
+use Rattle.upon_shape_check.specs.Callables.{declared_view}
 use Rattle.upon_needs.specs.Names.{texts}
 use Rattle.upon_calls.specs.Asked.{asked_by}
 use Rattle.upon_calls.specs.Filled.{filled}

@@ -1,5 +1,5 @@
 use Rattle.std.proofs.Common.{◌∙◌, arith}
-use Rattle.upon_check.specs.Callables.{declared_view}
+use Rattle.upon_shape_check.specs.Callables.{declared_view}
 use Rattle.upon_std_shapes.proofs.Declaring.{declared_more}
 use Rattle.upon_std_shapes.proofs.declare.declare_standard.Goals as goal
 

@@ -1,5 +1,5 @@
 use Rattle.std.proofs.Common.{◌≡◌, ℕ, List, take}
-use Rattle.upon_check.specs.Callables.{declared_view}
+use Rattle.upon_shape_check.specs.Callables.{declared_view}
 use Rattle.upon_std_shapes.specs.Tables.{with_all_declared}
 use Rattle.upon_std_shapes.proofs.declare.declare_standard.Given as goal
 

@@ -1,5 +1,5 @@
 use Rattle.std.proofs.Common.{◌≡◌, map, take}
-use Rattle.upon_check.specs.Callables.{signature_view}
+use Rattle.upon_shape_check.specs.Callables.{signature_view}
 use Rattle.upon_std_shapes.specs.Forms.{shape_of_item, signature_by}
 use Rattle.upon_std_shapes.proofs.rows.for_each.Given as goal
 

@@ -1,8 +1,0 @@
-use Rattle.upon_shape_spec.specs.Accepted.{EachAccepted}
-use Rattle.upon_check.specs.Callables.{declared_view}
-use Rattle.upon_check.specs.Plan.{plan_view}
-use Rattle.upon_engine.specs.Engine.{engine_templates}
-use Rattle.upon_check.proofs.levels.settle.Given as goal
-
-abbrev pub invariant-loop-planned : goal.invariant-loop-planned
-invariant-loop-planned g l = EachAccepted (declared_view l.declared) (engine_templates l.engine) (plan_view l.settled) (plan_view l.added)

@@ -1,5 +1,0 @@
-use Rattle.std.proofs.Common.{refl}
-use Rattle.upon_check.proofs.steps.ends_with.Goals as goal
-
-pub returns : goal.returns
-returns c = λ number d inc. (refl, c.leave.ensures)
