@@ -5,3 +5,4 @@ pub mod OpenBlocks
 pub mod Links
 pub mod SearchSteps
 pub mod Begun
+pub mod PlacesLie

@@ -1,6 +1,5 @@
-use Rattle.std.proofs.Common.{arith, subst, sym}
+use Rattle.std.proofs.Common.{arith}
 use Rattle.std.proofs.lemmas.Grind.{common_steps}
-use Rattle.std.proofs.lemmas.Result.{IfOk-weaker}
 use Rattle.upon_needs.proofs.PlacesLie.{calls_lie}
 use Rattle.upon_needs.proofs.places.calls.Goals as goal
 

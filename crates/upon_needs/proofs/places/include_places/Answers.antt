@@ -1,6 +1,5 @@
-use Rattle.std.proofs.Common.{arith, subst, sym}
+use Rattle.std.proofs.Common.{arith}
 use Rattle.std.proofs.lemmas.Grind.{common_steps}
-use Rattle.std.proofs.lemmas.Result.{IfOk-weaker}
 use Rattle.upon_needs.proofs.PlacesLie.{includes_lie}
 use Rattle.upon_needs.proofs.places.include_places.Goals as goal
 
