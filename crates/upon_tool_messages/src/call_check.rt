@@ -85,7 +85,7 @@ impl<'k> CallCheck<'k> {
         is_pictured: bool,
         err: &mut E,
     ) -> Result<bool, AllocError>
-        requires { LiesIn source.now call.entry.span }
+        requires { LiesIn source.now call.span }
         ensures { IfOk result (λ is_wrong. is_wrong ≡ false → err.new ≡ err.old) }
     {
         let called = call.name;

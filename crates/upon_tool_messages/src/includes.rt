@@ -54,7 +54,7 @@ fn show_include<E: io::Write>(
     place: IncludePlace<'_>,
     err: &mut E,
 )
-    requires { LiesIn source.now place.entry.span }
+    requires { LiesIn source.now place.span }
 {
     let reason = Some("unknown template");
     let error = Error::from_parts(alloc, ErrorKind::Render, reason, Some((source, place.span)));
