@@ -11,7 +11,7 @@ use Rattle.upon_calls.specs.Rendering.{EachHasTree}
 use Rattle.upon_calls.specs.declared.escaping.Language.{Language}
 
 module _ (e : Texts) (each : EachHasTree e) where
-  template_at : (name : List ℕ) (s : Option Stored) → e.texts name ≡ s → Option Template
+  abbrev template_at : (name : List ℕ) (s : Option Stored) → e.texts name ≡ s → Option Template
   template_at name None is = None
   template_at name (Some held) is = Some (record { source = held.text; tree = (each name held is).0 })
 

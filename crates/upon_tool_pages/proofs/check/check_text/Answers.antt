@@ -8,5 +8,5 @@ returns-in-Err g c = not_compiled _ _ c.args.name.now _ c.in-Err.error c.with_na
 pub returns-then-is_empty : goal.returns-then-is_empty
 returns-then-is_empty g c = no_name_missing _ _ c.args.name.now _ _ c.in_ok-missing.missing.items c.in_ok-missing.missing.len c.in_ok-missing.missing.ok.0 (sym c.if-is_empty.ensures) c.in-Ok.ensures.has_tree c.in_ok-missing.ensures
 
-pub returns-in-Ok-show_includes : goal.returns-in-Ok-show_includes
-returns-in-Ok-show_includes g c = some_missing _ _ c.args.name.now _ _ c.in_ok-missing.missing.items c.in_ok-missing.missing.len c.in_ok-missing.missing.ok.0 (sym c.if-is_empty.ensures) c.in-Ok.ensures.only_tree c.in_ok-missing.ensures
+pub returns : goal.returns
+returns g c = some_missing _ _ c.args.name.now _ _ c.in_ok-missing.missing.items c.in_ok-missing.missing.len c.in_ok-missing.missing.ok.0 (sym c.if-is_empty.ensures) c.in-Ok.ensures.only_tree c.in_ok-missing.ensures
