@@ -1,10 +1,10 @@
 """The programs' commands and arguments, as their sources have them: rows of `upon-tool`, and the help of `upon-render`."""
-import os
 import re
 import sys
 from typing import NamedTuple
 
-TOP = os.path.dirname(os.path.dirname(os.path.dirname(os.path.abspath(__file__))))
+from house_words import text_of
+
 ROWS = "crates/upon_tool_io/src/command_line.rt"
 HELP = "crates/upon_cli/src/main.rt"
 CONSTANT = re.compile(r"^(?:pub\(crate\) )?const (\w+): [^=]*=\s", re.M)
@@ -131,12 +131,6 @@ class Reader:
                 self.take(",")
         self.take(end)
         return found
-
-
-def text_of(path):
-    """Returns the text of a file of the repository."""
-    with open(os.path.join(TOP, path), encoding="utf-8") as file:
-        return file.read()
 
 
 def taken(takes):

@@ -1,22 +1,10 @@
 """What checks/house counts of the crates: where the picture of docs/contributing/ARCHITECTURE.md has each."""
-import os
 import re
 
-TOP = os.path.dirname(os.path.dirname(os.path.dirname(os.path.abspath(__file__))))
+from house_words import text_of
+from specs import rested_on
+
 PICTURE = re.compile(r"```text\n(.*?)```", re.S)
-
-
-def text_of(path):
-    """Returns the text of a file of the repository."""
-    with open(os.path.join(TOP, path), encoding="utf-8") as file:
-        return file.read()
-
-
-def rested_on():
-    """Returns each crate of ours with those of ours that it rests on, by crates.txt."""
-    rows = [line.partition(":") for line in text_of("crates.txt").splitlines()]
-    crates = {name.split()[0]: words.split() for name, _, words in rows}
-    return {crate: [it for it in words if it in crates] for crate, words in crates.items()}
 
 
 def rows_of_picture():

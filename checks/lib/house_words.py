@@ -33,13 +33,16 @@ OF_EXAMPLES = ("crates/upon_examples/", "crates/upon_users/", "crates/upon_bench
 UNTOUCHED = ("crates/upon_before_spec/", "docs/proof/DEFINITIONS.md")
 
 
+def text_of(path):
+    """Returns the text of a file of the repository."""
+    with open(os.path.join(TOP, path), encoding="utf-8") as file:
+        return file.read()
+
+
 def sources(*patterns):
     """Returns the files of some patterns below the top, each with its text, in order."""
-    found = []
-    for path in sorted(path for pattern in patterns for path in glob.glob(pattern, root_dir=TOP, recursive=True)):
-        with open(os.path.join(TOP, path), encoding="utf-8") as file:
-            found.append((path, file.read()))
-    return found
+    paths = sorted(path for pattern in patterns for path in glob.glob(pattern, root_dir=TOP, recursive=True))
+    return [(path, text_of(path)) for path in paths]
 
 
 def name_each_kind(files):

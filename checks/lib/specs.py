@@ -2,6 +2,8 @@
 import os
 import re
 
+from house_words import text_of
+
 TOP = os.path.dirname(os.path.dirname(os.path.dirname(os.path.abspath(__file__))))
 SOURCE = os.path.join(TOP, "crates", "upon_engine", "src", "theorem.rt")
 WORD = re.compile(r"[^\s(){}\[\];,.λ→×∥₁]+")
@@ -131,7 +133,13 @@ def reached(modules, clause=None):
     return seen.values(), words
 
 
+def rested_on():
+    """Each crate, from the lowest, with the crates of this repository that it rests on, by crates.txt."""
+    lines = [line for line in text_of("crates.txt").splitlines() if line.strip() and not line.startswith("#")]
+    crates = {name.split()[0]: words.split() for name, _, words in (line.partition(":") for line in lines)}
+    return {crate: [it for it in words if it in crates] for crate, words in crates.items()}
+
+
 def crate_order():
     """The crates from the lowest."""
-    lines = open(os.path.join(TOP, "crates.txt"), encoding="utf8")
-    return [line.split(":")[0].split()[0] for line in lines if line.strip() and not line.startswith("#")]
+    return list(rested_on())
