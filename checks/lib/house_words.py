@@ -27,6 +27,10 @@ KINDS = (
 )
 # What may have quotes and is no text: comments, and a quote as a character. A text of code, and the words of one.
 NO_TEXT, TEXT, WORD = re.compile(r"//.*$|'\"'", re.M), re.compile(r'"((?:\\.|[^"\\])*)"'), re.compile(r"[A-Za-z]{2,}")
+# Bounds that reach past the traits of files: of what may open the system's, and of what could write to a copy of its log.
+PAST_FILES = re.compile(r"\b(?:\w+: |\+ )Files\b|rt::(?:\{[^}]*\b)?Files\b|Targets \+ Clone|Clone \+ Targets")
+# The crates above these traits.
+OF_TOOL, OF_FILES = "crates/upon_tool_", ("crates/upon_tool_io/", "crates/upon_tool_cli/")
 # Crates whose texts are those of examples.
 OF_EXAMPLES = ("crates/upon_examples/", "crates/upon_users/", "crates/upon_bench/")
 # A copy of the language before `for .. else`, and a page that a script writes, which no statement changes by hand.
@@ -73,3 +77,12 @@ def said_twice(code):
     for said, paths in sorted(places.items()):
         if len(paths) > 1:
             yield f'"{said}": {", ".join(paths)}'
+
+
+def past_files(code):
+    """The lines of the tool's code above the traits of files that reach past these, by what they name in bounds."""
+    for path, text in code:
+        if path.startswith(OF_TOOL) and not path.startswith(OF_FILES) or path.startswith("crates/upon_tool/"):
+            for number, line in enumerate(text.split("\n"), 1):
+                if PAST_FILES.search(NO_TEXT.sub("", line)):
+                    yield f"{path}:{number}"

@@ -12,6 +12,7 @@ use std::collections::BTreeMap;
 use upon_engine::sources::TemplateSource;
 use upon_engine::template::Template;
 use upon_lookup::source::SourceError;
+use upon_types::error::cause::Cause;
 
 /// The source that has one template, under each name.
 #[derive(Clone, Copy)]
@@ -95,7 +96,7 @@ impl<'r, 'e> TemplateSource<'r> for TemplateMap<'r, 'e> {
     fn template(&mut self, name: &str) -> Result<&'r Template<'r>, SourceError> {
         match self.get(name) {
             Some(template) => Ok(template.lent()),
-            None => match String::from_str(self.alloc, "unknown template") {
+            None => match Cause::UnknownTemplate.text(self.alloc) {
                 Ok(reason) => Err(SourceError::Refused(reason)),
                 Err(_) => Err(SourceError::Memory),
             },

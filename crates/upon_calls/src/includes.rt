@@ -5,6 +5,7 @@ use crate::failure::Failure;
 use std::alloc::{AllocError, Global};
 use upon_engine::template::Template;
 use upon_needs::places::{counts, include_places};
+use upon_types::error::cause::Cause;
 use upon_types::error::{Error, ErrorKind};
 use upon_types::types::Span;
 
@@ -41,8 +42,8 @@ fn show_include(
 ) -> Result<(), AllocError>
     requires { LiesIn source.now span }
 {
-    let reason = Some("unknown template");
-    let error = Error::from_parts(alloc, ErrorKind::Render, reason, Some((source, span)));
+    let at = Some((source, span));
+    let error = Error::from_cause(alloc, ErrorKind::Render, Cause::UnknownTemplate, at);
     let error = error.with_name(alloc, name);
     let Failure::Faults(picture) = Failure::of_error(alloc, &error) else {
         return Err(AllocError);

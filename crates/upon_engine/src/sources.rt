@@ -10,7 +10,8 @@ use crate::engine::Engine;
 use crate::template::Template;
 use std::marker::PhantomData;
 use upon_lookup::source::SourceError;
-use upon_vm_steps::source::{Program, ProgramSource};
+use upon_types::error::cause::Cause;
+use upon_vm_steps::source::{NoProgram, Program, ProgramSource};
 
 /// What gives templates by their names.
 ///
@@ -86,10 +87,40 @@ impl<'r, 'e> TemplateSource<'r> for EngineTemplates<'r, 'e> {
     fn template(&mut self, name: &str) -> Result<&'r Template<'r>, SourceError> {
         match self.engine.held(name) {
             Some(template) => Ok(template.lent()),
-            None => match String::from_str(self.engine.alloc(), "unknown template") {
+            None => match Cause::UnknownTemplate.text(self.engine.alloc()) {
                 Ok(reason) => Err(SourceError::Refused(reason)),
                 Err(_) => Err(SourceError::Memory),
             },
+        }
+    }
+}
+
+// The same templates as programs. That there is none is a cause, and no text of a source.
+impl<'r, 'e> ProgramSource<'r> for EngineTemplates<'r, 'e> {
+    ghost use Rattle.upon_meaning_spec.specs.Engine.{from_table};
+    ghost use Rattle.upon_engine.specs.Engine.{engine_templates};
+    ghost use Rattle.std.specs.BTreeMap.{get_by_text};
+    ghost use Rattle.std.specs.Prelude.{[]};
+    ghost use Rattle.upon_compiler.proofs.CompiledTree.{spans};
+    ghost use Rattle.upon_compiler.proofs.Templates.{map_lies};
+    ghost use Rattle.upon_engine.specs.Template.{template_source, template_syntax};
+
+    ghost State = { Unit {0} };
+
+    ghost template_state = { λ _. tt };
+
+    ghost resolve = { λ s. from_table (engine_templates s.engine.now) };
+
+    ghost holds = { λ _. [] };
+
+    ghost templates_lie = { λ s. map_lies template_of
+        (λ t. spans (template_syntax t) (template_source t) t.instrs.items t.is_compiled)
+        (get_by_text s.engine.now.templates) };
+
+    fn program(&mut self, name: &str) -> Result<Program<'r>, NoProgram> {
+        match self.engine.held(name) {
+            Some(template) => Ok(program_of(template.lent())),
+            None => Err(NoProgram::Unknown),
         }
     }
 }
@@ -148,10 +179,11 @@ impl<'r, T: TemplateSource<'r>> ProgramSource<'r> for Programs<T> {
 
     ghost templates_lie = { λ s. T.templates_lie s.templates };
 
-    fn program(&mut self, name: &str) -> Result<Program<'r>, SourceError> {
+    fn program(&mut self, name: &str) -> Result<Program<'r>, NoProgram> {
         match self.templates.template(name) {
             Ok(template) => Ok(program_of(template)),
-            Err(error) => Err(error),
+            Err(SourceError::Refused(reason)) => Err(NoProgram::Refused(reason)),
+            Err(SourceError::Memory) => Err(NoProgram::Memory),
         }
     }
 }

@@ -14,7 +14,7 @@ ghost use Rattle.upon_engine.specs.Theorem.{meaning};
 ghost use Rattle.upon_engine.specs.Within.{AnswersWithin, SendsWithin, runs};
 
 use crate::engine::Engine;
-use crate::sources::{EngineTemplates, Programs, program_of};
+use crate::sources::{EngineTemplates, program_of};
 use crate::template::Template;
 use std::borrow::CowStr;
 use std::io;
@@ -205,8 +205,7 @@ impl<'e> Engine<'e> {
         };
         let stack: Stack<'r, NoSource> = Stack::over(alloc, value);
         let templates = EngineTemplates { engine: self };
-        let programs = Programs { templates };
-        let (ended, _, _) = render_within(alloc, &self, running, stack, programs, *limits, out);
+        let (ended, _, _) = render_within(alloc, &self, running, stack, templates, *limits, out);
         reported_within(alloc, ended, depth, out)
     }
 }

@@ -3,15 +3,19 @@ ghost use Rattle.std.specs.Prelude.{◌≡◌, ◌++◌, List, ℕ, [], Some, No
 ghost use Rattle.std.specs.Fmt.{signed_decimal};
 ghost use Rattle.std.specs.Char.{encode_utf8};
 ghost use Rattle.upon_types.specs.Answers.{Formatted};
+ghost use Rattle.upon_types.specs.Error.{reason_words};
 ghost use Rattle.upon_types.specs.Val.{Val, kind_word};
 ghost use Rattle.upon_types.specs.View.{view};
 ghost use Rattle.upon_meaning_spec.specs.DefaultFormat.{default_format};
 ghost use Rattle.upon_fmt.specs.Error.{message_of, error_text};
 ghost use Rattle.upon_fmt.specs.Formatter.{text_of, is_marked, Writes, Formats};
 
+use crate::message::{Message, Told};
 use itoa::Buffer;
 use std::alloc::{AllocError, Global};
 use std::fmt;
+use upon_types::error::cause::Cause;
+use upon_types::error::reason::Reason;
 use upon_types::value::Value;
 
 /// What formatting ends with: well, or refused.
@@ -20,7 +24,7 @@ pub type Result = std::result::Result<(), Error>;
 /// A formatter refuses, with a message or with none.
 #[derive(Debug, Drop)]
 pub struct Error {
-    message: Option<String>,
+    message: Message,
 }
 
 impl Error {
@@ -30,7 +34,7 @@ impl Error {
     {
         let message = String::from_str(alloc, message)?;
         Ok(Error {
-            message: Some(message),
+            message: Message::Text(message),
         })
     }
 
@@ -38,7 +42,22 @@ impl Error {
     pub fn message(self) -> Option<String>
         ensures { option_map string_bytes result ≡ message_of self }
     {
-        self.message
+        match self.message {
+            Message::None => None,
+            Message::Text(text) => Some(text),
+            Message::Told(told) => Some(Box::into_inner(told).into_text()),
+        }
+    }
+
+    /// Returns the message as the reason of a fault: its cause, if it is the default formatter's.
+    pub fn into_reason(self) -> Reason
+        ensures { reason_words result ≡ message_of self }
+    {
+        match self.message {
+            Message::None => Reason::None,
+            Message::Text(text) => Reason::Text(text),
+            Message::Told(told) => Reason::Cause(Box::into_inner(told).into_cause()),
+        }
     }
 }
 
@@ -47,7 +66,7 @@ impl From<String> for Error {
 
     fn from(message: String) -> Error {
         Error {
-            message: Some(message),
+            message: Message::Text(message),
         }
     }
 }
@@ -56,7 +75,9 @@ impl From<fmt::Error> for Error {
     ghost from_gives = { λ _ error. message_of error ≡ None };
 
     fn from(_: fmt::Error) -> Error {
-        Error { message: None }
+        Error {
+            message: Message::None,
+        }
     }
 }
 
@@ -65,8 +86,12 @@ impl fmt::Display for Error {
 
     fn fmt<W: fmt::Write>(&self, f: &mut fmt::Formatter<W>) -> fmt::Result {
         match &self.message {
-            Some(message) => write!(f, "{message}"),
-            None => write!(f, "format error"),
+            Message::Text(text) => write!(f, "{text}"),
+            Message::Told(told) => {
+                let text = told.text();
+                write!(f, "{text}")
+            }
+            Message::None => write!(f, "format error"),
         }
     }
 }
@@ -104,13 +129,17 @@ impl Formatter {
         ensures { Writes self.old self.new result text.now }
     {
         if self.is_marked {
-            return Err(Error { message: None });
+            return Err(Error {
+                message: Message::None,
+            });
         }
         match self.buffer.push_str(text) {
             Ok(()) => Ok(()),
             Err(_) => {
                 self.out_of_memory();
-                Err(Error { message: None })
+                Err(Error {
+                    message: Message::None,
+                })
             }
         }
     }
@@ -120,13 +149,17 @@ impl Formatter {
         ensures { Writes self.old self.new result (encode_utf8 character) }
     {
         if self.is_marked {
-            return Err(Error { message: None });
+            return Err(Error {
+                message: Message::None,
+            });
         }
         match self.buffer.push(character) {
             Ok(()) => Ok(()),
             Err(_) => {
                 self.out_of_memory();
-                Err(Error { message: None })
+                Err(Error {
+                    message: Message::None,
+                })
             }
         }
     }
@@ -230,14 +263,15 @@ fn unformattable(f: &mut Formatter, value: &Value) -> Error
         × (message_of result
         ≡ Some (codes "expression evaluated to unformattable type " ++ kind_word (view value.now))) }
 {
-    let kind = value.human();
-    match format!(in f.alloc; "expression evaluated to unformattable type {kind}") {
-        Ok(message) => Error {
-            message: Some(message),
+    match Told::new(f.alloc, Cause::Unformattable(value.kind())) {
+        Ok(told) => Error {
+            message: Message::Told(told),
         },
         Err(_) => {
             f.out_of_memory();
-            Error { message: None }
+            Error {
+                message: Message::None,
+            }
         }
     }
 }

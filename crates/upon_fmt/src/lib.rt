@@ -2,4 +2,5 @@
 #![tactic(auto)]
 
 pub mod fmt;
+mod message;
 pub mod output;

@@ -1,8 +1,9 @@
-// What can be wrong with a literal, and the words that report it.
-ghost use Rattle.std.specs.Prelude.{◌≡◌, string_bytes, IfOk};
+// What can be wrong with a literal, and the cause that reports it.
+ghost use Rattle.std.specs.Prelude.{◌≡◌};
+ghost use Rattle.upon_types.specs.Cause.{cause_text};
 ghost use Rattle.upon_lexer.specs.LiteralReasons.{literal_reason};
 
-use std::alloc::{AllocError, Global};
+use upon_types::error::cause::Cause;
 use upon_types::types::Span;
 
 /// Why a literal denotes nothing.
@@ -21,25 +22,16 @@ pub enum LiteralFault {
 }
 
 impl LiteralFault {
-    /// Returns the words that report the fault. The error is that memory is out.
-    pub fn reason(self, alloc: Global) -> Result<String, AllocError>
-        ensures { IfOk result (λ reason. string_bytes reason ≡ literal_reason self) }
+    /// Returns the cause of the fault.
+    pub fn cause(self) -> Cause
+        ensures { cause_text result ≡ literal_reason self }
     {
         match self {
-            LiteralFault::Float => String::from_str(alloc, "invalid float literal"),
-            LiteralFault::InvalidDigit(base) => {
-                format!(in alloc; "invalid digit for base {base} literal")
-            }
-            LiteralFault::NumberOutOfRange(base) => {
-                format!(in alloc; "base {base} literal out of range for 64-bit integer")
-            }
-            LiteralFault::IndexOutOfRange => {
-                String::from_str(
-                    alloc,
-                    "base 10 literal out of range for unsigned 64-bit integer",
-                )
-            }
-            LiteralFault::UnknownEscape => String::from_str(alloc, "unknown escape character"),
+            LiteralFault::Float => Cause::InvalidFloat,
+            LiteralFault::InvalidDigit(base) => Cause::InvalidDigit(base),
+            LiteralFault::NumberOutOfRange(base) => Cause::NumberOutOfRange(base),
+            LiteralFault::IndexOutOfRange => Cause::IndexOutOfRange,
+            LiteralFault::UnknownEscape => Cause::UnknownEscape,
         }
     }
 }

@@ -14,6 +14,7 @@ ghost use Rattle.upon_types.specs.Fault.{Fault};
 
 use crate::faults;
 use std::alloc::{AllocError, Global};
+use upon_types::error::cause::Cause;
 use upon_types::error::{Error, Result};
 use upon_types::types::ast::{Access, AccessOp, Member};
 use upon_types::value::look::entry;
@@ -273,7 +274,7 @@ fn not_reached(alloc: Global, source: &str, value: &Value, member: &Member) -> E
         (Value::List(items), Access::Index(_)) => {
             faults::out_of_bounds(alloc, source, items.len(), at)
         }
-        (Value::Map(_), Access::Key(_)) => faults::wrong(alloc, source, "not found in map", at),
+        (Value::Map(_), Access::Key(_)) => faults::caused(alloc, source, Cause::NotInMap, at),
         (_, Access::Index(_)) => faults::no_index_access(alloc, source, value, at),
         (_, Access::Key(_)) => faults::no_key_access(alloc, source, value, at),
     }

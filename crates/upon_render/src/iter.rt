@@ -22,6 +22,7 @@ use std::alloc::{AllocError, Global};
 use std::collections::BTreeMap;
 use upon_lookup::faults;
 use upon_lookup::value::{Found, Made, find_bound, lookup_bound};
+use upon_types::error::cause::Cause;
 use upon_types::error::{Error, Result};
 use upon_types::types::Span;
 use upon_types::types::ast::{Access, AccessOp, Ident, KeyValue, LoopVars, Member, Var};
@@ -379,12 +380,7 @@ fn state_field(
     ensures { AnswersAlways view source.now (state_walk index count (member_of member.now ∷ [])) result }
 {
     let Access::Key(name) = &member.access else {
-        return Err(faults::wrong(
-            alloc,
-            source,
-            "cannot index into map with integer",
-            member.span,
-        ));
+        return Err(faults::caused(alloc, source, Cause::IntegerIndex, member.span));
     };
     match (name.name.as_str(), member.op) {
         ("index", _) => Ok(Value::Integer(index as i64)),
@@ -392,7 +388,7 @@ fn state_field(
         ("last", _) => Ok(Value::Bool(index == count - 1)),
         (_, AccessOp::Optional) => Ok(Value::None),
         (_, AccessOp::Direct) => {
-            Err(faults::wrong(alloc, source, "not found in map", member.span))
+            Err(faults::caused(alloc, source, Cause::NotInMap, member.span))
         }
     }
 }
@@ -522,7 +518,7 @@ fn lookup_key<'a>(
 {
     match path {
         [] => Ok(Some(ValueCow::Owned(Value::from_text(alloc, key)?))),
-        [member, ..] => Err(faults::wrong(alloc, source, "cannot index into string", member.span)),
+        [member, ..] => Err(faults::caused(alloc, source, Cause::IndexIntoString, member.span)),
     }
 }
 
@@ -602,14 +598,7 @@ fn not_listed(alloc: Global, source: &str, name: &Ident, value: &Value, span: Sp
     ensures { TellsFault source.now (items_of (item (ident_of name.now)) (view value.now) span) result }
 {
     match value {
-        Value::Map(_) => {
-            faults::wrong(
-                alloc,
-                source,
-                "cannot unpack map item into one variable",
-                name.span,
-            )
-        }
+        Value::Map(_) => faults::caused(alloc, source, Cause::MapItemIntoOne, name.span),
         _ => faults::not_iterable(alloc, source, value, span),
     }
 }
@@ -622,14 +611,7 @@ fn not_mapped(alloc: Global, source: &str, names: &KeyValue, value: &Value, span
     ensures { TellsFault source.now (items_of (names_of_both names.now) (view value.now) span) result }
 {
     match value {
-        Value::List(_) => {
-            faults::wrong(
-                alloc,
-                source,
-                "cannot unpack list item into two variables",
-                names.span,
-            )
-        }
+        Value::List(_) => faults::caused(alloc, source, Cause::ListItemIntoTwo, names.span),
         _ => faults::not_iterable(alloc, source, value, span),
     }
 }

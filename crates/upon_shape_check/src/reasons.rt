@@ -5,6 +5,7 @@ use crate::told::{all_told, told};
 use std::alloc::{AllocError, Global};
 use upon_engine::engine::Engine;
 use upon_shape::shape::Shape;
+use upon_types::error::cause::Cause;
 
 /// What is said where lists or maps are written in each other too deep for a check.
 pub const TOO_DEEP: &str = "may fail: lists or maps are written in each other too deep for a check";
@@ -34,13 +35,13 @@ pub fn reason_of(
         Unsure::TakesValues(shapes) => call_reason(alloc, known.declared, written, shapes),
         Unsure::HasText(shape) => after(alloc, "may have no text: the value is ", shape),
         Unsure::HasItems(shape) => after(alloc, "may have no items: the value is ", shape),
-        Unsure::IsIncluded(name, _) => String::from_str(
-            alloc,
-            match known.engine.get_template(name) {
-                Some(_) => "may fail: there is too much to check in what is included",
-                None => "unknown template",
-            },
-        ),
+        Unsure::IsIncluded(name, _) => match known.engine.get_template(name) {
+            Some(_) => String::from_str(
+                alloc,
+                "may fail: there is too much to check in what is included",
+            ),
+            None => Cause::UnknownTemplate.text(alloc),
+        },
     }
 }
 

@@ -9,10 +9,11 @@ use Rattle.upon_types.specs.declared.types.Span.{Span}
 use Rattle.upon_types.specs.BlockKinds.{Block}
 use Rattle.upon_language_spec.specs.Blocks.{OpenBlock, Closer, else_if, plain_else, end_of, block_takes, takes, after_closer, by_closer, outermost}
 use Rattle.upon_syntax.specs.declared.compile.parse.open_blocks.OpenBlock.{OpenBlock as CodeBlock}
-use Rattle.upon_tag_parser.specs.BlockTags.{BlockTag, opening_tag, else_if_tag, else_tag, end_tag, include_tag, block_kind}
+use Rattle.upon_tag_parser.specs.BlockTags.{BlockTag, opening_tag, else_if_tag, else_tag, end_tag, include_tag}
+use Rattle.upon_types.specs.BlockKinds.{block_kind}
 use Rattle.upon_syntax.specs.Pieces.{kinds_left, after_closing, blocks_after_tag}
-use Rattle.upon_tag_parser.specs.declared.compile.parse.kind.Kind.{Kind}
-use Rattle.upon_syntax.specs.declared.compile.parse.open_blocks.Closing.{Closing}
+use Rattle.upon_types.specs.declared.types.block.BlockKind.{BlockKind}
+use Rattle.upon_types.specs.declared.types.block.Closing.{Closing}
 use Rattle.upon_syntax.specs.declared.compile.parse.open_blocks.Effect.TheVariants.{Opens, Closes, Nothing}
 use Rattle.upon_syntax.specs.OpenBlocks.{closer_view, block_of, stack_from, innermost_block, kinds_of, new_block, with_block_opened, after_tag, HasEffect, IsTaken, IsUntaken}
 
@@ -121,7 +122,7 @@ none_done tag span stack e = (
 )
 
 -- it opens a block
-pub one_opened : (tag : BlockTag) (kind : Kind) (span : Span) (stack next : List OpenBlock) → HasEffect tag (Opens kind) → next ≡ new_block (block_kind kind) span ∷ stack → IsTaken tag stack × (next ≡ after_tag tag span stack)
+pub one_opened : (tag : BlockTag) (kind : BlockKind) (span : Span) (stack next : List OpenBlock) → HasEffect tag (Opens kind) → next ≡ new_block (block_kind kind) span ∷ stack → IsTaken tag stack × (next ≡ after_tag tag span stack)
 one_opened tag kind span stack next e is = (
   λ closer some. absurd (let none = e.1 in cc),
   is ∙ sym (λ i. with_block_opened (e.0 i) span (by_closer (e.1 i) stack)),

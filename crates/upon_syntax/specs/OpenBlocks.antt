@@ -3,10 +3,11 @@ use Rattle.std.specs.Prelude.{◌≡◌, List, [], ◌∷◌, map, true, false, 
 use Rattle.upon_types.specs.declared.types.Span.{Span}
 use Rattle.upon_types.specs.BlockKinds.{Block, opened_kind}
 use Rattle.upon_language_spec.specs.Blocks.{OpenBlock, Closer, else_if, plain_else, end_of, takes, by_closer}
-use Rattle.upon_tag_parser.specs.BlockTags.{BlockTag, opening_tag, else_if_tag, else_tag, end_tag, block_kind}
+use Rattle.upon_tag_parser.specs.BlockTags.{BlockTag, opening_tag, else_if_tag, else_tag, end_tag}
+use Rattle.upon_types.specs.BlockKinds.{block_kind}
 use Rattle.upon_syntax.specs.Pieces.{BlockKind}
-use Rattle.upon_syntax.specs.declared.compile.parse.open_blocks.Closing.{Closing}
-use Rattle.upon_syntax.specs.declared.compile.parse.open_blocks.Closing.TheVariants as closing
+use Rattle.upon_types.specs.declared.types.block.Closing.{Closing}
+use Rattle.upon_types.specs.declared.types.block.Closing.TheVariants as closing
 use Rattle.upon_syntax.specs.declared.compile.parse.open_blocks.Effect.{Effect}
 use Rattle.upon_syntax.specs.declared.compile.parse.open_blocks.Effect.TheVariants.{Opens, Closes, Nothing}
 use Rattle.upon_syntax.specs.declared.compile.parse.open_blocks.OpenBlock.{OpenBlock as CodeBlock}

@@ -1,6 +1,7 @@
 -- A tag of a block, as the grammar has it, and as the code holds it.
 use Rattle.std.specs.Prelude.{◌≡◌, ℕ, ◌+◌, List, [], Bool, true, false, Option, Some, None, codes}
-use Rattle.upon_types.specs.BlockKinds.{Block, if_block, for_block, with_block, Opening, if_tag, for_tag, with_tag, end_word}
+use Rattle.upon_types.specs.BlockKinds.{Block, Opening, if_tag, for_tag, with_tag, end_word}
+use Rattle.upon_types.specs.BlockKinds.{block_kind}
 use Rattle.upon_types.specs.Path.{Ident, LoopVars, item, key_value}
 use Rattle.upon_types.specs.Expression.{Expression, expression_span}
 use Rattle.upon_types.specs.Tree.{include}
@@ -9,8 +10,6 @@ use Rattle.upon_language_spec.specs.Cut.{Lexeme}
 use Rattle.upon_language_spec.specs.Grammar.{IsStatement, IsOpeningTag, IsElseIfTag, IsWordTag}
 use Rattle.upon_machine_spec.specs.Instr.{Instr}
 use Rattle.upon_machine_spec.specs.Code.{expression_code}
-use Rattle.upon_tag_parser.specs.declared.compile.parse.kind.Kind.{Kind}
-use Rattle.upon_tag_parser.specs.declared.compile.parse.kind.Kind.TheVariants as kind
 use Rattle.upon_tag_parser.specs.declared.compile.parse.kind.Opening.{Opening as CodeOpening}
 use Rattle.upon_tag_parser.specs.declared.compile.parse.kind.Opening.TheVariants as opens
 use Rattle.upon_tag_parser.specs.declared.compile.parse.tag.Tag.{Tag}
@@ -59,12 +58,6 @@ tokens_before (opening_tag (with_tag name) e) = 1
 tokens_before (else_if_tag negated e) = 2 + tokens_of_not negated
 tokens_before (include_tag name (Some e)) = 3
 tokens_before tag = 0
-
--- the kind of block that the code's kind denotes
-abbrev pub block_kind : Kind → Block
-block_kind kind.If = if_block
-block_kind kind.For = for_block
-block_kind kind.With = with_block
 
 -- what opens a block, as the code has it
 abbrev pub opening_of : CodeOpening → Opening

@@ -1,5 +1,5 @@
 -- What an engine holds as it is filled, and what is shown of it.
-use Rattle.std.proofs.Common.{◌≡◌, ◌<◌, ◌≤◌, ◌+◌, ◌∙◌, ◌∷◌, [], ◌++◌, ℕ, List, length, take, get_or, Bool, Bor, Option, Some, None, Result, Ok, Err, IfErr, IfOk, IsErrAnd, IsSomeAnd, OnErr, String, Global, codes, string_bytes, refl, sym, ap, subst, inl, inr}
+use Rattle.std.proofs.Common.{◌≡◌, ◌<◌, ◌≤◌, ◌+◌, ◌∙◌, ◌∷◌, [], ◌++◌, ℕ, List, length, take, get_or, Bool, Bor, Option, Some, None, Result, Ok, Err, IfErr, IfOk, IsErrAnd, IsSomeAnd, OnErr, String, Global, codes, string_bytes, refl, sym, ap, subst, inl, inr, true, false}
 use Rattle.std.specs.Io.KnownBytes.{Appends}
 use Rattle.std.specs.Str.{bytes_eq}
 use Rattle.std.proofs.lemmas.List.{take_all, take_more}
@@ -39,11 +39,15 @@ use Rattle.upon_tool.specs.Names.{needs_text}
 use Rattle.upon_tool_pages.specs.Rendering.{SendsPage, SendsWhole, StaysWithin}
 use Rattle.upon_calls.specs.Rendering.{EachHasTree}
 use Rattle.upon_tool.specs.Filled.{tool_engine, with_page, TakesFiles, TakesRead, TakesText}
-use Rattle.upon_tool.specs.Work.{IsCheck, ListsNames, RefusesWork, Works}
+use Rattle.upon_tool_io.specs.World.{World}
+use Rattle.upon_tool_io.specs.Written.{Log}
+use Rattle.upon_tool_pages.specs.Rendering.{ShowsPage}
+use Rattle.upon_tool_pages.specs.declared.rendering.Page.{Page}
+use Rattle.upon_tool.specs.Work.{output_name, to_standard, FilesPage, IsCheck, ListsNames, RefusesWork, SendsToFile, Works}
 use Rattle.upon_tool_pages.specs.declared.sources.FolderFile.{FolderFile}
 use Rattle.upon_tool.specs.declared.work.Templates.{Templates}
 use Rattle.upon_tool.specs.declared.work.Work.{Work}
-use Rattle.upon_tool.specs.declared.work.Work.TheVariants.{Names}
+use Rattle.upon_tool.specs.declared.work.Work.TheVariants.{Names, Render}
 use Rattle.upon_tool.proofs.Taken.{taken}
 
 -- ---- the delimiters stay
@@ -95,6 +99,30 @@ page_shown escape functions files folder e name v given limits text status old n
       subst (λ limits. (end : Result (Unit {0}) Failure) × (status ≡ tool_end_status end) × SendsWhole (λ r. SendsPage limits filled (Some name) text has.0 v r old new) end × StaysWithin limits.output old new) same said,
     )
 
+-- ---- what is written
+-- a page of this name is rendered on this value to the file of a path
+abbrev FilesOn : Texts → List ℕ → Val → Limits → List ℕ → ℕ → Log → Log → Type 0
+FilesOn e name v limits path status was now = (held : Stored) (tree : Statements) → e.texts name ≡ Some held
+    → ∥ HasTree held.syntax held.text tree ∥₁
+    → (end : Result (Unit {0}) Failure) × (status ≡ tool_end_status end)
+    × SendsToFile (λ r first last. SendsPage limits e (Some name) held.text tree v r first last) path end was now
+
+-- the text of a page that an engine was given last
+pub page_filed : (escape : Option Escape) (functions : List StandardFunction) (files : List FolderFile) (folder e : Texts) (name : List ℕ) (v : Val) (given limits : Limits) (text path : List ℕ) (status : ℕ) (was now : Log) → TakesFiles files (tool_engine escape functions) folder
+    → e ≡ with_text name text folder → EachHasTree e → given ≡ limits → FilesOn e name v given path status was now
+    → (tree : Statements) × ∥ HasTree default_delimiters text tree ∥₁
+    × ((end : Result (Unit {0}) Failure) × (status ≡ tool_end_status end) × SendsToFile (λ r first last. SendsPage limits (with_text name text folder) (Some name) text tree v r first last) path end was now)
+page_filed escape functions files folder e name v given limits text path status was now takes is each same files_page =
+    let filled : Texts = with_text name text folder in
+    let held : Stored = record { text = text; syntax = folder.syntax } in
+    let there : filled.texts name ≡ Some held = update_same bytes_eq folder.texts name (Some held) name ((bytes_eq-Decides name name).1 refl) in
+    let has = subst EachHasTree is each name held there in
+    let said = subst (λ e. FilesOn e name v given path status was now) is files_page held has.0 there has.1 in (
+      has.0,
+      subst (λ d. ∥ HasTree d text has.0 ∥₁) (takes_syntax files (tool_engine escape functions) folder takes ∙ begun_syntax escape functions) has.1,
+      subst (λ limits. (end : Result (Unit {0}) Failure) × (status ≡ tool_end_status end) × SendsToFile (λ r first last. SendsPage limits filled (Some name) text has.0 v r first last) path end was now) same said,
+    )
+
 -- ---- what is listed
 pub listed : (e : Texts) (name : List ℕ) (json : Bool) (status : ℕ) (old new : Option (List ℕ)) (mine : Table) → IsTable e.texts mine → (table : Table) × IsTable e.texts table × ((other : Table) → IsTable e.texts other → other ≡ table)
     → ((t : Template) → mine name ≡ Some t → status ≡ 0 → (needs : Needs) × NeededBy mine t.tree needs × Appends old new (needs_text json needs))
@@ -103,13 +131,18 @@ listed e name json status old new mine is_mine one lists table t is there zero =
     let same : mine ≡ table = one.2 mine is_mine ∙ sym (one.2 table is) in
     subst (λ table. (needs : Needs) × NeededBy table t.tree needs × Appends old new (needs_text json needs)) same (lists t (ap (λ table. table name) same ∙ there) zero)
 
-pub work_listed : (work : Work) (name : Bor (List ℕ)) (json : Bool) (e : Texts) (input : Option (List ℕ)) (status : ℕ) (old new : Option (List ℕ)) → work ≡ Names name json → ListsNames e name.now json status old new
-    → Works work e input status old new
-work_listed work name json e input status old new is lists = subst (λ w. Works w e input status old new) (sym is) lists
+pub work_listed : (world : World) (work : Work) (name : Bor (List ℕ)) (json : Bool) (e : Texts) (input : Option (List ℕ)) (status : ℕ) (old new : Option (List ℕ)) (was : Log) → work ≡ Names name json → ListsNames e name.now json status old new
+    → Works world work e input status old new was was
+work_listed world work name json e input status old new was is lists = subst (λ w. Works world w e input status old new was was) (sym is) (refl, lists)
+
+-- a page is rendered
+pub work_rendered : (world : World) (work : Work) (page : Bor Page) (path : Option (Bor (List ℕ))) (e : Texts) (input : Option (List ℕ)) (status : ℕ) (old new : Option (List ℕ)) (was now : Log) → work ≡ Render page path
+    → (to_standard path ≡ true → (now ≡ was) × ShowsPage e page.now status old new) → (to_standard path ≡ false → (new ≡ old) × FilesPage e page.now (output_name path) status was now) → Works world work e input status old new was now
+work_rendered world work page path e input status old new was now is shown filed = subst (λ w. Works world w e input status old new was now) (sym is) (shown, filed)
 
 -- work that was moved is the same work
-pub work_kept : (work same : Work) (e : Texts) (input : Option (List ℕ)) (status : ℕ) (old new : Option (List ℕ)) → same ≡ work → Works same e input status old new → Works work e input status old new
-work_kept work same e input status old new is works = subst (λ work. Works work e input status old new) is works
+pub work_kept : (world : World) (work same : Work) (e : Texts) (input : Option (List ℕ)) (status : ℕ) (old new : Option (List ℕ)) (was now : Log) → same ≡ work → Works world same e input status old new was now → Works world work e input status old new was now
+work_kept world work same e input status old new was now is works = subst (λ work. Works world work e input status old new was now) is works
 
 pub check_kept : (work same : Work) → same ≡ work → IsCheck work → IsCheck same
 check_kept work same is check = subst IsCheck (sym is) check
@@ -174,14 +207,14 @@ pub no_page : (page : Option (Bor (List ℕ) × String Global)) (folder e : Text
 no_page page folder e none is = is ∙ ap (λ page. with_page page folder) (sym none)
 
 -- which is refused for its fault
-pub page_refused : (templates : Templates) (work : Work) (name : Bor (List ℕ)) (source : String Global) (folder : Texts) (e : Error) (r : Result ℕ Failure) → templates.page ≡ Some (name, source) → IsErrAnd r (λ f. f ≡ Fault e)
-    → IsSyntaxErrorOf name.now folder.syntax (string_bytes source) e → TakesFiles templates.files.items (tool_engine templates.escape templates.functions.now) folder → IfErr r (RefusesWork templates work)
-page_refused templates work name source folder e (Ok status) there is faulty takes = absurd is
-page_refused templates work name source folder e (Err f) there is faulty takes =
+pub page_refused : (world : World) (templates : Templates) (work : Work) (name : Bor (List ℕ)) (source : String Global) (folder : Texts) (e : Error) (r : Result ℕ Failure) → templates.page ≡ Some (name, source) → IsErrAnd r (λ f. f ≡ Fault e)
+    → IsSyntaxErrorOf name.now folder.syntax (string_bytes source) e → TakesFiles templates.files.items (tool_engine templates.escape templates.functions.now) folder → IfErr r (RefusesWork world templates work)
+page_refused world templates work name source folder e (Ok status) there is faulty takes = absurd is
+page_refused world templates work name source folder e (Err f) there is faulty takes =
     let same = takes_syntax templates.files.items (tool_engine templates.escape templates.functions.now) folder takes ∙ begun_syntax templates.escape templates.functions.now in
     let fault = subst (λ d. IsSyntaxErrorOf name.now d (string_bytes source) e) same faulty in
     let said = subst (λ page. IsSomeAnd page (λ page. IsSyntaxErrorOf page.0.now default_delimiters (string_bytes page.1) e)) (sym there) fault in
-    subst (RefusesWork templates work) (sym is) (inr said)
+    subst (RefusesWork world templates work) (sym is) (inr said)
 
 -- ---- of calls
 pub if_both : {A E : Type 0} (P Q : A → Type 0) (r : Result A E) → IfOk r P → IfOk r Q → IfOk r (λ a. P a × Q a)
@@ -191,6 +224,6 @@ if_both P Q (Err e) p q = tt
 pub names_listed : (e e' : Texts) (name : List ℕ) (json : Bool) (status : ℕ) (old new : Option (List ℕ)) → e ≡ e' → ListsNames e name json status old new → ListsNames e' name json status old new
 names_listed e e' name json status old new is lists = subst (λ e. ListsNames e name json status old new) is lists
 
-pub nothing_sent : {F : Type 0} {P : ℕ → Type 0} (r : Result ℕ F) (old new : Option (List ℕ)) → IfOk r P → ((status : ℕ) → P status → new ≡ old) → OnErr r (new ≡ old) → new ≡ old
+pub nothing_sent : {F X : Type 0} {P : ℕ → Type 0} (r : Result ℕ F) (old new : X) → IfOk r P → ((status : ℕ) → P status → new ≡ old) → OnErr r (new ≡ old) → new ≡ old
 nothing_sent (Ok status) old new done so failed = so status done
 nothing_sent (Err failure) old new done so failed = failed

@@ -1,22 +1,22 @@
 // Checks on contexts: whether files end without a fault on them, and the shape that these have.
-ghost use Rattle.std.specs.Prelude.{◌≡◌, ◌≤◌, [], IfErr, IfOk, OnErr, true};
+ghost use Rattle.std.specs.Prelude.{◌≡◌, ◌≤◌, IfErr, IfOk, OnErr, true};
 ghost use Rattle.upon_shape.specs.View.{shape_view};
 ghost use Rattle.upon_calls.specs.Templates.{lent_pairs};
 ghost use Rattle.upon_tool.specs.Calls.{RefusesCall};
-ghost use Rattle.upon_tool.specs.Fitting.{EachFits, FitsCall, WritesShape};
+ghost use Rattle.upon_tool.specs.Fitting.{texts_read, EachFits, FitsCall, WritesShape};
 ghost use Rattle.upon_tool.specs.Work.{IsUnreadOf};
 ghost use Rattle.upon_tool_io.specs.declared.arguments.Call.TheVariants.{Fit as FitAsked, Shape as ShapeAsked};
 
 use crate::program::run_check;
 use std::alloc::{AllocError, Global};
-use std::env::Env;
 use std::io::{Read, Write};
-use std::rt::Files;
 use std::time::Clock;
 use upon_tool_data::fault::ContextFault;
 use upon_tool_data::sources::STANDARD;
 use upon_tool_io::arguments::{FitCall, ShapeCall};
 use upon_tool_io::files::ReadFault;
+use upon_tool_io::sources::Sources;
+use upon_tool_io::targets::Targets;
 use upon_tool_messages::failure::{Failure, report};
 use upon_tool_pages::contexts::shape_of;
 use upon_tool_pages::fitting::{OnShape, fits};
@@ -26,15 +26,24 @@ use upon_tool_pages::written::send_schema;
 /// Checks files, and whether they end without a fault on contexts, and returns the status.
 pub(crate) fn run_fit<
     'a,
-    R: Files + Env + Clock + AllocGlobal + Clone + Drop,
+    R: Sources + Clock + AllocGlobal,
+    T: Targets,
     I: Read,
     O: Write,
     E: Write,
->(rt: &R, call: &FitCall<'a>, input: &mut I, out: &mut O, err: &mut E) -> Result<u8, Failure<'a>>
+>(
+    rt: &R,
+    targets: &mut T,
+    call: &FitCall<'a>,
+    input: &mut I,
+    out: &mut O,
+    err: &mut E,
+) -> Result<u8, Failure<'a>>
     ensures range { IfOk result (λ status. status ≤ 2) }
     ensures unsent { O.contents out.new ≡ O.contents out.old }
-    ensures ends { IfOk result (FitsCall call.now (I.remaining input.old)) }
-    ensures refused { IfErr result (RefusesCall (FitAsked call.now) (I.remaining input.old)) }
+    ensures unwritten { T.written targets.new ≡ T.written targets.old }
+    ensures ends { IfOk result (FitsCall (R.world rt.now) call.now (I.remaining input.old)) }
+    ensures refused { IfErr result (RefusesCall (R.world rt.now) (FitAsked call.now) (I.remaining input.old)) }
 {
     let check = &call.check;
     // Files are read twice.
@@ -44,7 +53,7 @@ pub(crate) fn run_fit<
     let Some(shape) = shape_of(rt, &call.contexts, input, err)? else {
         return Ok(1);
     };
-    let status = run_check(rt, check, input, out, err)?;
+    let status = run_check(rt, targets, check, input, out, err)?;
     if status != 0 {
         return Ok(status);
     }
@@ -68,7 +77,7 @@ fn sources_of<'f>(
     alloc: Global,
     files: &'f [FolderFile],
 ) -> Result<Vec<(&'f str, &'f str)>, AllocError>
-    ensures { IfOk result (λ sources. files.entry.now ≡ [] → sources.items ≡ []) }
+    ensures { IfOk result (λ sources. lent_pairs sources.items ≡ texts_read files.entry.now) }
 {
     let mut sources = Vec::with_capacity(alloc, files.len())?;
     for file in files {
@@ -82,16 +91,16 @@ fn sources_of<'f>(
 }
 
 // Whether each file ends without a fault on each value of a shape.
-fn each_fits<'a, R: Files + AllocGlobal, I: Read, E: Write>(
+fn each_fits<'a, R: Sources + AllocGlobal, I: Read, E: Write>(
     rt: &R,
     names: &[&'a str],
     on: OnShape<'_>,
     input: &mut I,
     err: &mut E,
 ) -> Result<bool, Failure<'a>>
-    ensures fits { IfOk result (λ each. each ≡ true → EachFits
+    ensures fits { IfOk result (λ each. each ≡ true → EachFits (R.world rt.now)
         on.entry.escape on.entry.standard (lent_pairs on.entry.folder.now) (shape_view on.entry.shape.now) names.now) }
-    ensures refused { IfErr result (IsUnreadOf names.now) }
+    ensures refused { IfErr result (IsUnreadOf (R.world rt.now) names.now) }
 {
     let mut each = true;
     for name in names {
@@ -103,7 +112,7 @@ fn each_fits<'a, R: Files + AllocGlobal, I: Read, E: Write>(
 }
 
 /// Writes the shape of contexts as a JSON Schema, and returns the status.
-pub(crate) fn run_shape<'a, R: Files + Env + AllocGlobal, I: Read, O: Write, E: Write>(
+pub(crate) fn run_shape<'a, R: Sources + AllocGlobal, I: Read, O: Write, E: Write>(
     rt: &R,
     call: &ShapeCall<'a>,
     input: &mut I,
@@ -112,9 +121,10 @@ pub(crate) fn run_shape<'a, R: Files + Env + AllocGlobal, I: Read, O: Write, E: 
 ) -> Result<u8, Failure<'a>>
     ensures range { IfOk result (λ status. status ≤ 2) }
     ensures ends { IfOk result (λ status.
-        WritesShape call.now (I.remaining input.old) status (O.contents out.old) (O.contents out.new)) }
+        WritesShape (R.world rt.now) call.now (I.remaining input.old) status
+        (O.contents out.old) (O.contents out.new)) }
     ensures unsent { OnErr result (O.contents out.new ≡ O.contents out.old) }
-    ensures refused { IfErr result (RefusesCall (ShapeAsked call.now) (I.remaining input.old)) }
+    ensures refused { IfErr result (RefusesCall (R.world rt.now) (ShapeAsked call.now) (I.remaining input.old)) }
 {
     let alloc = rt.alloc();
     let Some(shape) = shape_of(rt, &call.contexts, input, err)? else {

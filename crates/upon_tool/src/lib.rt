@@ -3,6 +3,7 @@
 #![tactic(auto)]
 
 mod fitting;
+pub mod laws;
 pub mod names;
 pub mod names_text;
 pub mod program;

@@ -13,7 +13,6 @@ use crate::work::{Templates, Work, carry_out};
 use std::alloc::Global;
 use std::env::{self, Env, VarError};
 use std::io::{Read, Write};
-use std::rt::Files;
 use std::time::Clock;
 use upon_engine::within::Limits;
 use upon_std::table::{ALL, StandardFunction};
@@ -23,6 +22,8 @@ use upon_tool_data::words::{DataWords, check};
 use upon_tool_io::arguments::{
     self, BuildCall, Call, CheckCall, Color, EachCall, NamesCall, RenderCall,
 };
+use upon_tool_io::sources::Sources;
+use upon_tool_io::targets::Targets;
 use upon_tool_many::build::Build;
 use upon_tool_many::each::Each;
 use upon_tool_messages::failure::{Failure, report};
@@ -34,8 +35,9 @@ use upon_tool_pages::sources::{files_in, text_of};
 /// Does what the words ask for, of which the first is the program's name, and returns the status. Templates and
 /// contexts come from files, and from `input` if their name is `-`. What goes to `err` has its control characters
 /// spelled, and has colors if they are asked for: always, or if `err` goes to a terminal.
-pub fn run<R: Files + Env + Clock + AllocGlobal + Clone + Drop, I: Read, O: Write, E: Write>(
+pub fn run<R: Sources + Env + Clock + AllocGlobal, T: Targets, I: Read, O: Write, E: Write>(
     rt: &R,
+    targets: &mut T,
     words: &[String],
     input: &mut I,
     out: &mut O,
@@ -48,7 +50,7 @@ pub fn run<R: Files + Env + Clock + AllocGlobal + Clone + Drop, I: Read, O: Writ
     match arguments::read(alloc, words) {
         Ok(call) => {
             let mut err = Terminal::new(alloc, err, has_colors(rt, call.color(), is_terminal));
-            let status = run_call(rt, &call, input, out, &mut err, is_terminal);
+            let status = run_call(rt, targets, &call, input, out, &mut err, is_terminal);
             let _ = err.flush();
             status
         }
@@ -78,8 +80,9 @@ fn is_set<R: Env + AllocGlobal>(rt: &R, name: &str) -> bool {
 }
 
 /// Does what a call asks for, and returns the status, as [`run`] does, with what goes to `err` as it is.
-pub fn run_call<R: Files + Env + Clock + AllocGlobal + Clone + Drop, I: Read, O: Write, E: Write>(
+pub fn run_call<R: Sources + Clock + AllocGlobal, T: Targets, I: Read, O: Write, E: Write>(
     rt: &R,
+    targets: &mut T,
     call: &Call<'_>,
     input: &mut I,
     out: &mut O,
@@ -88,9 +91,10 @@ pub fn run_call<R: Files + Env + Clock + AllocGlobal + Clone + Drop, I: Read, O:
 ) -> u8
     ensures range { result ≤ 2 }
     // The work ends in one way of these, and that way has this status.
-    ensures ends { CallEnds call.now (I.remaining input.old) result (O.contents out.old) (O.contents out.new) }
+    ensures ends { CallEnds (R.world rt.now) call.now (I.remaining input.old) result
+        (O.contents out.old) (O.contents out.new) (T.written targets.old) (T.written targets.new) }
 {
-    let done = work_of(rt, call, input, out, err, is_terminal);
+    let done = work_of(rt, targets, call, input, out, err, is_terminal);
     match done {
         Ok(status) => status,
         Err(failure) => report(rt.alloc(), &failure, err),
@@ -98,8 +102,9 @@ pub fn run_call<R: Files + Env + Clock + AllocGlobal + Clone + Drop, I: Read, O:
 }
 
 // Does what a call asks for, and answers the status.
-fn work_of<'a, R: Files + Env + Clock + AllocGlobal + Clone + Drop, I: Read, O: Write, E: Write>(
+fn work_of<'a, R: Sources + Clock + AllocGlobal, T: Targets, I: Read, O: Write, E: Write>(
     rt: &R,
+    targets: &mut T,
     call: &Call<'a>,
     input: &mut I,
     out: &mut O,
@@ -107,16 +112,17 @@ fn work_of<'a, R: Files + Env + Clock + AllocGlobal + Clone + Drop, I: Read, O: 
     is_terminal: bool,
 ) -> Result<u8, Failure<'a>>
     ensures range { IfOk result (λ status. status ≤ 2) }
-    ensures ends { RunsCall call.now (I.remaining input.old) result (O.contents out.old) (O.contents out.new) }
+    ensures ends { RunsCall (R.world rt.now) call.now (I.remaining input.old) result
+        (O.contents out.old) (O.contents out.new) (T.written targets.old) (T.written targets.new) }
 {
     match call {
-        Call::Render(call) => run_render(rt, call, input, out, err),
-        Call::Check(call) => run_check(rt, call, input, out, err),
-        Call::Fit(call) => run_fit(rt, call, input, out, err),
+        Call::Render(call) => run_render(rt, targets, call, input, out, err),
+        Call::Check(call) => run_check(rt, targets, call, input, out, err),
+        Call::Fit(call) => run_fit(rt, targets, call, input, out, err),
         Call::Shape(call) => run_shape(rt, call, input, out, err),
-        Call::Names(call) => run_names(rt, call, input, out, err),
-        Call::Each(call) => run_each(rt, call, input, out, err, is_terminal),
-        Call::Build(call) => run_build(rt, call, input, out, err, is_terminal),
+        Call::Names(call) => run_names(rt, targets, call, input, out, err),
+        Call::Each(call) => run_each(rt, targets, call, input, out, err, is_terminal),
+        Call::Build(call) => run_build(rt, targets, call, input, out, err, is_terminal),
     }
 }
 
@@ -143,8 +149,9 @@ fn show_words<O: Write, E: Write>(
 }
 
 // Renders, and answers the status.
-fn run_render<'a, R: Files + Env + Clock + AllocGlobal + Clone + Drop, I: Read, O: Write, E: Write>(
+fn run_render<'a, R: Sources + Clock + AllocGlobal, T: Targets, I: Read, O: Write, E: Write>(
     rt: &R,
+    targets: &mut T,
     call: &RenderCall<'a>,
     input: &mut I,
     out: &mut O,
@@ -152,9 +159,11 @@ fn run_render<'a, R: Files + Env + Clock + AllocGlobal + Clone + Drop, I: Read, 
 ) -> Result<u8, Failure<'a>>
     ensures range { IfOk result (λ status. status ≤ 2) }
     ensures ends { IfOk result (λ status.
-        RendersCall call.now (I.remaining input.old) status (O.contents out.old) (O.contents out.new)) }
+        RendersCall (R.world rt.now) call.now (I.remaining input.old) status (O.contents out.old) (O.contents out.new)
+        (T.written targets.old) (T.written targets.new)) }
     ensures unsent { OnErr result (O.contents out.new ≡ O.contents out.old) }
-    ensures refused { IfErr result (RefusesCall (RenderAsked call.now) (I.remaining input.old)) }
+    ensures unwritten { OnErr result (T.written targets.new ≡ T.written targets.old) }
+    ensures refused { IfErr result (RefusesCall (R.world rt.now) (RenderAsked call.now) (I.remaining input.old)) }
 {
     let words = data_words(call);
     check(&words, call.file == STANDARD)?;
@@ -174,6 +183,7 @@ fn run_render<'a, R: Files + Env + Clock + AllocGlobal + Clone + Drop, I: Read, 
     };
     carry_out(
         rt,
+        targets,
         templates,
         Work::Render(&page, call.out),
         input,
@@ -196,15 +206,24 @@ fn standard(wanted: bool) -> &'static [StandardFunction]
 /// Checks, and returns the status.
 pub(crate) fn run_check<
     'a,
-    R: Files + Env + Clock + AllocGlobal + Clone + Drop,
+    R: Sources + Clock + AllocGlobal,
+    T: Targets,
     I: Read,
     O: Write,
     E: Write,
->(rt: &R, call: &CheckCall<'a>, input: &mut I, out: &mut O, err: &mut E) -> Result<u8, Failure<'a>>
+>(
+    rt: &R,
+    targets: &mut T,
+    call: &CheckCall<'a>,
+    input: &mut I,
+    out: &mut O,
+    err: &mut E,
+) -> Result<u8, Failure<'a>>
     ensures range { IfOk result (λ status. status ≤ 2) }
     ensures unsent { O.contents out.new ≡ O.contents out.old }
-    ensures ends { IfOk result (ChecksCall call.now (I.remaining input.old)) }
-    ensures refused { IfErr result (RefusesCall (CheckAsked call.now) (I.remaining input.old)) }
+    ensures unwritten { T.written targets.new ≡ T.written targets.old }
+    ensures ends { IfOk result (ChecksCall (R.world rt.now) call.now (I.remaining input.old)) }
+    ensures refused { IfErr result (RefusesCall (R.world rt.now) (CheckAsked call.now) (I.remaining input.old)) }
 {
     let files = files_in(rt, call.templates, call.follow)?;
     let templates = Templates {
@@ -215,6 +234,7 @@ pub(crate) fn run_check<
     };
     carry_out(
         rt,
+        targets,
         templates,
         Work::Check(call.files.as_slice(), callables(call)),
         input,
@@ -233,8 +253,9 @@ fn callables<'w>(call: &'w CheckCall<'_>) -> Declared<'w> {
 }
 
 // Lists what a template needs, and answers the status.
-fn run_names<'a, R: Files + Env + Clock + AllocGlobal + Clone + Drop, I: Read, O: Write, E: Write>(
+fn run_names<'a, R: Sources + Clock + AllocGlobal, T: Targets, I: Read, O: Write, E: Write>(
     rt: &R,
+    targets: &mut T,
     call: &NamesCall<'a>,
     input: &mut I,
     out: &mut O,
@@ -242,9 +263,10 @@ fn run_names<'a, R: Files + Env + Clock + AllocGlobal + Clone + Drop, I: Read, O
 ) -> Result<u8, Failure<'a>>
     ensures range { IfOk result (λ status. status ≤ 2) }
     ensures ends { IfOk result (λ status.
-        ListsCall call.now (I.remaining input.old) status (O.contents out.old) (O.contents out.new)) }
+        ListsCall (R.world rt.now) call.now (I.remaining input.old) status (O.contents out.old) (O.contents out.new)) }
     ensures unsent { OnErr result (O.contents out.new ≡ O.contents out.old) }
-    ensures refused { IfErr result (RefusesCall (NamesAsked call.now) (I.remaining input.old)) }
+    ensures unwritten { T.written targets.new ≡ T.written targets.old }
+    ensures refused { IfErr result (RefusesCall (R.world rt.now) (NamesAsked call.now) (I.remaining input.old)) }
 {
     let source = text_of(rt, call.file, input)?;
     let files = files_in(rt, call.templates, call.follow)?;
@@ -256,6 +278,7 @@ fn run_names<'a, R: Files + Env + Clock + AllocGlobal + Clone + Drop, I: Read, O
     };
     carry_out(
         rt,
+        targets,
         templates,
         Work::Names(call.file, call.json),
         input,
@@ -265,8 +288,9 @@ fn run_names<'a, R: Files + Env + Clock + AllocGlobal + Clone + Drop, I: Read, O
 }
 
 // Renders for each item, and answers the status.
-fn run_each<'a, R: Files + Env + Clock + AllocGlobal + Clone + Drop, I: Read, O: Write, E: Write>(
+fn run_each<'a, R: Sources + Clock + AllocGlobal, T: Targets, I: Read, O: Write, E: Write>(
     rt: &R,
+    targets: &mut T,
     call: &EachCall<'a>,
     input: &mut I,
     out: &mut O,
@@ -275,8 +299,10 @@ fn run_each<'a, R: Files + Env + Clock + AllocGlobal + Clone + Drop, I: Read, O:
 ) -> Result<u8, Failure<'a>>
     ensures range { IfOk result (λ status. status ≤ 2) }
     ensures unsent { O.contents out.new ≡ O.contents out.old }
-    ensures ends { IfOk result (RendersEachCall call.now (I.remaining input.old)) }
-    ensures refused { IfErr result (RefusesCall (EachAsked call.now) (I.remaining input.old)) }
+    ensures unwritten { OnErr result (T.written targets.new ≡ T.written targets.old) }
+    ensures ends { IfOk result (λ status. RendersEachCall (R.world rt.now) call.now (I.remaining input.old) status
+        (T.written targets.old) (T.written targets.new)) }
+    ensures refused { IfErr result (RefusesCall (R.world rt.now) (EachAsked call.now) (I.remaining input.old)) }
 {
     let render = &call.render;
     let words = data_words(render);
@@ -300,6 +326,7 @@ fn run_each<'a, R: Files + Env + Clock + AllocGlobal + Clone + Drop, I: Read, O:
     };
     carry_out(
         rt,
+        targets,
         templates,
         Work::Each(value, &each, is_terminal),
         input,
@@ -309,8 +336,9 @@ fn run_each<'a, R: Files + Env + Clock + AllocGlobal + Clone + Drop, I: Read, O:
 }
 
 // Builds a folder, and answers the status.
-fn run_build<'a, R: Files + Env + Clock + AllocGlobal + Clone + Drop, I: Read, O: Write, E: Write>(
+fn run_build<'a, R: Sources + Clock + AllocGlobal, T: Targets, I: Read, O: Write, E: Write>(
     rt: &R,
+    targets: &mut T,
     call: &BuildCall<'a>,
     input: &mut I,
     out: &mut O,
@@ -319,8 +347,10 @@ fn run_build<'a, R: Files + Env + Clock + AllocGlobal + Clone + Drop, I: Read, O
 ) -> Result<u8, Failure<'a>>
     ensures range { IfOk result (λ status. status ≤ 2) }
     ensures unsent { O.contents out.new ≡ O.contents out.old }
-    ensures ends { IfOk result (BuildsCall call.now (I.remaining input.old)) }
-    ensures refused { IfErr result (RefusesCall (BuildAsked call.now) (I.remaining input.old)) }
+    ensures unwritten { OnErr result (T.written targets.new ≡ T.written targets.old) }
+    ensures ends { IfOk result (λ status. BuildsCall (R.world rt.now) call.now (I.remaining input.old) status
+        (T.written targets.old) (T.written targets.new)) }
+    ensures refused { IfErr result (RefusesCall (R.world rt.now) (BuildAsked call.now) (I.remaining input.old)) }
 {
     let render = &call.render;
     let words = data_words(render);
@@ -344,6 +374,7 @@ fn run_build<'a, R: Files + Env + Clock + AllocGlobal + Clone + Drop, I: Read, O
     };
     carry_out(
         rt,
+        targets,
         templates,
         Work::Build(&value, &build, is_terminal),
         input,
@@ -376,14 +407,15 @@ fn is_input(name: Option<&str>) -> bool
 }
 
 // The template that a layout is, under its file's name, if that is named.
-fn layout_of<'a, R: Files + AllocGlobal, I: Read>(
+fn layout_of<'a, R: Sources + AllocGlobal, I: Read>(
     rt: &R,
     name: Option<&'a str>,
     input: &mut I,
 ) -> Result<Option<(&'a str, String)>, Failure<'a>>
-    ensures read { IfOk result (IsLayout name.entry (I.remaining input.old)) }
+    ensures read { IfOk result (IsLayout (R.world rt.now) name.entry (I.remaining input.old)) }
     ensures kept { may_be_input name.entry ≡ false → I.remaining input.new ≡ I.remaining input.old }
-    ensures unread { IfErr result (λ failure. IsSomeAnd name.entry (λ name. IsUnread name failure)) }
+    ensures unread { IfErr result (λ failure. IsSomeAnd name.entry
+        (λ name. IsUnread (R.world rt.now) name (I.remaining input.old) failure)) }
 {
     match name {
         Some(name) => Ok(Some((name, text_of(rt, name, input)?))),

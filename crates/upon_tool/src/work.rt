@@ -1,19 +1,22 @@
 // What is done with an engine that holds templates. The engine stays in one function: a function that takes `&mut
 // Engine` or returns an engine would have a contract that says nothing of what is behind its `dyn`.
-ghost use Rattle.std.specs.Prelude.{◌≡◌, ◌≤◌, ◌↔◌, ℕ, List, IfErr, IfOk, None, OnErr, Some, is_some, not, true};
+ghost use Rattle.std.specs.Prelude.{◌≡◌, ◌≤◌, ◌↔◌, ℕ, List, IfErr, IfOk, IfSome, None, OnErr, Some, false, is_some, not, true};
+ghost use Rattle.upon_types.specs.Tree.{Statements};
+ghost use Rattle.upon_types.specs.View.{view};
+ghost use Rattle.upon_language_spec.specs.Grammar.{HasTree};
 ghost use Rattle.upon_engine.specs.Engine.{engine_syntax, engine_templates};
+ghost use Rattle.upon_engine.specs.Texts.{Stored};
 ghost use Rattle.upon_meaning_spec.specs.Engine.{Template as TemplateMeant};
 ghost use Rattle.upon_tool_messages.specs.Library.{library_names, refused_as};
 ghost use Rattle.upon_tool_pages.specs.Missing.{EachIsRight, EachName, IsRightTemplate, LibraryIsRight};
-ghost use Rattle.upon_tool_pages.specs.Rendering.{ShowsPage};
+ghost use Rattle.upon_tool_pages.specs.Rendering.{SendsPage, ShowsPage};
 ghost use Rattle.upon_tool_pages.specs.Sources.{AreTexts};
-ghost use Rattle.upon_tool.specs.Work.{checked_files, to_standard, CarriesOut, ChecksFiles, IsCheck, IsUnreadOf, ListsNames, RefusesWork, Works};
+ghost use Rattle.upon_tool.specs.Work.{checked_files, output_name, to_standard, CarriesOut, ChecksFiles, FilesPage, IsCheck, IsUnreadOf, ListsNames, RefusesWork, SendsToFile, Works};
 
 use crate::names;
 use std::alloc::{AllocError, Global};
 use std::borrow::CowStr;
-use std::io::{BufWriter, Read, Write};
-use std::rt::Files;
+use std::io::{Read, Write};
 use std::time::Clock;
 use upon_calls::escaping::Escaping;
 use upon_engine::engine::Engine;
@@ -23,7 +26,9 @@ use upon_html::formatters::Verbatim;
 use upon_std::table::StandardFunction;
 use upon_tool_data::sources::STANDARD;
 use upon_tool_io::arguments::Escape;
-use upon_tool_io::output::{Replacement, WriteFault};
+use upon_tool_io::output::WriteFault;
+use upon_tool_io::sources::Sources;
+use upon_tool_io::targets::Targets;
 use upon_tool_many::build::Build;
 use upon_tool_many::each::Each;
 use upon_tool_messages::call_check::CallCheck;
@@ -68,12 +73,14 @@ pub(crate) enum Work<'w, 'a> {
 /// Puts templates into an engine, does a piece of work with it, and returns the status.
 pub(crate) fn carry_out<
     'a,
-    R: Files + Clock + AllocGlobal + Clone + Drop,
+    R: Sources + Clock + AllocGlobal,
+    T: Targets,
     I: Read,
     O: Write,
     E: Write,
 >(
     rt: &R,
+    targets: &mut T,
     templates: Templates<'a>,
     work: Work<'_, 'a>,
     input: &mut I,
@@ -82,15 +89,18 @@ pub(crate) fn carry_out<
 ) -> Result<u8, Failure<'a>>
     ensures range { IfOk result (λ status. status ≤ 2) }
     ensures ends { IfOk result (λ status.
-        CarriesOut
+        CarriesOut (R.world rt.now)
         templates.entry
         work.entry
         (I.remaining input.old)
         status
         (O.contents out.old)
-        (O.contents out.new)) }
+        (O.contents out.new)
+        (T.written targets.old)
+        (T.written targets.new)) }
     ensures unsent { OnErr result (O.contents out.new ≡ O.contents out.old) }
-    ensures refused { IfErr result (RefusesWork templates.entry work.entry) }
+    ensures unwritten { OnErr result (T.written targets.new ≡ T.written targets.old) }
+    ensures refused { IfErr result (RefusesWork (R.world rt.now) templates.entry work.entry) }
 {
     let alloc = rt.alloc();
     let Templates {
@@ -127,12 +137,13 @@ pub(crate) fn carry_out<
         engine.add_template(CowStr::Borrowed(name), CowStr::Owned(source))?;
     }
     theorem::held_has_tree(&engine);
-    do_work(rt, &engine, &library, work, input, out, err)
+    do_work(rt, targets, &engine, &library, work, input, out, err)
 }
 
 // Does a piece of work with an engine, and answers the status.
-fn do_work<'a, R: Files + Clock + AllocGlobal + Clone + Drop, I: Read, O: Write, E: Write>(
+fn do_work<'a, R: Sources + Clock + AllocGlobal, T: Targets, I: Read, O: Write, E: Write>(
     rt: &R,
+    targets: &mut T,
     engine: &Engine<'_>,
     library: &Library,
     work: Work<'_, 'a>,
@@ -141,35 +152,40 @@ fn do_work<'a, R: Files + Clock + AllocGlobal + Clone + Drop, I: Read, O: Write,
     err: &mut E,
 ) -> Result<u8, Failure<'a>>
     ensures range { IfOk result (λ status. status ≤ 2) }
-    ensures ends { IfOk result (λ status. Works
+    ensures ends { IfOk result (λ status. Works (R.world rt.now)
         work.entry
         (⟦<AnyEngine as EngineTexts>⟧.texts engine.now)
         (I.remaining input.old)
         status
         (O.contents out.old)
-        (O.contents out.new)) }
+        (O.contents out.new)
+        (T.written targets.old)
+        (T.written targets.new)) }
     ensures folder { IfOk result (λ status. IsCheck work.entry → status ≡ 0
         → LibraryIsRight (⟦<AnyEngine as EngineTexts>⟧.texts engine.now) library.now) }
     ensures unsent { OnErr result (O.contents out.new ≡ O.contents out.old) }
-    ensures refused { IfErr result (IsUnreadOf (checked_files work.entry)) }
+    ensures unwritten { OnErr result (T.written targets.new ≡ T.written targets.old) }
+    ensures refused { IfErr result (IsUnreadOf (R.world rt.now) (checked_files work.entry)) }
 {
     match work {
-        Work::Render(page, path) => Ok(run_page(rt, engine, library, page, path, out, err)),
+        Work::Render(page, path) => Ok(run_page(
+            rt, targets, engine, library, page, path, out, err,
+        )),
         Work::Check(names, callables) => {
             check_all(rt, engine, library, names, callables, input, err)
         }
         Work::Names(name, json) => Ok(list(rt, engine, library, name, json, out, err)),
         Work::Each(value, asked, is_terminal) => {
-            Ok(show_each(rt, engine, library, value, asked, is_terminal, err))
+            Ok(show_each(rt, targets, engine, library, value, asked, is_terminal, err))
         }
         Work::Build(value, asked, is_terminal) => {
-            Ok(show_build(rt, engine, library, value, asked, is_terminal, err))
+            Ok(show_build(rt, targets, engine, library, value, asked, is_terminal, err))
         }
     }
 }
 
 // Lists what the template of a name needs, and answers the status.
-fn list<R: Files + AllocGlobal, O: Write, E: Write>(
+fn list<R: AllocGlobal, O: Write, E: Write>(
     rt: &R,
     engine: &Engine<'_>,
     library: &Library,
@@ -196,8 +212,9 @@ fn list<R: Files + AllocGlobal, O: Write, E: Write>(
 const OUTPUT_BUFFER: usize = 64 * 1024;
 
 // Renders a page to where its text is to go.
-fn run_page<R: Files + AllocGlobal, O: Write, E: Write>(
+fn run_page<R: AllocGlobal, T: Targets, O: Write, E: Write>(
     rt: &R,
+    targets: &mut T,
     engine: &Engine<'_>,
     library: &Library,
     page: &Page<'_, '_>,
@@ -206,18 +223,18 @@ fn run_page<R: Files + AllocGlobal, O: Write, E: Write>(
     err: &mut E,
 ) -> u8
     ensures range { result ≤ 2 }
-    ensures ends { to_standard path.entry ≡ true → ShowsPage
-        (⟦<AnyEngine as EngineTexts>⟧.texts engine.now)
-        page.now
-        result
-        (O.contents out.old)
+    ensures ends { to_standard path.entry ≡ true → (T.written targets.new ≡ T.written targets.old)
+        × ShowsPage (⟦<AnyEngine as EngineTexts>⟧.texts engine.now) page.now result (O.contents out.old)
         (O.contents out.new) }
+    ensures filed { to_standard path.entry ≡ false → (O.contents out.new ≡ O.contents out.old)
+        × FilesPage (⟦<AnyEngine as EngineTexts>⟧.texts engine.now) page.now (output_name path.entry) result
+        (T.written targets.old) (T.written targets.new) }
 {
     let alloc = rt.alloc();
     let Some(path) = file_of(path) else {
         return show(alloc, engine, library, page, out, err);
     };
-    match write_file(rt, engine, page, path) {
+    match write_file(rt, targets, engine, page, path) {
         Ok(()) => 0,
         Err(failure) => explain(alloc, engine, &known_of(library, page), &failure, err),
     }
@@ -225,7 +242,8 @@ fn run_page<R: Files + AllocGlobal, O: Write, E: Write>(
 
 // The file of an output, if it is not standard output.
 fn file_of<'p>(path: Option<&'p str>) -> Option<&'p str>
-    ensures { is_some result ≡ not (to_standard path.entry) }
+    ensures file { is_some result ≡ not (to_standard path.entry) }
+    ensures name { IfSome result (λ name. name.now ≡ output_name path.entry) }
 {
     match path {
         Some(path) if path != STANDARD => Some(path),
@@ -234,36 +252,37 @@ fn file_of<'p>(path: Option<&'p str>) -> Option<&'p str>
 }
 
 // Writes the text of a page to a file, which is replaced if all went well.
-fn write_file<'a, R: Files + AllocGlobal>(
+fn write_file<'a, R: AllocGlobal, T: Targets>(
     rt: &R,
+    targets: &mut T,
     engine: &Engine<'_>,
     page: &Page<'a, '_>,
     path: &'a str,
-) -> Result<(), Failure<'a>> {
-    let alloc = rt.alloc();
-    let (replacement, file) = Replacement::open(rt, path).map_err(|fault| Failure::Unwritable(
-        path, fault,
-    ))?;
-    let mut writer = match BufWriter::with_capacity(alloc, OUTPUT_BUFFER, file) {
-        Ok(writer) => writer,
-        Err(error) => {
-            replacement.discard(rt);
-            return Err(Failure::Unwritable(path, WriteFault::Io(error)));
-        }
+) -> Result<(), Failure<'a>>
+    ensures { let texts = ⟦<AnyEngine as EngineTexts>⟧.texts engine.now in
+        (held : Stored) (tree : Statements) → texts.texts page.now.name.now ≡ Some held
+        → ∥ HasTree held.syntax held.text tree ∥₁
+        → SendsToFile (λ r first last. SendsPage page.now.limits texts (Some page.now.name.now) held.text tree
+        (view page.now.value.now) r first last) path.now result (T.written targets.old) (T.written targets.new) }
+{
+    let mut new = match targets.open(rt.alloc(), path, OUTPUT_BUFFER) {
+        Ok(new) => new,
+        Err(fault) => return Err(Failure::Unwritable(path, fault)),
     };
-    match send(engine, page, &mut writer) {
-        Ok(()) => replacement
-            .keep(rt, writer.get_ref())
-            .map_err(|error| Failure::Unwritable(path, WriteFault::Io(error))),
+    match send(engine, page, &mut new) {
+        Ok(()) => match targets.keep(path, new) {
+            Ok(()) => Ok(()),
+            Err(error) => Err(Failure::Unwritable(path, WriteFault::Io(error))),
+        },
         Err(failure) => {
-            replacement.discard(rt);
+            targets.discard(new);
             Err(failure)
         }
     }
 }
 
 // Checks files and those of the library, and answers the status.
-fn check_all<'a, R: Files + AllocGlobal + Clone + Drop, I: Read, E: Write>(
+fn check_all<'a, R: Sources + AllocGlobal, I: Read, E: Write>(
     rt: &R,
     engine: &Engine<'_>,
     library: &Library,
@@ -273,14 +292,14 @@ fn check_all<'a, R: Files + AllocGlobal + Clone + Drop, I: Read, E: Write>(
     err: &mut E,
 ) -> Result<u8, Failure<'a>>
     ensures range { IfOk result (λ status. status ≤ 2) }
-    ensures checks { IfOk result (λ status. ChecksFiles
+    ensures checks { IfOk result (λ status. ChecksFiles (R.world rt.now)
         (⟦<AnyEngine as EngineTexts>⟧.texts engine.now)
         names.now
         (I.remaining input.old)
         status) }
     ensures folder { IfOk result (λ status. status ≡ 0
         → LibraryIsRight (⟦<AnyEngine as EngineTexts>⟧.texts engine.now) library.now) }
-    ensures refused { IfErr result (IsUnreadOf names.now) }
+    ensures refused { IfErr result (IsUnreadOf (R.world rt.now) names.now) }
 {
     theorem::one_table(engine);
     laws_of_templates::templates_are_the_table(engine);
@@ -296,7 +315,7 @@ fn check_all<'a, R: Files + AllocGlobal + Clone + Drop, I: Read, E: Write>(
 }
 
 // Whether nothing is wrong with files.
-fn check_each<'a, R: Files + AllocGlobal, I: Read, E: Write>(
+fn check_each<'a, R: Sources + AllocGlobal, I: Read, E: Write>(
     rt: &R,
     engine: &Engine<'_>,
     library: &Library,
@@ -306,9 +325,9 @@ fn check_each<'a, R: Files + AllocGlobal, I: Read, E: Write>(
     err: &mut E,
 ) -> Result<bool, Failure<'a>>
     ensures right { IfOk result (λ is_right. (texts : List (List ℕ))
-        × AreTexts names.now (I.remaining input.old) texts (I.remaining input.new)
+        × AreTexts (R.world rt.now) names.now (I.remaining input.old) texts (I.remaining input.new)
         × ((is_right ≡ true) ↔ EachIsRight (engine_syntax engine.now) (engine_templates engine.now) names.now texts)) }
-    ensures refused { IfErr result (IsUnreadOf names.now) }
+    ensures refused { IfErr result (IsUnreadOf (R.world rt.now) names.now) }
 {
     let alloc = rt.alloc();
     let mut is_right = true;

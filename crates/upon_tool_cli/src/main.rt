@@ -5,6 +5,7 @@ use std::io::{BufWriter, IsTerminal, Write};
 use std::process::ExitCode;
 use std::{env, io};
 use upon_tool::program::run;
+use upon_tool_io::targets::SystemTargets;
 
 /// The status if the arguments can't be read.
 const UNREADABLE_ARGUMENTS: u8 = 2;
@@ -36,8 +37,10 @@ fn main(rt: HostRuntime) -> ExitCode {
     };
     let mut input = rt.stdin();
     let is_terminal = err.is_terminal();
+    let mut targets = SystemTargets::new(&rt);
     ExitCode::from(run(
         &rt,
+        &mut targets,
         words.as_slice(),
         &mut input,
         &mut out,

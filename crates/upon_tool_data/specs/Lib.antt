@@ -4,4 +4,5 @@ pub mod Environment
 pub mod Files
 pub mod Settings
 pub mod Context
+pub mod Held
 pub mod Samples

@@ -3,6 +3,7 @@ use Rattle.std.specs.Prelude.{◌≡◌, ℕ, List, [], ◌∷◌, map, not, Opt
 use Rattle.std.specs.Borrow.{Bor}
 use Rattle.std.specs.List.{filter}
 use Rattle.upon_types.specs.Val.{Val}
+use Rattle.upon_tool_io.specs.World.{World}
 use Rattle.upon_tool_data.specs.Context.{IsContext}
 use Rattle.upon_tool_data.specs.Words.{has_key}
 use Rattle.upon_tool_data.specs.declared.words.DataWords.{DataWords}
@@ -24,11 +25,12 @@ each_or_one (word ∷ words) others = map (λ w. w ∷ others) (word ∷ words)
 abbrev pub sample_files : List (Bor (List ℕ)) → List (List (Bor (List ℕ)))
 sample_files words = each_or_one (without_key words) (with_key words)
 
--- contexts are read one after the other, with these files each, and all other words
-abbrev pub AreSamples : DataWords → List (List (Bor (List ℕ))) → Option (List ℕ) → List Val → Option (List ℕ) → Type 0
-AreSamples words [] input [] later = later ≡ input
-AreSamples words [] input (v ∷ vs) later = ⊥
-AreSamples words (files ∷ groups) input [] later = ⊥
-AreSamples words (files ∷ groups) input (v ∷ vs) later = (next : Option (List ℕ))
-    × IsContext words.env files words.format words.values.now words.texts.now input v next
-    × AreSamples words groups next vs later
+module _ (world : World) where
+  -- contexts are read one after the other, with these files each, and all other words
+  abbrev pub AreSamples : DataWords → List (List (Bor (List ℕ))) → Option (List ℕ) → List Val → Option (List ℕ) → Type 0
+  AreSamples words [] input [] later = later ≡ input
+  AreSamples words [] input (v ∷ vs) later = ⊥
+  AreSamples words (files ∷ groups) input [] later = ⊥
+  AreSamples words (files ∷ groups) input (v ∷ vs) later = (next : Option (List ℕ))
+      × IsContext world words.env files words.format words.values.now words.texts.now input v next
+      × AreSamples words groups next vs later

@@ -8,9 +8,8 @@ use crate::fault::ContextFault;
 use crate::files::add_files;
 use crate::settings::{Writing, set_each};
 use crate::words::{DataWords, format_asked};
-use std::env::Env;
 use std::io::Read;
-use std::rt::Files;
+use upon_tool_io::sources::Sources;
 use upon_types::value::Value;
 
 /// Returns the map that the words of a call say: the environment, if it is asked for; over it the files of `--data`,
@@ -20,17 +19,17 @@ use upon_types::value::Value;
 ///
 /// The error says which file or word gives no context. [`check`](crate::words::check) finds before anything is read
 /// what is wrong with the words alone, but for values that are no JSON.
-pub fn context<'a, R: Files + Env + AllocGlobal, I: Read>(
+pub fn context<'a, R: Sources + AllocGlobal, I: Read>(
     rt: &R,
     words: &DataWords<'a, '_>,
     input: &mut I,
 ) -> Result<Value, ContextFault<'a>>
     ensures read { IfOk result
-        (λ v. IsContext words.now.env words.now.files.now words.now.format words.now.values.now words.now.texts.now
-        (I.remaining input.old) (view v) (I.remaining input.new)) }
-    ensures refused { IfErr result (RefusesContext
-        words.now.env words.now.files.now words.now.format words.now.values.now words.now.texts.now
-        (I.remaining input.old)) }
+        (λ v. IsContext (R.world rt.now) words.now.env words.now.files.now words.now.format words.now.values.now
+        words.now.texts.now (I.remaining input.old) (view v) (I.remaining input.new)) }
+    ensures refused { IfErr result (RefusesContext (R.world rt.now)
+        words.now.env words.now.files.now words.now.format words.now.values.now
+        words.now.texts.now (I.remaining input.old)) }
 {
     let alloc = rt.alloc();
     let mut data = environment(rt, words.env)?;

@@ -1,12 +1,15 @@
 // The variables of the environment, as data.
-ghost use Rattle.std.specs.Prelude.{true, IfErr, IfOk};
+ghost use Rattle.std.specs.Prelude.{◌≡◌, true, IfErr, IfOk};
 ghost use Rattle.upon_data.specs.Parts.{data_entries};
-ghost use Rattle.upon_tool_data.specs.Environment.{HasEnvironment, RefusesEnvironment};
+ghost use Rattle.upon_types.specs.Val.{no_entries};
+ghost use Rattle.upon_tool_io.specs.World.{variables_of};
+ghost use Rattle.upon_tool_data.specs.Environment.{with_variables, AreVariables, HasEnvironment, RefusesEnvironment};
 
 use crate::fault::ContextFault;
 use std::alloc::{AllocError, Global};
-use std::env::{self, Env, VarError};
 use upon_data::parts::Data;
+use upon_tool_io::files::ReadFault;
+use upon_tool_io::sources::Sources;
 use upon_types::value::Value;
 
 // The key of the variables.
@@ -17,12 +20,12 @@ const ENVIRONMENT: &str = "the environment";
 
 /// Returns data with the variables of the environment, a map of texts at the key `env`; or data without entries, if
 /// they are not asked for.
-pub(crate) fn environment<'a, R: Env + AllocGlobal>(
+pub(crate) fn environment<'a, R: Sources + AllocGlobal>(
     rt: &R,
     is_asked: bool,
 ) -> Result<Data, ContextFault<'a>>
-    ensures read { IfOk result (λ read. HasEnvironment is_asked (data_entries read)) }
-    ensures refused { IfErr result (RefusesEnvironment is_asked) }
+    ensures read { IfOk result (λ read. HasEnvironment (R.world rt.now) is_asked (data_entries read)) }
+    ensures refused { IfErr result (RefusesEnvironment (R.world rt.now) is_asked) }
 {
     let alloc = rt.alloc();
     let mut data = Data::new(alloc);
@@ -34,27 +37,27 @@ pub(crate) fn environment<'a, R: Env + AllocGlobal>(
 }
 
 // The variables of the environment, each a text at its name.
-fn variables<'a, R: Env + AllocGlobal>(rt: &R) -> Result<Data, ContextFault<'a>>
-    ensures { IfErr result (RefusesEnvironment true) }
+fn variables<'a, R: Sources + AllocGlobal>(rt: &R) -> Result<Data, ContextFault<'a>>
+    ensures read { IfOk result (λ variables. AreVariables (R.world rt.now) (data_entries variables)) }
+    ensures refused { IfErr result (RefusesEnvironment (R.world rt.now) true) }
 {
     let alloc = rt.alloc();
+    match rt.variables(alloc) {
+        Ok(found) => Ok(as_data(alloc, found)?),
+        Err(ReadFault::NotText) => Err(ContextFault::NotText(ENVIRONMENT)),
+        Err(_) => Err(ContextFault::OutOfMemory),
+    }
+}
+
+// Variables, each a text at its name.
+fn as_data(alloc: Global, found: Vec<(String, String)>) -> Result<Data, AllocError>
+    ensures { IfOk result
+        (λ variables. data_entries variables ≡ with_variables (variables_of found.items) no_entries) }
+{
     let mut variables = Data::new(alloc);
-    let found = match env::vars(rt) {
-        Ok(found) => found,
-        Err(fault) => return Err(unread(&fault)),
-    };
-    for (name, text) in found {
+    for variable in found {
+        let (name, text) = variable;
         variables.put_at(alloc, name.as_str(), Value::String(text))?;
     }
     Ok(variables)
-}
-
-// Why the environment is not read.
-fn unread<'a>(fault: &VarError) -> ContextFault<'a>
-    ensures { RefusesEnvironment true result }
-{
-    match fault {
-        VarError::NotUnicode => ContextFault::NotText(ENVIRONMENT),
-        VarError::NotPresent | VarError::OutOfMemory => ContextFault::OutOfMemory,
-    }
 }

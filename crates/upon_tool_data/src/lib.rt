@@ -6,6 +6,7 @@ pub mod context;
 mod environment;
 pub mod fault;
 pub mod files;
+pub mod held;
 pub mod samples;
 mod settings;
 pub mod sources;

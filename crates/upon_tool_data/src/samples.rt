@@ -8,9 +8,8 @@ use crate::context::context;
 use crate::fault::ContextFault;
 use crate::words::{DataWords, asks_again, key_and_file};
 use std::alloc::{AllocError, Global};
-use std::env::Env;
 use std::io::Read;
-use std::rt::Files;
+use upon_tool_io::sources::Sources;
 use upon_types::value::Value;
 
 /// Returns the contexts that the words of a call say, one for each word of `--data` without a key: the one that
@@ -19,13 +18,13 @@ use upon_types::value::Value;
 ///
 /// The error says which file or word gives no context; it is `InputTwice` if standard input would be put at a key of
 /// several contexts.
-pub fn samples<'a, R: Files + Env + AllocGlobal, I: Read>(
+pub fn samples<'a, R: Sources + AllocGlobal, I: Read>(
     rt: &R,
     words: &DataWords<'a, '_>,
     input: &mut I,
 ) -> Result<Vec<Value>, ContextFault<'a>>
-    ensures { IfOk result (λ all. AreSamples words.now (sample_files words.now.files.now) (I.remaining input.old)
-        (map view all.items) (I.remaining input.new)) }
+    ensures { IfOk result (λ all. AreSamples (R.world rt.now) words.now (sample_files words.now.files.now)
+        (I.remaining input.old) (map view all.items) (I.remaining input.new)) }
 {
     let alloc = rt.alloc();
     let (alone, keyed) = parted(alloc, words.files)?;
@@ -37,14 +36,14 @@ pub fn samples<'a, R: Files + Env + AllocGlobal, I: Read>(
 }
 
 // The contexts by the words of files of each.
-fn read_each<'a, R: Files + Env + AllocGlobal, I: Read>(
+fn read_each<'a, R: Sources + AllocGlobal, I: Read>(
     rt: &R,
     words: &DataWords<'a, '_>,
     groups: &[Vec<&'a str>],
     input: &mut I,
 ) -> Result<Vec<Value>, ContextFault<'a>>
-    ensures { IfOk result (λ all. AreSamples words.now (map (λ group. group.items) groups.now) (I.remaining input.old)
-        (map view all.items) (I.remaining input.new)) }
+    ensures { IfOk result (λ all. AreSamples (R.world rt.now) words.now (map (λ group. group.items) groups.now)
+        (I.remaining input.old) (map view all.items) (I.remaining input.new)) }
 {
     let mut all = Vec::new(rt.alloc());
     for group in groups {

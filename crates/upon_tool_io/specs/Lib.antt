@@ -1,1 +1,4 @@
 pub mod Paths
+pub mod World
+pub mod Written
+pub mod Memory

@@ -1,13 +1,13 @@
 // Files that are read as texts.
-ghost use Rattle.std.specs.Prelude.{◌≡◌, Err, IfOk, IfSome, string_bytes};
+ghost use Rattle.std.specs.Prelude.{◌≡◌, ◌⊎◌, Err, IfOk, IfSome, string_bytes};
 ghost use Rattle.std.specs.Str.{IsUtf8};
 ghost use Rattle.upon_tool_io.specs.Paths.{joined_path};
-ghost use Rattle.upon_tool_io.specs.declared.files.ReadFault.TheVariants.{NotText, OutOfMemory as MemoryIsOut};
+ghost use Rattle.upon_tool_io.specs.World.{GivesFileText};
+ghost use Rattle.upon_tool_io.specs.declared.files.ReadFault.TheVariants.{NotText, Unreadable, OutOfMemory as MemoryIsOut};
 
+use crate::sources::Sources;
 use std::alloc::{AllocError, AllocFailed, Global};
-use std::fs::File;
 use std::io::{self, Read};
-use std::rt::Files;
 
 /// Why a file gives no text.
 #[derive(Debug, Drop)]
@@ -39,7 +39,7 @@ impl<T: Drop> From<AllocFailed<T>> for ReadFault {
 }
 
 impl From<io::Error> for ReadFault {
-    ghost from_gives = { λ _ fault. ¬ (fault ≡ NotText) };
+    ghost from_gives = { λ error fault. (fault ≡ MemoryIsOut) ⊎ (fault ≡ Unreadable error) };
 
     fn from(error: io::Error) -> ReadFault {
         if error.kind() == io::ErrorKind::OutOfMemory {
@@ -65,10 +65,17 @@ pub fn read_text<I: Read>(alloc: Global, reader: &mut I) -> Result<String, ReadF
     }
 }
 
-/// Returns the text of the file of a path.
-pub fn read_file<R: Files>(rt: &R, alloc: Global, path: &str) -> Result<String, ReadFault> {
-    let mut file = File::open(rt, path)?;
-    read_text(alloc, &mut file)
+/// Returns the text of a file.
+///
+/// The error says why it is not read, or is `NotText` if it is not UTF-8.
+pub fn read_file<R: Sources>(rt: &R, alloc: Global, path: &str) -> Result<String, ReadFault>
+    // The file may hold this text, or it gives none.
+    ensures { GivesFileText (R.world rt.now) path.now result }
+{
+    match String::from_utf8(rt.bytes_of(alloc, path)?) {
+        Ok(text) => Ok(text),
+        Err(_) => Err(ReadFault::NotText),
+    }
 }
 
 /// Returns the path of a name in a folder; if the folder's name is empty, the name. It fails if there is no memory.

@@ -1,9 +1,10 @@
-// The files of a folder and of its subfolders.
+// The files of a folder and of its subfolders, as the system has them.
 use crate::files::{ReadFault, joined};
 use std::alloc::AllocError;
 use std::collections::BTreeMap;
 use std::fs::{self, DirEntry};
 use std::io;
+use std::path::PathBuf;
 use std::rt::Files;
 
 /// Returns the paths of the files of a folder and of its subfolders, as they are in it, in ascending order, each with
@@ -12,7 +13,7 @@ use std::rt::Files;
 /// A link to a file is one of them, and so is a link to nothing. It is refused if it leads out of the folder, unless
 /// such links are followed. Links to folders are not followed. A subfolder that can't be listed stands for the files in
 /// it. What is no file is left out, and so is a file whose name is not UTF-8: no template can name it.
-pub fn files_of<R: Files + AllocGlobal + Clone + Drop>(
+pub(crate) fn files_of<R: Files + AllocGlobal + Clone + Drop>(
     rt: &R,
     folder: &str,
     follows: bool,
@@ -131,4 +132,32 @@ fn is_inside(path: &str, folder: &str) -> bool {
         Some(rest) => folder.ends_with('/') || rest.starts_with('/'),
         None => false,
     }
+}
+
+/// Returns whether a folder is another one, or would be in it. It is not, if one of them is not read.
+pub(crate) fn is_within<R: Files + AllocGlobal>(rt: &R, folder: &str, other: &str) -> bool {
+    match (nearest(rt, folder), fs::canonicalize(rt, other)) {
+        (Ok(inner), Ok(outer)) => match inner.as_str().strip_prefix(outer.as_str()) {
+            Some(rest) => rest.is_empty() || rest.starts_with('/') || outer.as_str().ends_with('/'),
+            None => false,
+        },
+        _ => false,
+    }
+}
+
+// The path, without links, of a folder, or of the nearest one above it that is there.
+fn nearest<R: Files + AllocGlobal>(rt: &R, folder: &str) -> io::Result<PathBuf> {
+    let mut path = folder;
+    for _ in 0..folder.len() {
+        match fs::canonicalize(rt, path) {
+            Err(error) if error.kind() == io::ErrorKind::NotFound => {}
+            found => return found,
+        }
+        path = match path.rsplit_once('/') {
+            Some(("", _)) => "/",
+            Some((above, _)) => above,
+            None => ".",
+        };
+    }
+    fs::canonicalize(rt, path)
 }

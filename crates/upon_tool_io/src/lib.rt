@@ -5,4 +5,7 @@ pub mod arguments;
 mod command_line;
 pub mod files;
 pub mod folder;
+pub mod memory;
 pub mod output;
+pub mod sources;
+pub mod targets;

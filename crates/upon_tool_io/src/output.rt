@@ -30,7 +30,7 @@ impl From<AllocError> for WriteFault {
 
 /// Where a text goes before it takes the place of a file.
 #[derive(Drop)]
-pub struct Replacement {
+pub(crate) struct Replacement {
     target: String,
     // The new file beside it; none, if the target is written as it is.
     beside: Option<String>,
@@ -48,7 +48,7 @@ impl Replacement {
     /// Opens a new file beside the one of a path, to which a link may lead, with the permissions of that one: nobody
     /// else may read it before. What is there and is no file, as a terminal, is opened as it is. A file of another
     /// owner or of several names is refused, as the new one would not be in its place.
-    pub fn open<R: Files + AllocGlobal>(
+    pub(crate) fn open<R: Files + AllocGlobal>(
         rt: &R,
         path: &str,
     ) -> Result<(Replacement, R::File), WriteFault> {
@@ -80,7 +80,7 @@ impl Replacement {
 
     /// Puts the new file in the place of the old one, after all that was written to it is on the disk. Then the folder
     /// is written to the disk too, where the system can.
-    pub fn keep<R: Files>(self, rt: &R, file: &R::File) -> io::Result<()> {
+    pub(crate) fn keep<R: Files>(self, rt: &R, file: &R::File) -> io::Result<()> {
         let Some(beside) = &self.beside else {
             return Ok(());
         };
@@ -97,7 +97,7 @@ impl Replacement {
     }
 
     /// Removes the new file; the old one is as it was.
-    pub fn discard<R: Files>(self, rt: &R) {
+    pub(crate) fn discard<R: Files>(self, rt: &R) {
         if let Some(beside) = &self.beside {
             let _ = fs::remove_file(rt, beside.as_str());
         }

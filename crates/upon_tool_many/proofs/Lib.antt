@@ -5,3 +5,4 @@ pub mod Places
 pub mod Texts
 pub mod Ends
 pub mod Refused
+pub mod FilesRead

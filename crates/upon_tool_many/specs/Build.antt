@@ -3,6 +3,9 @@ use Rattle.std.specs.Prelude.{◌≡◌, ◌⊎◌, ℕ, List, [], length, Bool,
 use Rattle.std.specs.Borrow.{Bor}
 use Rattle.std.specs.declared.alloc.Global.{Global}
 use Rattle.upon_types.specs.Val.{Val}
+use Rattle.upon_tool_io.specs.Paths.{joined_path}
+use Rattle.upon_tool_io.specs.World.{World, IsNoFileText, RefusesName}
+use Rattle.upon_tool_io.specs.Written.{Log}
 use Rattle.upon_tool_io.specs.declared.files.ReadFault.{ReadFault}
 use Rattle.upon_vm.specs.declared.limits.Limits.{Limits}
 use Rattle.upon_engine.specs.Texts.{Texts}
@@ -43,35 +46,53 @@ abbrev pub IsPageText : Texts → Build → Val → List ℕ → Result (String 
 IsPageText e asked context source result = (text : Result (String Global) PageFault)
     × IsSourceText asked.limits e source context text × FramesText asked.limits e asked.layout context text result
 
--- a page failed, as its file was not read
-abbrev pub IsUnreadPage : PageEnd → Type 0
-IsUnreadPage end = (fault : ReadFault) × (end ≡ Failed (Unread fault))
+module _ (world : World) where
+  -- a page failed, as the file of a path was not read, for a reason that there may be, and nothing was written
+  abbrev pub IsUnreadPage : List ℕ → PageEnd → Log → Log → Type 0
+  IsUnreadPage path end old new =
+      (fault : ReadFault) × (end ≡ Failed (Unread fault)) × IsNoFileText world path fault × (new ≡ old)
 
--- How the page of a file ends, by whether that is a template: by the text of what was read; or by the bytes; or the
--- file was not read.
-abbrev pub EndsOfRead : Bool → Texts → Build → Val → PageEnd → Type 0
-EndsOfRead false e asked context end = IsOfWriting end ⊎ IsUnreadPage end
-EndsOfRead true e asked context end = ((source : List ℕ) × (text : Result (String Global) PageFault)
-    × IsPageText e asked context source text × PageEndsBy text end) ⊎ IsUnreadPage end
+  -- How the copy of a file ends: by the bytes that it may hold; or it was not read.
+  abbrev pub EndsOfCopy : List ℕ → Build → PageEnd → Log → Log → Type 0
+  EndsOfCopy path asked end old new = ((bytes : List ℕ) × world.holds (joined_path asked.source.now path) bytes
+      × IsOfWriting world (joined_path asked.out.now path) bytes end old new)
+      ⊎ IsUnreadPage (joined_path asked.source.now path) end old new
 
--- how the page of a file ends: if it is known why the file can't be read, it failed for that
-abbrev pub EndsOf : Option ReadFault → Bool → Texts → Build → Val → PageEnd → Type 0
-EndsOf (Some fault) is_template e asked context end = end ≡ Failed (Unread fault)
-EndsOf None is_template e asked context end = EndsOfRead is_template e asked context end
+  -- How the page of a name ends that is made of a template's file: by the text of what that may hold; or it was not
+  -- read.
+  abbrev pub EndsOfTemplate : List ℕ → List ℕ → Texts → Build → Val → PageEnd → Log → Log → Type 0
+  EndsOfTemplate name path e asked context end old new = ((source : List ℕ) × (text : Result (String Global) PageFault)
+      × world.holds (joined_path asked.source.now path) source × IsPageText e asked context source text
+      × PageEndsBy world (joined_path asked.out.now name) text end old new)
+      ⊎ IsUnreadPage (joined_path asked.source.now path) end old new
 
--- the page of a file is done
-abbrev pub DoesPage : Texts → Build → Val → Page Source → DonePage → Type 0
-DoesPage e asked context page done =
-    (done.name ≡ page.name) × EndsOf page.from.fault page.from.is_template e asked context done.end
+  -- how the page of a file ends, by whether that is a template
+  abbrev pub EndsOfRead : Bool → List ℕ → List ℕ → Texts → Build → Val → PageEnd → Log → Log → Type 0
+  EndsOfRead false name path e asked context end old new = EndsOfCopy path asked end old new
+  EndsOfRead true name path e asked context end old new = EndsOfTemplate name path e asked context end old new
 
--- A folder is built: each of its files has a page; no two names are equal; and the pages are done in the order of the
--- files.
-pub record DoesBuild (e : Texts) (asked : Build) (context : Val) (done : List DonePage) : Type 0 where
-  pub files : List (String Global × Option ReadFault)
-  pub pages : List (Page Source)
-  pub named : EachWith IsPageOf files pages
-  pub differ : DifferBelow (page_names pages) (length (page_names pages))
-  pub done_in_order : DoneInOrder asked.keep_going (DoesPage e asked context) pages done
+  -- how the page of a file ends: if it is known why the file can't be read, it failed for that
+  abbrev pub EndsOf : Option ReadFault → Bool → List ℕ → List ℕ → Texts → Build → Val → PageEnd → Log → Log → Type 0
+  EndsOf (Some fault) is_template name path e asked context end old new = (end ≡ Failed (Unread fault)) × (new ≡ old)
+  EndsOf None is_template name path e asked context end old new =
+      EndsOfRead is_template name path e asked context end old new
+
+  -- the page of a file is done
+  abbrev pub DoesPage : Texts → Build → Val → Page Source → DonePage → Log → Log → Type 0
+  DoesPage e asked context page done old new = (done.name ≡ page.name) × EndsOf page.from.fault page.from.is_template
+      (string_bytes page.name) (string_bytes page.from.path) e asked context done.end old new
+
+  -- A folder is built that is not in its own: each of its files has a page; no two names are equal; and the pages are
+  -- done in the order of the files.
+  pub record DoesBuild (e : Texts) (asked : Build) (context : Val) (done : List DonePage) (old new : Log)
+      : Type 0 where
+    pub files : List (String Global × Option ReadFault)
+    pub pages : List (Page Source)
+    pub listed : world.lists asked.source.now asked.follows files
+    pub apart : world.within asked.out.now asked.source.now false
+    pub named : EachWith IsPageOf files pages
+    pub differ : DifferBelow (page_names pages) (length (page_names pages))
+    pub done_in_order : DoneInOrder asked.keep_going (DoesPage e asked context) pages done old new
 
 -- Why pages are not built: two have this name; or memory was out.
 abbrev pub RefusesSame : List (List ℕ) → BuildFault → Type 0
@@ -82,11 +103,13 @@ RefusesSame names (Twice name) =
     × (string_bytes name ≡ slice_index_or names second [])
 RefusesSame names OutOfMemory = Unit {0}
 
--- why nothing is built: the folder was not read; or that of the pages is in it; or two pages of its files have one
--- name; or memory was out
-abbrev pub RefusesBuild : BuildFault → Type 0
-RefusesBuild (FolderUnread fault) = Unit {0}
-RefusesBuild OutInSource = Unit {0}
-RefusesBuild (Twice name) = (files : List (String Global × Option ReadFault)) × (pages : List (Page Source))
-    × EachWith IsPageOf files pages × RefusesSame (page_names pages) (Twice name)
-RefusesBuild OutOfMemory = Unit {0}
+module _ (world : World) where
+  -- why nothing is built: the folder was not read; or that of the pages is in it; or two pages of its files have one
+  -- name; or memory was out
+  abbrev pub RefusesBuild : Build → BuildFault → Type 0
+  RefusesBuild asked (FolderUnread fault) = RefusesName world asked.source.now fault
+  RefusesBuild asked OutInSource = world.within asked.out.now asked.source.now true
+  RefusesBuild asked (Twice name) = (files : List (String Global × Option ReadFault)) × (pages : List (Page Source))
+      × world.lists asked.source.now asked.follows files
+      × EachWith IsPageOf files pages × RefusesSame (page_names pages) (Twice name)
+  RefusesBuild asked OutOfMemory = Unit {0}

@@ -8,6 +8,9 @@ use Rattle.upon_engine.specs.Texts.{Texts}
 use Rattle.upon_tool_many.specs.Names.{stays_inside, page_names, DifferBelow, IsFirstAgain}
 use Rattle.upon_tool_many.specs.Pages.{DoneInOrder, EachWith, IsHeldText, IsMemoryOut, IsSourceText, PageEndsBy}
 use Rattle.upon_tool_many.specs.Values.{IsItemValue, IsSplit}
+use Rattle.upon_tool_io.specs.Paths.{joined_path}
+use Rattle.upon_tool_io.specs.World.{World}
+use Rattle.upon_tool_io.specs.Written.{Log}
 use Rattle.upon_tool_many.specs.declared.each.Each.{Each}
 use Rattle.upon_tool_many.specs.declared.each.EachFault.{EachFault}
 use Rattle.upon_tool_many.specs.declared.each.EachFault.TheVariants.{NoList, Unnamed, Outside, Twice, OutOfMemory}
@@ -36,9 +39,10 @@ NamesItem e asked others item page = (page.from ≡ item)
     × (stays_inside (string_bytes page.name) ≡ true)
 
 -- the page of an item is done: it ends by its text
-abbrev pub DoesItem : Texts → Each → Entries → Page Value → DonePage → Type 0
-DoesItem e asked others page done = (done.name ≡ page.name) × ((text : Result (String Global) PageFault)
-    × IsItemText e asked others (view page.from) text × PageEndsBy text done.end)
+abbrev pub DoesItem : World → Texts → Each → Entries → Page Value → DonePage → Log → Log → Type 0
+DoesItem world e asked others page done old new = (done.name ≡ page.name) × ((text : Result (String Global) PageFault)
+    × IsItemText e asked others (view page.from) text
+    × PageEndsBy world (joined_path asked.out.now (string_bytes page.name)) text done.end old new)
 
 -- the pages of items have names
 abbrev pub NamesItems : Texts → Each → Entries → List Value → List (Page Value) → Type 0
@@ -46,14 +50,15 @@ NamesItems e asked others items pages = EachWith (NamesItem e asked others) item
 
 -- A template is rendered for each item: the context has a list at the key; each item has a page with a name; no two
 -- names are equal; and these pages are done in the order of the items.
-pub record DoesEach (e : Texts) (asked : Each) (context : Val) (done : List DonePage) : Type 0 where
+pub record DoesEach (world : World) (e : Texts) (asked : Each) (context : Val) (done : List DonePage) (old new : Log)
+    : Type 0 where
   pub others : Entries
   pub items : List Value
   pub pages : List (Page Value)
   pub listed : IsSplit asked.key.now context others (vals_view items)
   pub named : NamesItems e asked others items pages
   pub differ : DifferBelow (page_names pages) (length (page_names pages))
-  pub done_in_order : DoneInOrder asked.keep_going (DoesItem e asked others) pages done
+  pub done_in_order : DoneInOrder asked.keep_going (DoesItem world e asked others) pages done old new
 
 -- Why the item at a place of a list has no page: it has no name, or none that stays in its folder.
 abbrev pub RefusesItem : Texts → Each → Entries → ℕ → Value → EachFault → Type 0

@@ -1,5 +1,5 @@
 -- The texts of pages, and how pages end.
-use Rattle.std.specs.Prelude.{◌≡◌, ◌&&◌, ℕ, List, [], ◌∷◌, Bool, true, false, not, Option, Some, None, Result, Ok, Err, String}
+use Rattle.std.specs.Prelude.{◌≡◌, ◌&&◌, ℕ, List, [], ◌∷◌, Bool, true, false, not, Option, Some, None, Result, Ok, Err, String, string_bytes}
 use Rattle.std.specs.Bool.{MatchBool}
 use Rattle.std.specs.declared.alloc.Global.{Global}
 use Rattle.upon_types.specs.Error.{fault_of}
@@ -13,6 +13,8 @@ use Rattle.upon_vm.specs.declared.limits.Limits.{Limits}
 use Rattle.upon_engine.specs.Texts.{Stored, Texts}
 use Rattle.upon_engine.specs.Theorem.{AnswersTree}
 use Rattle.upon_engine.specs.Within.{AnswersWithin}
+use Rattle.upon_tool_io.specs.World.{World}
+use Rattle.upon_tool_io.specs.Written.{written_as, Grows, Log}
 use Rattle.upon_tool_many.specs.declared.pages.DonePage.{DonePage}
 use Rattle.upon_tool_many.specs.declared.pages.PageEnd.{PageEnd}
 use Rattle.upon_tool_many.specs.declared.pages.PageEnd.TheVariants.{Written, Unchanged, Failed}
@@ -56,19 +58,22 @@ is_failed Written = false
 is_failed Unchanged = false
 is_failed (Failed fault) = true
 
--- There was something to write: it was written, or the file had it already, or the file could not be written.
-abbrev pub IsOfWriting : PageEnd → Type 0
-IsOfWriting Written = Unit {0}
-IsOfWriting Unchanged = Unit {0}
-IsOfWriting (Failed (Unwritten fault)) = Unit {0}
-IsOfWriting (Failed (Unread fault)) = ⊥
-IsOfWriting (Failed (Fault error)) = ⊥
-IsOfWriting (Failed NoTemplate) = ⊥
+module _ (world : World) where
+  -- Bytes were to be written to a file: they were, and nothing else; or it may have held them already, or it could not
+  -- be written, and nothing was.
+  abbrev pub IsOfWriting : List ℕ → List ℕ → PageEnd → Log → Log → Type 0
+  IsOfWriting path bytes Written old new = Grows old new (written_as path bytes ∷ [])
+  IsOfWriting path bytes Unchanged old new = world.holds path bytes × (new ≡ old)
+  IsOfWriting path bytes (Failed (Unwritten fault)) old new = new ≡ old
+  IsOfWriting path bytes (Failed (Unread fault)) old new = ⊥
+  IsOfWriting path bytes (Failed (Fault error)) old new = ⊥
+  IsOfWriting path bytes (Failed NoTemplate) old new = ⊥
 
--- a page ends by its text: that was to be written, or there is none and the page failed for that reason
-abbrev pub PageEndsBy : Result (String Global) PageFault → PageEnd → Type 0
-PageEndsBy (Ok text) end = IsOfWriting end
-PageEndsBy (Err fault) end = end ≡ Failed fault
+  -- The page of a file ends by its text: that was to be written; or there is none, and the page failed for that reason,
+  -- and nothing was written.
+  abbrev pub PageEndsBy : List ℕ → Result (String Global) PageFault → PageEnd → Log → Log → Type 0
+  PageEndsBy path (Ok text) end old new = IsOfWriting path (string_bytes text) end old new
+  PageEndsBy path (Err fault) end old new = (end ≡ Failed fault) × (new ≡ old)
 
 -- each of some things is in a relation to the one at its place among others, and there are as many
 abbrev pub EachWith : {A B : Type 0} → (A → B → Type 0) → List A → List B → Type 0
@@ -77,11 +82,12 @@ EachWith R [] (y ∷ ys) = ⊥
 EachWith R (x ∷ xs) [] = ⊥
 EachWith R (x ∷ xs) (y ∷ ys) = R x y × EachWith R xs ys
 
--- pages are done in their order: all of them if those after one that failed are to be done too; else up to the first
--- that failed
-abbrev pub DoneInOrder : {A : Type 0} → Bool → (A → DonePage → Type 0) → List A → List DonePage → Type 0
-DoneInOrder keeps R [] [] = Unit {0}
-DoneInOrder keeps R [] (y ∷ ys) = ⊥
-DoneInOrder keeps R (x ∷ xs) [] = ⊥
-DoneInOrder keeps R (x ∷ xs) (y ∷ ys) =
-    R x y × MatchBool (is_failed y.end && not keeps) (ys ≡ []) (DoneInOrder keeps R xs ys)
+-- pages are done in their order, with what each writes after what those before it wrote: all of them if those after one
+-- that failed are to be done too; else up to the first that failed
+abbrev pub DoneInOrder : {A : Type 0} → Bool → (A → DonePage → Log → Log → Type 0) → List A → List DonePage → Log → Log
+    → Type 0
+DoneInOrder keeps R [] [] old new = new ≡ old
+DoneInOrder keeps R [] (y ∷ ys) old new = ⊥
+DoneInOrder keeps R (x ∷ xs) [] old new = ⊥
+DoneInOrder keeps R (x ∷ xs) (y ∷ ys) old new = (next : Log) × R x y old next
+    × MatchBool (is_failed y.end && not keeps) ((ys ≡ []) × (new ≡ next)) (DoneInOrder keeps R xs ys next new)

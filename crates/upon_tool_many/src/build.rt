@@ -1,9 +1,11 @@
 // A folder that is built into another: its templates are rendered, its other files are copied.
-ghost use Rattle.std.specs.Prelude.{◌⊎◌, IfErr, IfOk, Ok, OnOk, length, true};
+ghost use Rattle.std.specs.Prelude.{◌≡◌, IfErr, IfOk, Ok, OnErr, OnOk, length, string_bytes};
 ghost use Rattle.upon_types.specs.View.{view};
-ghost use Rattle.upon_tool_many.specs.Build.{DoesBuild, DoesPage, EndsOf, EndsOfRead, FramesText, IsPageOf, IsPageText, IsUnreadPage, RefusesBuild, RefusesSame};
+ghost use Rattle.upon_tool_io.specs.Paths.{joined_path};
+ghost use Rattle.upon_tool_io.specs.World.{GivesBytes, GivesFileText};
+ghost use Rattle.upon_tool_many.specs.Build.{DoesBuild, DoesPage, EndsOf, EndsOfCopy, EndsOfTemplate, FramesText, IsPageOf, IsPageText, RefusesBuild, RefusesSame};
 ghost use Rattle.upon_tool_many.specs.Names.{page_names, DifferBelow};
-ghost use Rattle.upon_tool_many.specs.Pages.{DoneInOrder, EachWith, IsOfWriting};
+ghost use Rattle.upon_tool_many.specs.Pages.{DoneInOrder, EachWith};
 
 use crate::names::{first_again, name_at, page_name};
 use crate::pages::{
@@ -13,14 +15,12 @@ use crate::progress::Progress;
 use crate::values::content_value;
 use std::alloc::{AllocError, AllocFailed, Global};
 use std::collections::BTreeMap;
-use std::path::PathBuf;
-use std::rt::Files;
-use std::{fs, io};
 use upon_engine::engine::Engine;
 use upon_engine::texts::{AnyEngine, EngineTexts};
 use upon_engine::within::Limits;
 use upon_tool_io::files::{ReadFault, joined, read_file};
-use upon_tool_io::folder::files_of;
+use upon_tool_io::sources::Sources;
+use upon_tool_io::targets::Targets;
 use upon_types::value::Value;
 
 /// What is built, and where to.
@@ -90,28 +90,32 @@ impl<T: Drop> From<AllocFailed<T>> for BuildFault {
 /// written to its path without that extension; each other file is copied to its path. If there is a layout, it is
 /// rendered on the context with the text under `content`, and what comes of that is the page's. Returns the pages
 /// that are done, in the order of the files' paths: if one failed, those after it only if this is asked for.
-pub fn build_folder<R: Files + AllocGlobal + Clone + Drop, P: Progress>(
+pub fn build_folder<R: Sources + AllocGlobal, T: Targets, P: Progress>(
     rt: &R,
+    targets: &mut T,
     engine: &Engine<'_>,
     asked: &Build<'_>,
     context: &Value,
     progress: &mut P,
 ) -> Result<Vec<DonePage>, BuildFault>
     ensures done { IfOk result
-        (λ done. DoesBuild (⟦<AnyEngine as EngineTexts>⟧.texts engine.now) asked.now (view context.now) done.items) }
-    ensures refused { IfErr result RefusesBuild }
+        (λ done. DoesBuild (R.world rt.now) (⟦<AnyEngine as EngineTexts>⟧.texts engine.now) asked.now (view context.now)
+        done.items (T.written targets.old) (T.written targets.new)) }
+    // Else nothing is written.
+    ensures unwritten { OnErr result (T.written targets.new ≡ T.written targets.old) }
+    ensures refused { IfErr result (RefusesBuild (R.world rt.now) asked.now) }
 {
     let alloc = rt.alloc();
-    let files = match files_of(rt, asked.source, asked.follows) {
+    let files = match rt.files_of(alloc, asked.source, asked.follows) {
         Ok(files) => files,
         Err(fault) => return Err(BuildFault::Unread(fault)),
     };
-    if is_within(rt, asked.out, asked.source) {
+    if rt.is_within(alloc, asked.out, asked.source) {
         return Err(BuildFault::OutInSource);
     }
     let pages = planned(alloc, files)?;
     refuse_twice(alloc, pages.as_slice())?;
-    Ok(build_all(rt, engine, asked, context, pages, progress)?)
+    Ok(build_all(rt, targets, engine, asked, context, pages, progress)?)
 }
 
 // The pages of files: of each its name, and where it comes from.
@@ -170,23 +174,25 @@ fn refuse_twice(alloc: Global, pages: &[Page<Source>]) -> Result<(), BuildFault>
 }
 
 // Builds the pages.
-fn build_all<R: Files + AllocGlobal, P: Progress>(
+fn build_all<R: Sources + AllocGlobal, T: Targets, P: Progress>(
     rt: &R,
+    targets: &mut T,
     engine: &Engine<'_>,
     asked: &Build<'_>,
     context: &Value,
     pages: Vec<Page<Source>>,
     progress: &mut P,
 ) -> Result<Vec<DonePage>, AllocError>
-    ensures { IfOk result (λ done. DoneInOrder asked.now.keep_going
-        (DoesPage (⟦<AnyEngine as EngineTexts>⟧.texts engine.now) asked.now (view context.now)) pages.items
-        done.items) }
+    ensures done { IfOk result (λ done. DoneInOrder asked.now.keep_going
+        (DoesPage (R.world rt.now) (⟦<AnyEngine as EngineTexts>⟧.texts engine.now) asked.now (view context.now))
+        pages.items done.items (T.written targets.old) (T.written targets.new)) }
+    ensures unwritten { OnErr result (T.written targets.new ≡ T.written targets.old) }
 {
     let alloc = rt.alloc();
     let all = pages.len();
     let mut done = Vec::with_capacity(alloc, all)?;
     for page in pages {
-        let ended = build_page(rt, engine, asked, context, page);
+        let ended = build_page(rt, targets, engine, asked, context, page);
         let last = is_last(&ended.end, asked.keep_going);
         done.push(ended)?;
         progress.tell(done.len(), all);
@@ -198,31 +204,35 @@ fn build_all<R: Files + AllocGlobal, P: Progress>(
 }
 
 // Builds the page of a file.
-fn build_page<R: Files + AllocGlobal>(
+fn build_page<R: Sources + AllocGlobal, T: Targets>(
     rt: &R,
+    targets: &mut T,
     engine: &Engine<'_>,
     asked: &Build<'_>,
     context: &Value,
     page: Page<Source>,
 ) -> DonePage
-    ensures { DoesPage (⟦<AnyEngine as EngineTexts>⟧.texts engine.now) asked.now (view context.now) page result }
+    ensures { DoesPage (R.world rt.now) (⟦<AnyEngine as EngineTexts>⟧.texts engine.now) asked.now (view context.now)
+        page result (T.written targets.old) (T.written targets.new) }
 {
     let Page { name, from } = page;
-    let end = end_of(rt, engine, asked, context, name.as_str(), from);
+    let end = end_of(rt, targets, engine, asked, context, name.as_str(), from);
     DonePage { name, end }
 }
 
 // Builds the page of a file, and answers how it ended.
-fn end_of<R: Files + AllocGlobal>(
+fn end_of<R: Sources + AllocGlobal, T: Targets>(
     rt: &R,
+    targets: &mut T,
     engine: &Engine<'_>,
     asked: &Build<'_>,
     context: &Value,
     name: &str,
     from: Source,
 ) -> PageEnd
-    ensures { EndsOf from.fault from.is_template (⟦<AnyEngine as EngineTexts>⟧.texts engine.now)
-        asked.now (view context.now) result }
+    ensures { EndsOf (R.world rt.now) from.fault from.is_template name.now (string_bytes from.path)
+        (⟦<AnyEngine as EngineTexts>⟧.texts engine.now) asked.now (view context.now) result
+        (T.written targets.old) (T.written targets.new) }
 {
     let Source {
         path,
@@ -233,61 +243,72 @@ fn end_of<R: Files + AllocGlobal>(
         return PageEnd::Failed(PageFault::Unread(fault));
     }
     if is_template {
-        end_of_template(rt, engine, asked, context, name, path.as_str())
+        end_of_template(rt, targets, engine, asked, context, name, path.as_str())
     } else {
-        copy_file(rt, asked, path.as_str())
+        copy_file(rt, targets, asked, path.as_str())
     }
 }
 
 // Builds the page of a template's file, and answers how it ended.
-fn end_of_template<R: Files + AllocGlobal>(
+fn end_of_template<R: Sources + AllocGlobal, T: Targets>(
     rt: &R,
+    targets: &mut T,
     engine: &Engine<'_>,
     asked: &Build<'_>,
     context: &Value,
     name: &str,
     path: &str,
 ) -> PageEnd
-    ensures { EndsOfRead true (⟦<AnyEngine as EngineTexts>⟧.texts engine.now)
-        asked.now (view context.now) result }
+    ensures { EndsOfTemplate (R.world rt.now) name.now path.now (⟦<AnyEngine as EngineTexts>⟧.texts engine.now)
+        asked.now (view context.now) result
+        (T.written targets.old) (T.written targets.new) }
 {
     match read_source(rt, asked.source, path) {
         Ok(source) => {
             let text = page_text(rt.alloc(), engine, asked, context, source.as_str());
-            end_with(rt, asked.out, name, text)
+            end_with(rt, targets, asked.out, name, text)
         }
         Err(fault) => PageEnd::Failed(PageFault::Unread(fault)),
     }
 }
 
 // The text of a file of the sources.
-fn read_source<R: Files + AllocGlobal>(
+fn read_source<R: Sources + AllocGlobal>(
     rt: &R,
     folder: &str,
     path: &str,
-) -> Result<String, ReadFault> {
+) -> Result<String, ReadFault>
+    ensures { GivesFileText (R.world rt.now) (joined_path folder.now path.now) result }
+{
     let path = joined(rt.alloc(), folder, path)?;
     read_file(rt, rt.alloc(), path.as_str())
 }
 
 // Copies a file, and answers how that ended.
-fn copy_file<R: Files + AllocGlobal>(rt: &R, asked: &Build<'_>, path: &str) -> PageEnd
-    ensures { IsOfWriting result ⊎ IsUnreadPage result }
+fn copy_file<R: Sources + AllocGlobal, T: Targets>(
+    rt: &R,
+    targets: &mut T,
+    asked: &Build<'_>,
+    path: &str,
+) -> PageEnd
+    ensures { EndsOfCopy (R.world rt.now) path.now asked.now result (T.written targets.old) (T.written targets.new) }
 {
     match read_bytes(rt, asked.source, path) {
-        Ok(bytes) => end_of_write(rt, asked.out, path, bytes.as_slice()),
+        Ok(bytes) => end_of_write(rt, targets, asked.out, path, bytes.as_slice()),
         Err(fault) => PageEnd::Failed(PageFault::Unread(fault)),
     }
 }
 
 // The bytes of a file of the sources.
-fn read_bytes<R: Files + AllocGlobal>(
+fn read_bytes<R: Sources + AllocGlobal>(
     rt: &R,
     folder: &str,
     path: &str,
-) -> Result<Vec<u8>, ReadFault> {
+) -> Result<Vec<u8>, ReadFault>
+    ensures { GivesBytes (R.world rt.now) (joined_path folder.now path.now) result }
+{
     let path = joined(rt.alloc(), folder, path)?;
-    Ok(fs::read(rt, path.as_str())?)
+    rt.bytes_of(rt.alloc(), path.as_str())
 }
 
 // The text of a page: what its template means on the context, in the layout if there is one.
@@ -323,32 +344,4 @@ fn framed_text(
     };
     let value = content_value(alloc, context, text)?;
     held_text(engine, asked.limits, layout, &value)
-}
-
-// Whether a folder is another one, or would be in it.
-fn is_within<R: Files + AllocGlobal>(rt: &R, folder: &str, other: &str) -> bool {
-    match (nearest(rt, folder), fs::canonicalize(rt, other)) {
-        (Ok(inner), Ok(outer)) => match inner.as_str().strip_prefix(outer.as_str()) {
-            Some(rest) => rest.is_empty() || rest.starts_with('/') || outer.as_str().ends_with('/'),
-            None => false,
-        },
-        _ => false,
-    }
-}
-
-// The path, without links, of a folder, or of the nearest one above it that is there.
-fn nearest<R: Files + AllocGlobal>(rt: &R, folder: &str) -> io::Result<PathBuf> {
-    let mut path = folder;
-    for _ in 0..folder.len() {
-        match fs::canonicalize(rt, path) {
-            Err(error) if error.kind() == io::ErrorKind::NotFound => {}
-            found => return found,
-        }
-        path = match path.rsplit_once('/') {
-            Some(("", _)) => "/",
-            Some((above, _)) => above,
-            None => ".",
-        };
-    }
-    fs::canonicalize(rt, path)
 }

@@ -1,5 +1,5 @@
 // A template that is rendered once for each item of a list, to a file of each item's own name.
-ghost use Rattle.std.specs.Prelude.{IfErr, IfOk, OnOk, length};
+ghost use Rattle.std.specs.Prelude.{◌≡◌, IfErr, IfOk, OnErr, OnOk, length};
 ghost use Rattle.upon_types.specs.View.{view, entries_view};
 ghost use Rattle.upon_tool_many.specs.Each.{DoesEach, DoesItem, IsItemName, IsItemText, NamesItem, NamesItems, RefusesEach, RefusesItem, RefusesNames, RefusesTwice};
 ghost use Rattle.upon_tool_many.specs.Names.{page_names, DifferBelow};
@@ -11,10 +11,11 @@ use crate::progress::Progress;
 use crate::values::{item_value, split};
 use std::alloc::{AllocError, AllocFailed, Global};
 use std::collections::BTreeMap;
-use std::rt::Files;
 use upon_engine::engine::Engine;
 use upon_engine::texts::{AnyEngine, EngineTexts};
 use upon_engine::within::Limits;
+use upon_tool_io::sources::Sources;
+use upon_tool_io::targets::Targets;
 use upon_types::value::Value;
 
 /// What is rendered for each item, and where to.
@@ -75,15 +76,19 @@ impl<T: Drop> From<AllocFailed<T>> for EachFault {
 /// context, to the file of the name that another template has on the same value. If a name is refused, nothing is
 /// written. It tells after each page how many are done. Returns the pages that are done, in the order of the items:
 /// if one failed, those after it only if this is asked for.
-pub fn render_each<R: Files + AllocGlobal, P: Progress>(
+pub fn render_each<R: Sources + AllocGlobal, T: Targets, P: Progress>(
     rt: &R,
+    targets: &mut T,
     engine: &Engine<'_>,
     asked: &Each<'_>,
     context: Value,
     progress: &mut P,
 ) -> Result<Vec<DonePage>, EachFault>
     ensures done { IfOk result
-        (λ done. DoesEach (⟦<AnyEngine as EngineTexts>⟧.texts engine.now) asked.now (view context) done.items) }
+        (λ done. DoesEach (R.world rt.now) (⟦<AnyEngine as EngineTexts>⟧.texts engine.now) asked.now (view context)
+        done.items (T.written targets.old) (T.written targets.new)) }
+    // Else nothing is written.
+    ensures unwritten { OnErr result (T.written targets.new ≡ T.written targets.old) }
     ensures refused { IfErr result (RefusesEach (⟦<AnyEngine as EngineTexts>⟧.texts engine.now) asked.now
         (view context)) }
 {
@@ -93,7 +98,7 @@ pub fn render_each<R: Files + AllocGlobal, P: Progress>(
     };
     let pages = named(alloc, engine, asked, &others, items)?;
     refuse_twice(alloc, pages.as_slice())?;
-    Ok(render_all(rt, engine, asked, &others, pages, progress)?)
+    Ok(render_all(rt, targets, engine, asked, &others, pages, progress)?)
 }
 
 // The pages of items, with their names.
@@ -187,23 +192,25 @@ fn refuse_twice(alloc: Global, pages: &[Page<Value>]) -> Result<(), EachFault>
 }
 
 // Renders the pages and writes them.
-fn render_all<R: Files + AllocGlobal, P: Progress>(
+fn render_all<R: Sources + AllocGlobal, T: Targets, P: Progress>(
     rt: &R,
+    targets: &mut T,
     engine: &Engine<'_>,
     asked: &Each<'_>,
     others: &BTreeMap<String, Value>,
     pages: Vec<Page<Value>>,
     progress: &mut P,
 ) -> Result<Vec<DonePage>, AllocError>
-    ensures { IfOk result (λ done. DoneInOrder asked.now.keep_going
-        (DoesItem (⟦<AnyEngine as EngineTexts>⟧.texts engine.now) asked.now (entries_view others.now.entries))
-        pages.items done.items) }
+    ensures done { IfOk result (λ done. DoneInOrder asked.now.keep_going
+        (DoesItem (R.world rt.now) (⟦<AnyEngine as EngineTexts>⟧.texts engine.now) asked.now
+        (entries_view others.now.entries)) pages.items done.items (T.written targets.old) (T.written targets.new)) }
+    ensures unwritten { OnErr result (T.written targets.new ≡ T.written targets.old) }
 {
     let alloc = rt.alloc();
     let all = pages.len();
     let mut done = Vec::with_capacity(alloc, all)?;
     for page in pages {
-        let ended = render_page(rt, engine, asked, others, page);
+        let ended = render_page(rt, targets, engine, asked, others, page);
         let last = is_last(&ended.end, asked.keep_going);
         done.push(ended)?;
         progress.tell(done.len(), all);
@@ -215,18 +222,19 @@ fn render_all<R: Files + AllocGlobal, P: Progress>(
 }
 
 // Renders the page of an item and writes it.
-fn render_page<R: Files + AllocGlobal>(
+fn render_page<R: Sources + AllocGlobal, T: Targets>(
     rt: &R,
+    targets: &mut T,
     engine: &Engine<'_>,
     asked: &Each<'_>,
     others: &BTreeMap<String, Value>,
     page: Page<Value>,
 ) -> DonePage
-    ensures { DoesItem (⟦<AnyEngine as EngineTexts>⟧.texts engine.now) asked.now
-        (entries_view others.now.entries) page result }
+    ensures { DoesItem (R.world rt.now) (⟦<AnyEngine as EngineTexts>⟧.texts engine.now) asked.now
+        (entries_view others.now.entries) page result (T.written targets.old) (T.written targets.new) }
 {
     let Page { name, from } = page;
     let text = item_text(rt.alloc(), engine, asked, others, &from);
-    let end = end_with(rt, asked.out, name.as_str(), text);
+    let end = end_with(rt, targets, asked.out, name.as_str(), text);
     DonePage { name, end }
 }

@@ -6,17 +6,19 @@ ghost use Rattle.upon_types.specs.View.{view};
 ghost use Rattle.upon_language_spec.specs.Grammar.{HasTree};
 ghost use Rattle.upon_syntax.specs.TagReading.{IsSyntaxError};
 ghost use Rattle.upon_engine.specs.Texts.{Stored};
+ghost use Rattle.upon_tool_io.specs.Paths.{joined_path};
 ghost use Rattle.upon_tool_many.specs.Pages.{as_page, is_failed, AnswersIn, PageEndsBy, IsHeldText, IsOfWriting, IsSourceText};
 ghost use Rattle.upon_tool_many.specs.declared.pages.PageFault.TheVariants.{NoTemplate};
 
 use crate::written::write_page;
 use std::alloc::AllocError;
-use std::rt::Files;
 use upon_engine::engine::Engine;
 use upon_engine::texts::{AnyEngine, EngineTexts};
 use upon_engine::within::Limits;
 use upon_tool_io::files::ReadFault;
 use upon_tool_io::output::WriteFault;
+use upon_tool_io::sources::Sources;
+use upon_tool_io::targets::Targets;
 use upon_types::error::Error;
 use upon_types::value::Value;
 
@@ -185,30 +187,34 @@ fn text_of(answer: upon_types::error::Result<String>) -> Result<String, PageFaul
 }
 
 /// Writes the text of a page to the file of its name in a folder, unless there is none, and answers how it ended.
-pub fn end_with<R: Files + AllocGlobal>(
+pub fn end_with<R: Sources + AllocGlobal, T: Targets>(
     rt: &R,
+    targets: &mut T,
     folder: &str,
     name: &str,
     text: Result<String, PageFault>,
 ) -> PageEnd
-    ensures { PageEndsBy text result }
+    ensures { PageEndsBy (R.world rt.now) (joined_path folder.now name.now) text result
+        (T.written targets.old) (T.written targets.new) }
 {
     match text {
-        Ok(text) => end_of_write(rt, folder, name, text.as_bytes()),
+        Ok(text) => end_of_write(rt, targets, folder, name, text.as_bytes()),
         Err(fault) => PageEnd::Failed(fault),
     }
 }
 
 /// Writes bytes to the file of a name in a folder, and answers how that ended.
-pub fn end_of_write<R: Files + AllocGlobal>(
+pub fn end_of_write<R: Sources + AllocGlobal, T: Targets>(
     rt: &R,
+    targets: &mut T,
     folder: &str,
     name: &str,
     bytes: &[u8],
 ) -> PageEnd
-    ensures { IsOfWriting result }
+    ensures { IsOfWriting (R.world rt.now) (joined_path folder.now name.now) bytes.now result
+        (T.written targets.old) (T.written targets.new) }
 {
-    match write_page(rt, folder, name, bytes) {
+    match write_page(rt, targets, folder, name, bytes) {
         Ok(true) => PageEnd::Written,
         Ok(false) => PageEnd::Unchanged,
         Err(fault) => PageEnd::Failed(PageFault::Unwritten(fault)),

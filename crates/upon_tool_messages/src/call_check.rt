@@ -12,6 +12,7 @@ use std::alloc::{AllocError, Global};
 use std::io;
 use upon_engine::template::Template;
 use upon_needs::places::{CallPlace, calls};
+use upon_types::error::cause::Cause;
 use upon_types::error::{Error, ErrorKind};
 
 /// What templates may call, and whether a call failed so far.
@@ -92,10 +93,10 @@ impl<'k> CallCheck<'k> {
         let Some(fault) = fault_of(alloc, &self.callables, called, call.arguments)? else {
             return Ok(false);
         };
-        let reason = reason_of(alloc, fault, call.arguments)?;
+        let cause = cause_of(fault, call.arguments);
         if is_pictured {
             let at = Some((source, call.span));
-            let error = Error::from_parts(alloc, ErrorKind::Render, Some(reason.as_str()), at);
+            let error = Error::from_cause(alloc, ErrorKind::Render, cause, at);
             let hint = match fault {
                 CallFault::Unknown => callable_hint(alloc, &self.callables, called)?,
                 CallFault::Arguments(_) | CallFault::FormatterArguments => None,
@@ -103,25 +104,18 @@ impl<'k> CallCheck<'k> {
             let hint = hint.as_ref().map(|hint| hint.as_str());
             report_hinted(alloc, &error.with_name(alloc, name), hint, err);
         } else {
+            let reason = cause.text(alloc)?;
             let _ = writeln!(err, "upon-tool: {name}: {called}: {reason}");
         }
         Ok(true)
     }
 }
 
-// What an error says of a call that has so many arguments.
-fn reason_of(alloc: Global, fault: CallFault, given: usize) -> Result<String, AllocError> {
-    let reason = match fault {
-        CallFault::Unknown => return String::from_str(alloc, "unknown function"),
-        CallFault::Arguments(expected) => {
-            format!(in alloc; "function expects {expected} arguments, {given} provided")
-        }
-        CallFault::FormatterArguments => {
-            format!(in alloc; "formatter expects 1 argument, {given} provided")
-        }
-    };
-    match reason {
-        Ok(reason) => Ok(reason),
-        Err(_) => Err(AllocError),
+// Why a call fails that has so many arguments.
+fn cause_of(fault: CallFault, given: usize) -> Cause {
+    match fault {
+        CallFault::Unknown => Cause::UnknownFunction,
+        CallFault::Arguments(expected) => Cause::FunctionExpects(expected, given),
+        CallFault::FormatterArguments => Cause::FormatterExpects(given),
     }
 }

@@ -151,11 +151,11 @@ pub(crate) fn report_hinted<E: Write>(alloc: Global, error: &Error, hint: Option
     };
 }
 
-// What an error is, with its picture, ended by a newline; and a hint, if one is given or is there for its reason.
+// What an error is, with its picture, ended by a newline; and a hint, if one is given or is there for its cause.
 fn told(alloc: Global, error: &Error, hint: Option<&str>) -> Result<String, AllocError> {
     let text = error.pretty(alloc)?;
     let mut told = shown(alloc, text.as_str())?;
-    if let Some(hint) = hint.or(hint_of(error.reason().unwrap_or_default(), text.as_str())) {
+    if let Some(hint) = hint.or(hint_of(error)) {
         told.push_str("   = hint: ")?;
         told.push_str(hint)?;
         told.push('\n')?;

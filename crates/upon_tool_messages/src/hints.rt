@@ -1,40 +1,37 @@
 // Hints below the picture of a fault: what is wanted here, for those who write what Jinja, Liquid, Handlebars or Go's
 // templates would take.
-use crate::picture::{marks_of, widths};
+use upon_types::error::Error;
+use upon_types::error::cause::{Cause, Wanted};
+use upon_types::types::Token;
 
-/// What is marked in a picture.
+/// What a fault marks in its line.
 #[derive(Clone, Copy)]
-pub(crate) struct Marked<'p> {
-    /// The text of the line before the marks.
-    pub(crate) before: &'p str,
-    /// The text above the marks.
-    pub(crate) text: &'p str,
-    /// The text from the marks on.
-    pub(crate) rest: &'p str,
+pub(crate) struct Marked<'e> {
+    /// The text of the line before the fault's span.
+    pub(crate) before: &'e str,
+    /// The text of the span, as far as it is in the line.
+    pub(crate) text: &'e str,
+    /// The text from the span on.
+    pub(crate) rest: &'e str,
 }
 
-/// Returns the hint for a fault of this reason and picture, if what is marked there looks like another language's.
-pub(crate) fn hint_of(reason: &str, picture: &str) -> Option<&'static str> {
-    if !is_hinted(reason) {
-        return None;
-    }
-    let marked = mark_in(picture)?;
-    match reason {
-        "unexpected character" => of_character(marked),
-        "invalid float literal" => Some("numbers are integers: write \"1.5\", a text"),
-        "expected keyword, found identifier" => of_block(marked),
-        "expected identifier, found pipe" => Some(OR),
-        "expected identifier, found open parenthesis" => Some(FOR),
-        "expected string, found identifier" => of_name(marked),
-        _ => of_token(reason, marked),
-    }
+/// Returns what an error marks in its line.
+pub(crate) fn marked_in(error: &Error) -> Option<Marked<'_>> {
+    let span = error.place()?;
+    let (before, rest) = error.marked_line()?;
+    let text = rest.get(..span.n.saturating_sub(span.m)).unwrap_or(rest);
+    Some(Marked { before, text, rest })
 }
 
-// Whether there are hints for this reason: no picture is looked at for another one.
-fn is_hinted(reason: &str) -> bool {
-    matches!(reason, "unexpected character" | "invalid float literal")
-        || reason.starts_with("unexpected keyword ")
-        || reason.contains(", found ")
+/// Returns the hint for an error, if what it marks looks like another language's.
+pub(crate) fn hint_of(error: &Error) -> Option<&'static str> {
+    match error.cause()? {
+        Cause::UnexpectedCharacter => of_character(marked_in(error)?),
+        Cause::InvalidFloat => Some("numbers are integers: write \"1.5\", a text"),
+        Cause::Expected(wanted, found) => of_expected(*wanted, *found, marked_in(error)?),
+        Cause::UnexpectedKeyword(word) => of_keyword(word.as_str()),
+        _ => None,
+    }
 }
 
 const COMPARES: &str = "there are no operators: functions compare, as in `{% if eq(a, b) %}`";
@@ -201,21 +198,41 @@ fn of_name(marked: Marked<'_>) -> Option<&'static str> {
     None
 }
 
-// The hint for a token that may not stand there.
-fn of_token(reason: &str, marked: Marked<'_>) -> Option<&'static str> {
-    if let Some(word) = reason.strip_prefix("unexpected keyword ") {
-        return if word == "`not`" {
-            Some(ONLY_IF)
-        } else {
-            Some(BLOCKS)
-        };
+// The hint for a keyword where a block's word or a value is wanted.
+fn of_keyword(word: &str) -> Option<&'static str> {
+    if word == "not" {
+        Some(ONLY_IF)
+    } else {
+        Some(BLOCKS)
     }
-    let (_, found) = reason.split_once(", found ")?;
+}
+
+// The hint for a token where something else is wanted.
+fn of_expected(wanted: Wanted, found: Token, marked: Marked<'_>) -> Option<&'static str> {
+    match wanted {
+        Wanted::Token(wanted) => of_pair(wanted, found, marked),
+        Wanted::Expression | Wanted::NameOrIndex => of_token(found, marked),
+    }
+}
+
+// The hint for a token where another one is wanted.
+fn of_pair(wanted: Token, found: Token, marked: Marked<'_>) -> Option<&'static str> {
+    match (wanted, found) {
+        (Token::Keyword, Token::Ident) => of_block(marked),
+        (Token::Ident, Token::Pipe) => Some(OR),
+        (Token::Ident, Token::OpenParen) => Some(FOR),
+        (Token::String, Token::Ident) => of_name(marked),
+        _ => of_token(found, marked),
+    }
+}
+
+// The hint for a token that may not stand there.
+fn of_token(found: Token, marked: Marked<'_>) -> Option<&'static str> {
     match found {
-        "open bracket" => Some("the first item is `a.0`, a member `a.name`"),
-        "open parenthesis" => of_call(marked),
-        "plus" | "minus" => Some(COMPUTES),
-        "identifier" | "keyword" => of_word(AFTER_VALUES.as_slice(), word_of(marked.rest)),
+        Token::OpenBracket => Some("the first item is `a.0`, a member `a.name`"),
+        Token::OpenParen => of_call(marked),
+        Token::Plus | Token::Minus => Some(COMPUTES),
+        Token::Ident | Token::Keyword => of_word(AFTER_VALUES.as_slice(), word_of(marked.rest)),
         _ => None,
     }
 }
@@ -248,39 +265,4 @@ fn word_of(text: &str) -> &str {
         Some(end) => text.get(..end).unwrap_or_default(),
         None => text,
     }
-}
-
-/// Returns what is marked in a picture.
-pub(crate) fn mark_in(picture: &str) -> Option<Marked<'_>> {
-    let mut last: Option<&str> = None;
-    for line in picture.lines() {
-        if let (Some(marked), Some(marks)) = (last, marks_of(line)) {
-            return mark_above(marked, marks);
-        }
-        last = Some(line);
-    }
-    None
-}
-
-// What is marked in a line of a picture by the marks below it.
-fn mark_above<'p>(line: &'p str, marks: &str) -> Option<Marked<'p>> {
-    let (_, text) = line.split_once(" | ")?;
-    let signs = marks.trim_start();
-    let column = marks.len().saturating_sub(signs.len());
-    let (before, rest) = text.split_at_checked(offset_of(text, column))?;
-    let width = signs.trim_end_matches('-').len();
-    let (text, _) = rest.split_at_checked(offset_of(rest, width))?;
-    Some(Marked { before, text, rest })
-}
-
-// The offset of a column in a line of a picture.
-fn offset_of(text: &str, column: usize) -> usize {
-    let mut at = 0usize;
-    for (offset, letter) in text.char_indices() {
-        if at >= column {
-            return offset;
-        }
-        at = at.saturating_add(widths(letter).0);
-    }
-    text.len()
 }

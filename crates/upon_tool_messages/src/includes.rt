@@ -9,6 +9,7 @@ use std::alloc::{AllocError, Global};
 use std::io;
 use upon_engine::template::Template;
 use upon_needs::places::{IncludePlace, counts, include_places};
+use upon_types::error::cause::Cause;
 use upon_types::error::{Error, ErrorKind};
 use upon_types::types::Span;
 
@@ -56,8 +57,8 @@ fn show_include<E: io::Write>(
 )
     requires { LiesIn source.now place.span }
 {
-    let reason = Some("unknown template");
-    let error = Error::from_parts(alloc, ErrorKind::Render, reason, Some((source, place.span)));
+    let at = Some((source, place.span));
+    let error = Error::from_cause(alloc, ErrorKind::Render, Cause::UnknownTemplate, at);
     report_include(
         alloc,
         library,

@@ -15,6 +15,7 @@ use upon_engine::template::Template;
 use upon_needs::places::include_places;
 use upon_tool_io::files::ReadFault;
 use upon_types::error::Error;
+use upon_types::error::cause::Cause;
 use upon_types::types::Span;
 
 /// Why a file is no template.
@@ -175,7 +176,8 @@ pub(crate) fn missing_include<'n>(
     engine: &'n Engine<'_>,
     error: &Error,
 ) -> Result<Option<&'n str>, AllocError> {
-    if error.reason() != Some("unknown template") {
+    // A source of templates refuses by a text, which has no cause.
+    if !matches!(error.cause(), Some(Cause::UnknownTemplate) | None) {
         return Ok(None);
     }
     let (Some(name), Some(span)) = (error.template_name(), error.place()) else {

@@ -1,10 +1,10 @@
 // Hints below the pictures of errors that say that a name is not there: which names there are that are near to it.
-ghost use Rattle.std.specs.Prelude.{◌≡◌, [], None, IsOk, Ok, false};
+ghost use Rattle.std.specs.Prelude.{◌≡◌, None, IsOk, Ok};
 ghost use Rattle.upon_types.specs.Error.{fault_of};
 ghost use Rattle.upon_tool_messages.specs.Gone.{IsReaderGone};
 
 use crate::failure::report_hinted;
-use crate::hints::{Marked, mark_in};
+use crate::hints::{Marked, marked_in};
 use crate::judge::Declared;
 use crate::known::Known;
 use crate::library::{Library, missing_include};
@@ -14,6 +14,7 @@ use upon_engine::engine::Engine;
 use upon_near::said::{names_text, near_text};
 use upon_needs::needs::needs_of;
 use upon_types::error::Error;
+use upon_types::error::cause::Cause;
 use upon_types::value::Value;
 use upon_types::value::look::entry;
 
@@ -60,27 +61,6 @@ fn say<E: Write>(
     }
 }
 
-// The reasons for which names are looked up.
-const NO_VARIABLE: &str = "not found in this scope";
-
-const NO_MEMBER: &str = "not found in map";
-
-const NO_FUNCTION: &str = "unknown function";
-
-const NO_CALLABLE: &str = "unknown formatter or function";
-
-const NO_TEMPLATE: &str = "unknown template";
-
-// Whether an error of this reason says that a name is not there.
-fn is_of_name(reason: &str) -> bool
-    ensures { reason.now ≡ [] → result ≡ false }
-{
-    matches!(
-        reason,
-        NO_VARIABLE | NO_MEMBER | NO_FUNCTION | NO_CALLABLE | NO_TEMPLATE
-    )
-}
-
 // Which names there are in place of the one that an error marks, if some are near.
 fn near_hint(
     alloc: Global,
@@ -90,26 +70,37 @@ fn near_hint(
 ) -> Result<Option<String>, AllocError>
     ensures { (fault_of error.now).reason ≡ None → result ≡ Ok None }
 {
-    let reason = error.reason().unwrap_or_default();
-    if !is_of_name(reason) {
-        return Ok(None);
+    match (error.reason(), error.cause()) {
+        (None, _) => Ok(None),
+        (Some(_), Some(cause)) => near_name(alloc, engine, known, error, cause),
+        // A source gives no template of a name.
+        (Some(_), None) => of_include(alloc, engine, known.library, error),
     }
-    let picture = error.pretty(alloc)?;
-    let Some(marked) = mark_in(picture.as_str()) else {
+}
+
+// The same of an error of this cause.
+fn near_name(
+    alloc: Global,
+    engine: &Engine<'_>,
+    known: &Known<'_>,
+    error: &Error,
+    cause: &Cause,
+) -> Result<Option<String>, AllocError> {
+    let Some(marked) = marked_in(error) else {
         return Ok(None);
     };
-    match reason {
-        NO_VARIABLE => of_variable(alloc, engine, known, error, marked.text),
-        NO_MEMBER => of_member(alloc, engine, known, error, marked),
-        NO_FUNCTION => {
+    match cause {
+        Cause::NotInScope => of_variable(alloc, engine, known, error, marked.text),
+        Cause::NotInMap => of_member(alloc, engine, known, error, marked),
+        Cause::UnknownFunction => {
             let functions = Declared {
                 has_verbatim: false,
                 ..known.library.callables()
             };
             callable_hint(alloc, &functions, marked.text)
         }
-        NO_CALLABLE => callable_hint(alloc, &known.library.callables(), marked.text),
-        NO_TEMPLATE => of_include(alloc, engine, known.library, error),
+        Cause::UnknownCallable => callable_hint(alloc, &known.library.callables(), marked.text),
+        Cause::UnknownTemplate => of_include(alloc, engine, known.library, error),
         _ => Ok(None),
     }
 }

@@ -39,8 +39,8 @@ pub fn shown(alloc: Global, text: &str) -> Result<String, AllocError> {
     Ok(shown)
 }
 
-/// Returns the blanks and marks of a line of a picture, if it has marks.
-pub(crate) fn marks_of(line: &str) -> Option<&str> {
+// The blanks and marks of a line of a picture, if it has marks.
+fn marks_of(line: &str) -> Option<&str> {
     let (margin, marks) = line.split_once(" | ")?;
     let is_marked = margin.trim().is_empty() && marks.trim_start().starts_with('^');
     if is_marked { Some(marks) } else { None }
@@ -64,8 +64,8 @@ fn push_letter(letter: char, shown: &mut String) -> Result<(), AllocError> {
     }
 }
 
-/// Returns how many columns a letter has in a picture, and as it is shown.
-pub(crate) fn widths(letter: char) -> (usize, usize) {
+// How many columns a letter has in a picture, and as it is shown.
+fn widths(letter: char) -> (usize, usize) {
     match letter.width() {
         Some(width) => (width, width),
         None if letter == '\t' => (1, 1),

@@ -1,5 +1,5 @@
 -- A file that ends on each value of a shape, over the texts of a folder.
-use Rattle.std.proofs.Common.{arith, ◌≡◌, ◌∙◌, ◌∷◌, ◌++◌, [], ℕ, List, Bool, Bor, Option, sym, ap, subst}
+use Rattle.std.proofs.Common.{arith, ◌≡◌, ◌∙◌, ◌∷◌, ◌++◌, [], ℕ, List, Bool, Bor, Option, ap, subst}
 use Rattle.std.specs.List.{All}
 use Rattle.std.proofs.lemmas.List.{map-append}
 use Rattle.upon_shape_spec.specs.Shape.{Shape}
@@ -17,10 +17,8 @@ one_after folder file = map-append (λ pair. (pair.0.now, pair.1.now)) folder (f
 
 pub file_fits : (escape : Option Escape) (standard : Bool) (asked : Asked) (folder given held : List (Bor (List ℕ) × Bor (List ℕ))) (file : Bor (List ℕ) × Bor (List ℕ)) (s : Shape) (names : List (Bor (List ℕ)))
     → asked ≡ asked_of escape standard → given ≡ held → held ≡ folder ++ file ∷ [] → names ≡ file.0 ∷ []
-    → All (λ name. EndsOnEach (filled asked (lent_pairs given)) name s) (texts names) → FileFits escape standard (lent_pairs folder) s file.0.now
+    → All (λ name. EndsOnEach (filled asked (lent_pairs given)) name s) (texts names) → FileFits escape standard (lent_pairs folder) s file.0.now file.1.now
 file_fits escape standard asked folder given held file s names same lent is named ends =
-    let one = subst (λ names. All (λ name. EndsOnEach (filled asked (lent_pairs given)) name s) (texts names)) named ends 0 [] (omega arith) in (
-      file.1.now,
-      subst (λ sources. EndsOnEach (filled (asked_of escape standard) sources) file.0.now s) (ap lent_pairs (lent ∙ is) ∙ one_after folder file)
-          (subst (λ asked. EndsOnEach (filled asked (lent_pairs given)) file.0.now s) same one),
-    )
+    let one = subst (λ names. All (λ name. EndsOnEach (filled asked (lent_pairs given)) name s) (texts names)) named ends 0 [] (omega arith) in
+    subst (λ sources. EndsOnEach (filled (asked_of escape standard) sources) file.0.now s) (ap lent_pairs (lent ∙ is) ∙ one_after folder file)
+    (subst (λ asked. EndsOnEach (filled asked (lent_pairs given)) file.0.now s) same one)

@@ -5,3 +5,4 @@ pub mod Refused
 pub mod Sent
 pub mod Statuses
 pub mod Ending
+pub mod FolderReads

@@ -1,5 +1,5 @@
 -- Texts that are refused, and texts that are right.
-use Rattle.std.proofs.Common.{arith, ◌≡◌, ◌⊎◌, ◌↔◌, ◌<◌, ◌≤◌, ◌==◌, ◌∙◌, ◌∷◌, [], length, ℕ, List, Bool, true, false, Bor, Contains, Option, Some, None, Result, Ok, Err, IfErr, refl, sym, ap, subst, inl, inr}
+use Rattle.std.proofs.Common.{arith, ◌≡◌, ◌⊎◌, ◌↔◌, ◌<◌, ◌≤◌, ◌==◌, ◌∙◌, ◌∷◌, [], length, ℕ, List, Bool, true, false, Bor, Contains, refl, sym, ap, subst, inl, inr}
 use Rattle.std.proofs.lemmas.Bool.{eqb-true}
 use Rattle.upon_types.specs.Error.{fault_of}
 use Rattle.upon_types.specs.Fault.{syntax, out_of_memory, fault_with_name, OrMemory}

@@ -28,8 +28,8 @@ asked_of escape standard = record {
   limits = record { steps = None; output = None; values = None };
 }
 
--- a template of a name has a text that ends without a fault on each value of a shape, but that includes may be too deep
--- one inside another, where an engine holds the texts of a folder and then this one
-abbrev pub FileFits : Option Escape → Bool → List (List ℕ × List ℕ) → Shape → List ℕ → Type 0
-FileFits escape standard folder s name =
-    (text : List ℕ) × EndsOnEach (filled (asked_of escape standard) (folder ++ (name, text) ∷ [])) name s
+-- a template of a name and text ends without a fault on each value of a shape, but that includes may be too deep one
+-- inside another, where an engine holds the texts of a folder and then this one
+abbrev pub FileFits : Option Escape → Bool → List (List ℕ × List ℕ) → Shape → List ℕ → List ℕ → Type 0
+FileFits escape standard folder s name text =
+    EndsOnEach (filled (asked_of escape standard) (folder ++ (name, text) ∷ [])) name s

@@ -41,7 +41,7 @@ pub fn fits<E: Write>(
     err: &mut E,
 ) -> Result<bool, AllocError>
     ensures { IfOk result (λ fits. fits ≡ true → FileFits on.entry.escape on.entry.standard
-        (lent_pairs on.entry.folder.now) (shape_view on.entry.shape.now) file.entry.0.now) }
+        (lent_pairs on.entry.folder.now) (shape_view on.entry.shape.now) file.entry.0.now file.entry.1.now) }
 {
     let sources = with_file(alloc, on.folder, file)?;
     let options = options_of(on.escape, on.standard);

@@ -7,11 +7,12 @@ use crate::progress::Waiting;
 use crate::rendering::explain;
 use std::alloc::{AllocError, Global};
 use std::io::Write;
-use std::rt::Files;
 use std::time::Clock;
 use upon_engine::engine::Engine;
 use upon_engine::texts::{AnyEngine, EngineTexts};
 use upon_tool_io::files::joined;
+use upon_tool_io::sources::Sources;
+use upon_tool_io::targets::Targets;
 use upon_tool_many::build::{Build, BuildFault, build_folder};
 use upon_tool_many::each::{Each, EachFault, render_each};
 use upon_tool_many::pages::{DonePage, PageEnd, PageFault, is_any_failed};
@@ -21,8 +22,9 @@ use upon_tool_messages::library::{Library, Refusal, report_refusal};
 use upon_types::value::Value;
 
 /// Renders a template for each item of a list of a value, says what is wrong, and returns the status.
-pub fn show_each<R: Files + Clock + AllocGlobal, E: Write>(
+pub fn show_each<R: Sources + Clock + AllocGlobal, T: Targets, E: Write>(
     rt: &R,
+    targets: &mut T,
     engine: &Engine<'_>,
     library: &Library,
     value: Value,
@@ -31,7 +33,8 @@ pub fn show_each<R: Files + Clock + AllocGlobal, E: Write>(
     err: &mut E,
 ) -> u8
     ensures range { result ≤ 2 }
-    ensures well { EachIsWell (⟦<AnyEngine as EngineTexts>⟧.texts engine.now) (view value) asked.now result }
+    ensures well { EachIsWell (R.world rt.now) (⟦<AnyEngine as EngineTexts>⟧.texts engine.now) (view value) asked.now
+        result (T.written targets.old) (T.written targets.new) }
 {
     let alloc = rt.alloc();
     let known = Known {
@@ -40,7 +43,7 @@ pub fn show_each<R: Files + Clock + AllocGlobal, E: Write>(
         page: None,
     };
     let mut waiting = Waiting::new(rt, err, is_terminal);
-    let made = render_each(rt, engine, asked, value, &mut waiting);
+    let made = render_each(rt, targets, engine, asked, value, &mut waiting);
     drop(waiting);
     match made {
         Ok(done) => show_done(alloc, engine, &known, asked.out, done, err),
@@ -49,8 +52,9 @@ pub fn show_each<R: Files + Clock + AllocGlobal, E: Write>(
 }
 
 /// Builds a folder on a value, says what is wrong, and returns the status.
-pub fn show_build<R: Files + Clock + AllocGlobal + Clone + Drop, E: Write>(
+pub fn show_build<R: Sources + Clock + AllocGlobal, T: Targets, E: Write>(
     rt: &R,
+    targets: &mut T,
     engine: &Engine<'_>,
     library: &Library,
     value: &Value,
@@ -59,7 +63,8 @@ pub fn show_build<R: Files + Clock + AllocGlobal + Clone + Drop, E: Write>(
     err: &mut E,
 ) -> u8
     ensures range { result ≤ 2 }
-    ensures well { BuildIsWell (⟦<AnyEngine as EngineTexts>⟧.texts engine.now) (view value.now) asked.now result }
+    ensures well { BuildIsWell (R.world rt.now) (⟦<AnyEngine as EngineTexts>⟧.texts engine.now) (view value.now)
+        asked.now result (T.written targets.old) (T.written targets.new) }
 {
     let alloc = rt.alloc();
     let known = Known {
@@ -68,7 +73,7 @@ pub fn show_build<R: Files + Clock + AllocGlobal + Clone + Drop, E: Write>(
         page: asked.layout,
     };
     let mut waiting = Waiting::new(rt, err, is_terminal);
-    let made = build_folder(rt, engine, asked, value, &mut waiting);
+    let made = build_folder(rt, targets, engine, asked, value, &mut waiting);
     drop(waiting);
     match made {
         Ok(done) => show_done(alloc, engine, &known, asked.out, done, err),

@@ -2,6 +2,10 @@
 -- first tag and of its last, and which branches it may have.
 use Rattle.std.specs.Prelude.{ℕ, List, [], ◌∷◌, ◌++◌, Bool, true, false, Option, Some, None, if◌then◌else◌, bytes_eq, codes}
 use Rattle.upon_types.specs.declared.types.Span.{Span}
+use Rattle.upon_types.specs.declared.types.block.BlockKind.{BlockKind}
+use Rattle.upon_types.specs.declared.types.block.BlockKind.TheVariants.{If, For, With}
+use Rattle.upon_types.specs.declared.types.block.Closing.{Closing}
+use Rattle.upon_types.specs.declared.types.block.Closing.TheVariants.{ElseIf, Else, End}
 use Rattle.upon_types.specs.Path.{Ident, LoopVars, item, key_value}
 
 -- a kind of block
@@ -67,3 +71,15 @@ abbrev pub kind_with : (Block → List ℕ) → List ℕ → Option Block
 kind_with word_of word = if bytes_eq word (word_of if_block) then Some if_block else
     (if bytes_eq word (word_of for_block) then Some for_block else
     (if bytes_eq word (word_of with_block) then Some with_block else None))
+
+-- the kind of block that one of the code is
+abbrev pub block_kind : BlockKind → Block
+block_kind If = if_block
+block_kind For = for_block
+block_kind With = with_block
+
+-- the words that begin a closing tag
+abbrev pub closing_words : Closing → List ℕ
+closing_words ElseIf = codes "else if"
+closing_words Else = codes "else"
+closing_words (End kind) = end_word (block_kind kind)

@@ -17,6 +17,8 @@ pub mod Token
 pub mod Path
 pub mod Expression
 pub mod BlockKinds
+pub mod ValueKind
+pub mod Cause
 pub mod Tree
 pub mod TreeSpans
 pub mod Name

@@ -1,19 +1,24 @@
 // Faults, and the texts that report each.
-ghost use Rattle.std.specs.Prelude.{◌≡◌, ◌⊎◌, Some, None, IsSome, IfOk, option_map, string_bytes, ◌↔◌};
+ghost use Rattle.std.specs.Prelude.{◌≡◌, ◌⊎◌, ◌++◌, Some, None, IsSome, IfOk, option_map, option_and_then, string_bytes, ◌↔◌};
 ghost use Rattle.std.specs.Option.{ForSome};
 ghost use Rattle.upon_types.specs.Span.{LiesIn};
 ghost use Rattle.upon_types.specs.Fault.{io, format, line, fault_of_kind, out_of_memory, fault_at, fault_with_name, OrMemory};
-ghost use Rattle.upon_types.specs.Error.{error_kind, fault_of, io_error_in, kind_of, picture_of, KeepsKind};
+ghost use Rattle.upon_types.specs.Cause.{cause_text};
+ghost use Rattle.upon_types.specs.Error.{cause_of, error_kind, fault_of, io_error_in, kind_of, picture_of, reason_cause, reason_words, KeepsCause, KeepsKind};
 ghost use Rattle.upon_types.specs.Picture.{picture};
 ghost use Rattle.upon_types.specs.Pretty.{pretty};
 
 use crate::types::Span;
+use cause::Cause;
 use excerpt::Excerpt;
+use reason::{Reason, Said};
 use std::alloc::{AllocError, AllocFailed, Global};
 use std::{fmt, io};
 
+pub mod cause;
 mod excerpt;
 mod pretty;
+pub mod reason;
 
 /// What kind of fault an error is.
 #[derive(Debug, Drop)]
@@ -45,7 +50,7 @@ pub struct Error {
 #[derive(Debug, Drop)]
 struct Details {
     name: Option<String>,
-    reason: Option<String>,
+    reason: Option<Said>,
     span: Option<Span>,
     excerpt: Option<Excerpt>,
 }
@@ -70,6 +75,7 @@ impl Error {
             (option_map (λ shown. (shown.0.now, shown.1)) at.entry))
             (fault_of result) }
         ensures kind { KeepsKind kind result }
+        ensures cause { KeepsCause None result }
     {
         match copied(alloc, reason) {
             Ok(reason) => Error::from_owned_parts(alloc, kind, reason, at),
@@ -94,6 +100,80 @@ impl Error {
             (fault_of result) }
         ensures kind { KeepsKind kind result }
         ensures bare { reason ≡ None → at.entry ≡ None → fault_of result ≡ fault_of_kind (kind_of kind) }
+        ensures cause { KeepsCause None result }
+    {
+        match reason {
+            Some(text) => Error::saying(alloc, kind, Some(Said::of_text(text)), at),
+            None => Error::saying(alloc, kind, None, at),
+        }
+    }
+
+    /// Creates the error of a kind with this cause, and a span in a source, if it is given. It has no template's name.
+    /// If there is no memory for what it says beside the kind, the kind is `OutOfMemory`.
+    pub fn from_cause(
+        alloc: Global,
+        kind: ErrorKind,
+        cause: Cause,
+        at: Option<(&str, Span)>,
+    ) -> Error
+        requires { ForSome at (λ shown. LiesIn shown.0.now shown.1) }
+        ensures fault { OrMemory
+            (fault_at
+            (kind_of kind)
+            (Some (cause_text cause))
+            (option_map (λ shown. (shown.0.now, shown.1)) at.entry))
+            (fault_of result) }
+        ensures kind { KeepsKind kind result }
+        ensures cause { KeepsCause (Some cause) result }
+    {
+        match Said::of_cause(alloc, cause) {
+            Ok(said) => Error::saying(alloc, kind, Some(said), at),
+            Err(e) => e.into(),
+        }
+    }
+
+    /// Creates the error of a kind that says this, at a span in a source, if it is given, as
+    /// [`Error::from_owned_parts`] and [`Error::from_cause`] do.
+    pub fn from_reason(
+        alloc: Global,
+        kind: ErrorKind,
+        reason: Reason,
+        at: Option<(&str, Span)>,
+    ) -> Error
+        requires { ForSome at (λ shown. LiesIn shown.0.now shown.1) }
+        ensures fault { OrMemory
+            (fault_at
+            (kind_of kind)
+            (reason_words reason)
+            (option_map (λ shown. (shown.0.now, shown.1)) at.entry))
+            (fault_of result) }
+        ensures kind { KeepsKind kind result }
+        ensures cause { KeepsCause (reason_cause reason) result }
+    {
+        match reason {
+            Reason::None => Error::from_owned_parts(alloc, kind, None, at),
+            Reason::Text(text) => Error::from_owned_parts(alloc, kind, Some(text), at),
+            Reason::Cause(cause) => Error::from_cause(alloc, kind, Box::into_inner(cause), at),
+        }
+    }
+
+    // The error of a kind that says this, at a span in a source, if they are given.
+    fn saying(
+        alloc: Global,
+        kind: ErrorKind,
+        reason: Option<Said>,
+        at: Option<(&str, Span)>,
+    ) -> Error
+        requires { ForSome at (λ shown. LiesIn shown.0.now shown.1) }
+        ensures fault { OrMemory
+            (fault_at
+            (kind_of kind)
+            (option_map (λ said. string_bytes said.text) reason)
+            (option_map (λ shown. (shown.0.now, shown.1)) at.entry))
+            (fault_of result) }
+        ensures kind { KeepsKind kind result }
+        ensures bare { reason ≡ None → at.entry ≡ None → fault_of result ≡ fault_of_kind (kind_of kind) }
+        ensures cause { KeepsCause (option_and_then (λ said. said.cause) reason) result }
     {
         if reason.is_none() && at.is_none() {
             return Error {
@@ -128,6 +208,7 @@ impl Error {
     pub fn with_name(self, alloc: Global, name: &str) -> Error
         ensures fault { OrMemory (fault_with_name name.now (fault_of self)) (fault_of result) }
         ensures kind { KeepsKind (error_kind self) result }
+        ensures cause { KeepsCause (cause_of self) result }
     {
         match self.named(alloc, name) {
             Ok(error) => error,
@@ -138,6 +219,7 @@ impl Error {
     fn named(self, alloc: Global, name: &str) -> std::result::Result<Error, AllocError>
         ensures fault { IfOk result (λ named. fault_of named ≡ fault_with_name name.now (fault_of self)) }
         ensures kind { IfOk result (λ named. error_kind named ≡ error_kind self) }
+        ensures cause { IfOk result (λ named. cause_of named ≡ cause_of self) }
     {
         let name = Some(String::from_str(alloc, name)?);
         let Error { kind, details } = self;
@@ -181,7 +263,22 @@ impl Error {
     pub fn reason(&self) -> Option<&str>
         ensures { option_map (λ reason. reason.now) result ≡ (fault_of self.now).reason }
     {
-        as_text(&self.details.as_ref()?.reason)
+        match &self.details.as_ref()?.reason {
+            Some(said) => Some(said.text.as_str()),
+            None => None,
+        }
+    }
+
+    /// Returns why there is a fault, if that is one of the engine's own rows. A text that a source, a function, a
+    /// formatter or serde gave is none.
+    pub fn cause(&self) -> Option<&Cause>
+        ensures cause { option_map (λ cause. cause.now) result ≡ cause_of self.now }
+        ensures reason { ForSome result (λ cause. (fault_of self.now).reason ≡ Some (cause_text cause.now)) }
+    {
+        match &self.details.as_ref()?.reason {
+            Some(said) => said.cause.as_ref(),
+            None => None,
+        }
     }
 
     /// Returns the span in the template's source where it lies, in bytes.
@@ -201,6 +298,17 @@ impl Error {
                 pretty::with_excerpt(alloc, &self.kind, self.template_name(), reason, excerpt)
             }
             _ => self.to_string(alloc),
+        }
+    }
+
+    /// Returns the line of the source in which the span begins: what is before the span, and what is from there on.
+    pub fn marked_line(&self) -> Option<(&str, &str)>
+        ensures { ForSome result (λ parts. option_map (λ picture. picture.line) (fault_of self.now).picture
+            ≡ Some (parts.0.now ++ parts.1.now)) }
+    {
+        match self.excerpt() {
+            Some(excerpt) => excerpt.line.as_str().split_at_checked(excerpt.before),
+            None => None,
         }
     }
 

@@ -6,6 +6,7 @@ use std::ops::Range;
 pub use token::Token;
 
 pub mod ast;
+pub mod block;
 pub mod token;
 
 /// A span in a template's source: the bytes from `m` on, up to `n` and without it.

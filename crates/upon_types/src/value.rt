@@ -1,6 +1,7 @@
 // The values that templates read and make.
 ghost use Rattle.std.specs.Prelude.{◌≡◌};
 ghost use Rattle.upon_types.specs.Val.{none_val, kind_word};
+ghost use Rattle.upon_types.specs.ValueKind.{kind_name};
 ghost use Rattle.upon_types.specs.View.{view};
 
 mod clone;
@@ -9,12 +10,14 @@ mod from;
 mod from_lists;
 mod from_maps;
 mod from_texts;
+pub mod kind;
 pub mod look;
 pub mod same;
 mod ser;
 
 pub use clone::{clone_entries, clone_items};
 pub use cow::ValueCow;
+use kind::ValueKind;
 use std::collections::BTreeMap;
 
 /// A value that a template can read or make.
@@ -35,18 +38,26 @@ pub enum Value {
 }
 
 impl Value {
+    /// Returns what kind of value it is.
+    pub fn kind(&self) -> ValueKind
+        ensures { kind_name result ≡ kind_word (view self.now) }
+    {
+        match self {
+            Value::None => ValueKind::None,
+            Value::Bool(_) => ValueKind::Bool,
+            Value::Integer(_) => ValueKind::Integer,
+            Value::String(_) => ValueKind::String,
+            Value::List(_) => ValueKind::List,
+            Value::Map(_) => ValueKind::Map,
+        }
+    }
+
     /// Returns what a message calls this kind of value.
     pub fn human(&self) -> &'static str
         ensures { result.now ≡ kind_word (view self.now) }
     {
-        match self {
-            Value::None => "none",
-            Value::Bool(_) => "bool",
-            Value::Integer(_) => "integer",
-            Value::String(_) => "string",
-            Value::List(_) => "list",
-            Value::Map(_) => "map",
-        }
+        let kind = self.kind();
+        kind.human()
     }
 }
 

@@ -64,7 +64,7 @@ fn with_picture(alloc: Global, source: &str, fault: Fault) -> Error
     ensures { OrMemory (fault_with_picture source.now (halt_fault fault)) (fault_of result) }
 {
     let kind = error_kind(fault.kind);
-    Error::from_owned_parts(alloc, kind, fault.reason, Some((source, fault.span)))
+    Error::from_reason(alloc, kind, fault.reason, Some((source, fault.span)))
 }
 
 // The kind of its error.

@@ -1,7 +1,12 @@
 // How far a rendering may go: how many steps its machine may take, how many bytes it may write, and how many bytes of
 // values it may make.
-ghost use Rattle.std.specs.Prelude.{◌≡◌, MatchOption, None};
+ghost use Rattle.std.specs.Prelude.{◌≡◌, ℕ, MatchOption, None};
+ghost use Rattle.upon_types.specs.Cause.{cause_text};
+ghost use Rattle.upon_types.specs.declared.error.cause.Cause.TheVariants.{LimitReached};
 ghost use Rattle.upon_vm.specs.Limits.{Exceeds, Leaves};
+ghost use Rattle.upon_vm.specs.Within.{limit_text};
+
+use upon_types::error::cause::Counted;
 
 /// How far a rendering may go. A limit that is `None` is not set.
 #[derive(Clone, Copy, Debug, PartialEq, Eq)]
@@ -41,6 +46,19 @@ pub enum Limit {
     Output,
     /// How many bytes of values.
     Values,
+}
+
+impl Limit {
+    /// Returns what it counts.
+    pub(crate) fn counted(self) -> Counted
+        ensures { (n : ℕ) → cause_text (LimitReached n result) ≡ limit_text self n }
+    {
+        match self {
+            Limit::Steps => Counted::Steps,
+            Limit::Output => Counted::Bytes,
+            Limit::Values => Counted::BytesOfValues,
+        }
+    }
 }
 
 /// Returns what is left of a limit after so many, or `None` if they are more than it.

@@ -10,6 +10,7 @@ use crate::failure::Failure;
 use crate::run::Ending;
 use std::alloc::{AllocError, Global};
 use upon_fmt::output::Output;
+use upon_types::error::cause::Cause;
 use upon_types::error::{self, Error, ErrorKind};
 
 /// Returns the result of a rendering, right after it: nothing, or the fault that is reported.
@@ -47,10 +48,7 @@ fn end_reported(alloc: Global, end: Ending, limit: usize) -> error::Result<()>
 fn depth_reached(alloc: Global, limit: usize) -> Error
     ensures { OrMemory (depth_reached limit) (fault_of result) }
 {
-    match format!(in alloc; "reached maximum include depth ({limit})") {
-        Ok(reason) => Error::from_owned_parts(alloc, ErrorKind::Render, Some(reason), None),
-        Err(_) => AllocError.into(),
-    }
+    Error::from_cause(alloc, ErrorKind::Render, Cause::TooDeep(limit), None)
 }
 
 // The fault of a failure.

@@ -35,6 +35,8 @@ use upon_fmt::fmt::Formatter;
 use upon_fmt::output::Output;
 use upon_lookup::source::ValueSource;
 use upon_render::stack::Stack;
+use upon_types::error::cause::Cause;
+use upon_types::error::reason::Reason;
 use upon_types::error::{self, Error};
 use upon_types::types::Span;
 use upon_vm_steps::callables::Callables;
@@ -57,16 +59,11 @@ fn limit_error(alloc: Global, running: Running, limit: Limit, count: usize, span
     requires { LiesIn running.program.source.now span }
     ensures { OrMemory (fault_in (active_of running.entry).running (limit_reached limit count span)) (fault_of result) }
 {
-    let reason = match limit {
-        Limit::Steps => format!(in alloc; "reached the limit of {count} steps"),
-        Limit::Output => format!(in alloc; "reached the limit of {count} bytes"),
-        Limit::Values => format!(in alloc; "reached the limit of {count} bytes of values"),
-    };
-    match reason {
-        Ok(reason) => {
+    match Box::new(alloc, Cause::LimitReached(count, limit.counted())) {
+        Ok(cause) => {
             let fault = Fault {
                 kind: FaultKind::Render,
-                reason: Some(reason),
+                reason: Reason::Cause(cause),
                 span,
             };
             in_template(alloc, running, fault)

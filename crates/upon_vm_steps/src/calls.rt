@@ -1,5 +1,5 @@
 // The calls of functions on operands, and their faults.
-ghost use Rattle.std.specs.Prelude.{◌≡◌, ◌∷◌, [], Err, length, slice_get};
+ghost use Rattle.std.specs.Prelude.{◌≡◌, ◌∷◌, [], Err, IfOk, length, slice_get};
 ghost use Rattle.upon_functions.specs.Says.{Says, misfit_of};
 ghost use Rattle.upon_types.specs.Answers.{Answer, wrong_type, out_of_range};
 ghost use Rattle.upon_types.specs.AstPath.{ident_of};
@@ -13,11 +13,13 @@ ghost use Rattle.upon_vm_steps.specs.Operands.{row};
 use crate::callables::{Callables, Called};
 use crate::depth::{DEPTH_LIMIT, fits};
 use crate::fault::{self, Halt};
-use std::alloc::Global;
+use std::alloc::{AllocError, Global};
 use std::slice;
 use upon_functions::function::{ArgError, CallError};
+use upon_types::error::cause::{Argument, Cause};
 use upon_types::types::Span;
 use upon_types::types::ast::Ident;
+use upon_types::types::ast::name::Name;
 use upon_types::value::{Value, ValueCow};
 
 /// Calls the function of a name on operands, and returns its value or its fault: of an argument at the argument, else
@@ -38,12 +40,8 @@ pub fn call<C: Callables>(
         (C.callables callables.now name.now.name)) }
 {
     match callables.call(alloc, name.name.as_str(), values) {
-        Called::Unknown => Err(fault::wrong(alloc, "unknown function", name.span)),
-        Called::Formatter => Err(fault::wrong(
-            alloc,
-            "expected function, found formatter",
-            name.span,
-        )),
+        Called::Unknown => Err(fault::wrong(alloc, Cause::UnknownFunction, name.span)),
+        Called::Formatter => Err(fault::wrong(alloc, Cause::FormatterFound, name.span)),
         Called::Function(answer) => report(alloc, answer, name, values, spans, whole),
     }
 }
@@ -149,7 +147,7 @@ fn argument_misfits(alloc: Global, name: &str, error: ArgError, value: &Value, s
     match error {
         ArgError::WrongType(word) => wrong_type(alloc, name, word, value, span),
         ArgError::OutOfRange(word) => match value {
-            Value::Integer(number) => number_out_of_range(alloc, name, word, number, span),
+            Value::Integer(number) => number_out_of_range(alloc, name, word, *number, span),
             _ => out_of_range(alloc, name, word, value, span),
         },
     }
@@ -159,23 +157,20 @@ fn argument_misfits(alloc: Global, name: &str, error: ArgError, value: &Value, s
 fn wrong_type(alloc: Global, name: &str, word: &str, value: &Value, span: Span) -> Halt
     ensures { IsHalt (argument_misfits name.now (wrong_type word.now) (view value.now) span) result }
 {
-    let kind = value.human();
-    fault::wrong_owned(
-        format!(in alloc; "function `{name}` expects {word} argument, found {kind}"),
-        span,
-    )
+    match argument_of(alloc, name, word) {
+        Ok(argument) => fault::wrong(alloc, Cause::WrongType(argument, value.kind()), span),
+        Err(_) => Halt::Memory,
+    }
 }
 
 // An argument is an integer that its type does not hold.
-fn number_out_of_range(alloc: Global, name: &str, word: &str, number: &i64, span: Span) -> Halt
-    ensures { IsHalt (argument_misfits name.now (out_of_range word.now) (int_val number.now) span) result }
+fn number_out_of_range(alloc: Global, name: &str, word: &str, number: i64, span: Span) -> Halt
+    ensures { IsHalt (argument_misfits name.now (out_of_range word.now) (int_val number) span) result }
 {
-    fault::wrong_owned(
-        format!(in alloc;
-            "function `{name}` expects {word} argument, but `{number}` is out of range"
-        ),
-        span,
-    )
+    match argument_of(alloc, name, word) {
+        Ok(argument) => fault::wrong(alloc, Cause::OutOfRange(argument, Some(number)), span),
+        Err(_) => Halt::Memory,
+    }
 }
 
 // Out of range, which only an integer can be.
@@ -184,8 +179,18 @@ fn out_of_range(alloc: Global, name: &str, word: &str, value: &Value, span: Span
     ensures { IsHalt (argument_misfits name.now (out_of_range word.now) (view value.now) span) result }
 {
     let _ = value;
-    fault::wrong_owned(
-        format!(in alloc; "function `{name}` expects {word} argument, but `` is out of range"),
-        span,
-    )
+    match argument_of(alloc, name, word) {
+        Ok(argument) => fault::wrong(alloc, Cause::OutOfRange(argument, None), span),
+        Err(_) => Halt::Memory,
+    }
+}
+
+// An argument of the function of a name, which expects this type.
+fn argument_of(alloc: Global, name: &str, word: &str) -> Result<Argument, AllocError>
+    ensures function { IfOk result (λ argument. argument.function ≡ name.now) }
+    ensures wanted { IfOk result (λ argument. argument.wanted ≡ word.now) }
+{
+    let function = Name::from_str(alloc, name)?;
+    let wanted = Name::from_str(alloc, word)?;
+    Ok(Argument { function, wanted })
 }

@@ -24,6 +24,7 @@ use std::slice;
 use upon_fmt::fmt::{self, Formatter};
 use upon_fmt::output::Output;
 use upon_lookup::value::Made;
+use upon_types::error::cause::Cause;
 use upon_types::types::Span;
 use upon_types::types::ast::Ident;
 use upon_types::value::{Value, ValueCow};
@@ -149,7 +150,7 @@ fn emit_unknown<W: Output>(alloc: Global, name: &Ident, out: &W) -> Result<(), H
     ensures { Emits result (W.given out.now) (W.given out.now) (nothing_but (unknown_callable name.now.span)) }
 {
     let _ = out;
-    Err(fault::wrong(alloc, "unknown formatter or function", name.span))
+    Err(fault::wrong(alloc, Cause::UnknownCallable, name.span))
 }
 
 // A function's value goes through the default formatter, whose fault lies at the whole.
@@ -233,7 +234,7 @@ fn give<W: Output>(f: &Formatter, end: fmt::Result, span: Span, out: &mut W) -> 
         Ok(()) => Ok(()),
         Err(error) => Err(Halt::Fault(Fault {
             kind: FaultKind::Format,
-            reason: error.message(),
+            reason: error.into_reason(),
             span,
         })),
     }

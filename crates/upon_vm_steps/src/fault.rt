@@ -1,10 +1,13 @@
 // Why an instruction is not carried out.
-ghost use Rattle.std.specs.Prelude.{◌≡◌, string_bytes};
+ghost use Rattle.std.specs.Prelude.{string_bytes};
+ghost use Rattle.upon_types.specs.Cause.{cause_text};
 ghost use Rattle.upon_lookup.specs.LookupFaults.{wrong};
 ghost use Rattle.upon_meaning_spec.specs.CallFaults.{formatter_expects, function_declined, function_expects};
-ghost use Rattle.upon_vm_steps.specs.Halt.{IsHalt, IsWrongHalt};
+ghost use Rattle.upon_vm_steps.specs.Halt.{IsHalt};
 
-use std::alloc::{AllocError, Global};
+use std::alloc::Global;
+use upon_types::error::cause::Cause;
+use upon_types::error::reason::Reason;
 use upon_types::types::Span;
 
 /// The kinds of faults that a running program meets.
@@ -22,7 +25,7 @@ pub enum FaultKind {
 #[derive(Drop)]
 pub struct Fault {
     pub kind: FaultKind,
-    pub reason: Option<String>,
+    pub reason: Reason,
     pub span: Span,
 }
 
@@ -37,23 +40,16 @@ pub enum Halt {
     Output,
 }
 
-/// Creates a fault of rendering with this reason, at this span.
+/// Creates a fault of rendering of this cause, at this span.
 #[cold]
 #[inline(never)]
-pub fn wrong(alloc: Global, reason: &str, span: Span) -> Halt
-    ensures { IsHalt (wrong reason.now span) result }
+pub fn wrong(alloc: Global, cause: Cause, span: Span) -> Halt
+    ensures { IsHalt (wrong (cause_text cause) span) result }
 {
-    wrong_owned(String::from_str(alloc, reason), span)
-}
-
-/// Does the same with a reason that was made for it, if it could be.
-pub fn wrong_owned(reason: Result<String, AllocError>, span: Span) -> Halt
-    ensures { IsWrongHalt reason span result }
-{
-    match reason {
-        Ok(reason) => Halt::Fault(Fault {
+    match Box::new(alloc, cause) {
+        Ok(cause) => Halt::Fault(Fault {
             kind: FaultKind::Render,
-            reason: Some(reason),
+            reason: Reason::Cause(cause),
             span,
         }),
         Err(_) => Halt::Memory,
@@ -64,20 +60,14 @@ pub fn wrong_owned(reason: Result<String, AllocError>, span: Span) -> Halt
 pub fn function_expects(alloc: Global, expected: usize, given: usize, span: Span) -> Halt
     ensures { IsHalt (function_expects expected given span) result }
 {
-    wrong_owned(
-        format!(in alloc; "function expects {expected} arguments, {given} provided"),
-        span,
-    )
+    wrong(alloc, Cause::FunctionExpects(expected, given), span)
 }
 
 /// Returns the halt of a formatter that is given another number of values than one.
 pub fn formatter_expects(alloc: Global, given: usize, span: Span) -> Halt
     ensures { IsHalt (formatter_expects given span) result }
 {
-    wrong_owned(
-        format!(in alloc; "formatter expects 1 argument, {given} provided"),
-        span,
-    )
+    wrong(alloc, Cause::FormatterExpects(given), span)
 }
 
 /// Returns the halt of a function that refuses, with this text.
@@ -86,7 +76,7 @@ pub fn function_declined(text: String, span: Span) -> Halt
 {
     Halt::Fault(Fault {
         kind: FaultKind::Function,
-        reason: Some(text),
+        reason: Reason::Text(text),
         span,
     })
 }

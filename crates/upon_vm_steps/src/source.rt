@@ -5,13 +5,23 @@ ghost use Rattle.upon_meaning_spec.specs.RenderFaults.{TemplatesLie};
 ghost use Rattle.upon_vm_steps.specs.Program.{Resolved};
 
 use upon_compiler::types::program::Instr;
-use upon_lookup::source::SourceError;
 
 /// A compiled template that is lent for a rendering: its text and its instructions.
 #[derive(Clone, Copy)]
 pub struct Program<'r> {
     pub source: &'r str,
     pub instrs: &'r [Instr],
+}
+
+/// Why there is no program of a name.
+#[derive(Debug, Drop)]
+pub enum NoProgram {
+    /// The engine's table has no template of the name.
+    Unknown,
+    /// A source refuses, with this text.
+    Refused(String),
+    /// There was no memory.
+    Memory,
 }
 
 /// What gives templates by their names.
@@ -33,7 +43,7 @@ pub trait ProgramSource<'r>: Drop {
     ghost templates_lie: { (s : Self) → TemplatesLie (resolve s) };
 
     /// Returns the template of this name.
-    fn program(&mut self, name: &str) -> Result<Program<'r>, SourceError>
+    fn program(&mut self, name: &str) -> Result<Program<'r>, NoProgram>
         ensures same { holds self.new ≡ holds self.old }
         ensures stays { resolve self.new ≡ resolve self.old }
         ensures resolved { Resolved result (template_state self.new)
@@ -53,7 +63,7 @@ impl<'r, S: ProgramSource<'r>> ProgramSource<'r> for &mut S {
 
     ghost templates_lie = { λ s. S.templates_lie s.now };
 
-    fn program(&mut self, name: &str) -> Result<Program<'r>, SourceError> {
+    fn program(&mut self, name: &str) -> Result<Program<'r>, NoProgram> {
         (**self).program(name)
     }
 }

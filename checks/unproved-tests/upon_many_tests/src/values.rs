@@ -1,4 +1,4 @@
-// The values of pages, and what a file holds already.
+// The values of pages, and how these end.
 use std::alloc::{AllocError, Global};
 use std::test::Fail;
 use upon::{Engine, Value};
@@ -6,7 +6,6 @@ use upon_json::context::context;
 use upon_tool_many::pages::is_failed;
 use upon_tool_many::pages::PageEnd;
 use upon_tool_many::values::{item_value, content_value, split};
-use upon_tool_many::written::holds;
 
 // The value of a text of JSON.
 fn value(alloc: Global, json: &str) -> Result<Value, Fail> {
@@ -70,23 +69,6 @@ fn contents(rt: HostRuntime) -> Result<(), Fail> {
         let found = text(alloc, "{{ title }}[{{ content }}]", &framed)?;
         let wanted = format!(in alloc; "T[{page}]")?;
         assert_eq!(rt; found.as_str(), wanted.as_str());
-    }
-    Ok(())
-}
-
-#[test]
-fn held(rt: HostRuntime) -> Result<(), Fail> {
-    let alloc = rt.alloc();
-    for (file, bytes, wanted) in [
-        ("", "", true),
-        ("abc", "abc", true),
-        ("ab", "abc", false),
-        ("abc", "ab", false),
-        ("abc", "abd", false),
-        ("", "a", false),
-    ] {
-        let mut reader = file.as_bytes();
-        assert_eq!(rt; holds(alloc, &mut reader, bytes.as_bytes())?, wanted, "{file} {bytes}");
     }
     Ok(())
 }

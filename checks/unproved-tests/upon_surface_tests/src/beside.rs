@@ -3,6 +3,8 @@ use std::alloc::{AllocError, Global};
 use std::collections::BTreeMap;
 use std::io;
 use std::test::Fail;
+use upon::error::cause::Cause;
+use upon::error::reason::Reason;
 use upon::error::{Error, ErrorKind};
 use upon::fmt;
 use upon::fmt::Formatter;
@@ -224,6 +226,56 @@ pub fn from_owned_parts(
     at: Option<(&str, Span)>,
 ) -> Error {
     Error::from_owned_parts(alloc, kind, reason, at)
+}
+
+pub fn from_cause(
+    alloc: Global,
+    kind: ErrorKind,
+    cause: Cause,
+    at: Option<(&str, Span)>,
+) -> Error {
+    Error::from_cause(alloc, kind, cause, at)
+}
+
+pub fn from_reason(
+    alloc: Global,
+    kind: ErrorKind,
+    reason: Reason,
+    at: Option<(&str, Span)>,
+) -> Error {
+    Error::from_reason(alloc, kind, reason, at)
+}
+
+pub fn cause(error: &Error) -> Option<&Cause> {
+    error.cause()
+}
+
+pub fn marked_line(error: &Error) -> Option<(&str, &str)> {
+    error.marked_line()
+}
+
+pub fn words(alloc: Global, cause: &Cause) -> std::result::Result<String, AllocError> {
+    cause.text(alloc)
+}
+
+pub fn into_reason(error: fmt::Error) -> Reason {
+    error.into_reason()
+}
+
+#[test]
+fn causes(rt: HostRuntime) -> std::result::Result<(), Fail> {
+    let alloc = rt.alloc();
+    let at = Some(("a b", Span { m: 2, n: 3 }));
+    let error = from_cause(alloc, ErrorKind::Render, Cause::NotInMap, at);
+    assert!(rt; matches!(cause(&error), Some(Cause::NotInMap)));
+    assert_eq!(rt; error.reason(), Some("not found in map"));
+    assert_eq!(rt; words(alloc, &Cause::NotInMap)?.as_str(), "not found in map");
+    assert!(rt; marked_line(&error) == Some(("a ", "b")));
+    let error = from_reason(alloc, ErrorKind::Render, Reason::None, None);
+    assert!(rt; cause(&error).is_none() && marked_line(&error).is_none());
+    let error = from_owned_parts(alloc, ErrorKind::Render, Some(String::from_str(alloc, "no")?), None);
+    assert!(rt; cause(&error).is_none());
+    Ok(())
 }
 
 #[test]

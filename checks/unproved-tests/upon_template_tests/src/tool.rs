@@ -6,6 +6,7 @@ pub mod contexts;
 pub mod data;
 pub mod hints;
 pub mod libraries;
+pub mod memory;
 pub mod names;
 pub mod near;
 pub mod renderings;

@@ -21,6 +21,30 @@ pub enum Shape {
     Paren,
 }
 
+impl Shape {
+    /// Returns the token that opens such brackets.
+    pub fn open_token(self) -> Token
+        ensures { result ≡ open_token self }
+    {
+        match self {
+            Shape::Bracket => Token::OpenBracket,
+            Shape::Brace => Token::OpenBrace,
+            Shape::Paren => Token::OpenParen,
+        }
+    }
+
+    /// Returns the token that closes them.
+    pub fn close_token(self) -> Token
+        ensures { result ≡ close_token self }
+    {
+        match self {
+            Shape::Bracket => Token::CloseBracket,
+            Shape::Brace => Token::CloseBrace,
+            Shape::Paren => Token::CloseParen,
+        }
+    }
+}
+
 /// What a token does to the open brackets.
 #[derive(Clone, Copy, PartialEq, Eq)]
 pub enum BracketEffect {

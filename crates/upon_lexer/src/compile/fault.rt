@@ -1,10 +1,11 @@
-// What can be wrong with the tokens of a text, and the words that report it.
+// What can be wrong with the tokens of a text, and the cause that reports it.
 ghost use Rattle.std.specs.Prelude.{◌≡◌};
+ghost use Rattle.upon_types.specs.Cause.{cause_text};
 ghost use Rattle.upon_lexer.specs.Reasons.{reason_of};
-ghost use Rattle.upon_lexer.specs.declared.compile.fault.SyntaxFault.TheVariants.{UnexpectedEnd, UnclosedTag, UnclosedBracket, UnexpectedClose};
 
 use crate::compile::brackets::Shape;
 use crate::compile::roles::Sort;
+use upon_types::error::cause::Cause;
 use upon_types::types::Span;
 
 /// A fault that ends the cutting of a text into tokens.
@@ -25,58 +26,18 @@ pub enum SyntaxFault {
 }
 
 impl SyntaxFault {
-    /// Returns the words that report the fault.
-    pub fn reason(self) -> &'static str
-        ensures { result.now ≡ reason_of self }
+    /// Returns the cause of the fault.
+    pub fn cause(self) -> Cause
+        ensures { cause_text result ≡ reason_of self }
     {
         match self {
-            SyntaxFault::UnexpectedEnd(sort) => unexpected_end(sort),
-            SyntaxFault::UnclosedTag(sort) => unclosed_tag(sort),
-            SyntaxFault::UnclosedBracket(shape) => unclosed_bracket(shape),
-            SyntaxFault::UnexpectedClose(shape) => unexpected_close(shape),
-            SyntaxFault::UnexpectedCharacter => "unexpected character",
-            SyntaxFault::UndelimitedString => "undelimited string",
+            SyntaxFault::UnexpectedEnd(sort) => Cause::Unexpected(sort.end_token()),
+            SyntaxFault::UnclosedTag(sort) => Cause::Unclosed(sort.begin_token()),
+            SyntaxFault::UnclosedBracket(shape) => Cause::Unclosed(shape.open_token()),
+            SyntaxFault::UnexpectedClose(shape) => Cause::Unexpected(shape.close_token()),
+            SyntaxFault::UnexpectedCharacter => Cause::UnexpectedCharacter,
+            SyntaxFault::UndelimitedString => Cause::UndelimitedString,
         }
-    }
-}
-
-fn unexpected_end(sort: Sort) -> &'static str
-    ensures { result.now ≡ reason_of (UnexpectedEnd sort) }
-{
-    match sort {
-        Sort::Expr => "unexpected end expression",
-        Sort::Block => "unexpected end block",
-        Sort::Comment => "unexpected end comment",
-    }
-}
-
-fn unclosed_tag(sort: Sort) -> &'static str
-    ensures { result.now ≡ reason_of (UnclosedTag sort) }
-{
-    match sort {
-        Sort::Expr => "unclosed begin expression",
-        Sort::Block => "unclosed begin block",
-        Sort::Comment => "unclosed begin comment",
-    }
-}
-
-fn unclosed_bracket(shape: Shape) -> &'static str
-    ensures { result.now ≡ reason_of (UnclosedBracket shape) }
-{
-    match shape {
-        Shape::Bracket => "unclosed open bracket",
-        Shape::Brace => "unclosed open brace",
-        Shape::Paren => "unclosed open parenthesis",
-    }
-}
-
-fn unexpected_close(shape: Shape) -> &'static str
-    ensures { result.now ≡ reason_of (UnexpectedClose shape) }
-{
-    match shape {
-        Shape::Bracket => "unexpected close bracket",
-        Shape::Brace => "unexpected close brace",
-        Shape::Paren => "unexpected close parenthesis",
     }
 }
 

@@ -621,10 +621,10 @@ impl<'a> Lexer<'a> {
         ensures delimiters { lexer_delimiters self.new ≡ lexer_delimiters self.old }
     {
         self.over = true;
-        Error::from_parts(
+        Error::from_cause(
             self.alloc,
             ErrorKind::Syntax,
-            Some(wrong.fault.reason()),
+            wrong.fault.cause(),
             Some((self.source, wrong.span)),
         )
     }

@@ -9,13 +9,14 @@ use crate::types::{Span, slice};
 use std::alloc::{AllocError, Global};
 use unicode_width::UnicodeWidthStr;
 
-/// The line in which a span begins, and which columns of it are marked.
+/// The line in which a span begins, how many of its bytes are before the span, and which columns are marked.
 #[derive(Debug, Drop)]
 pub(crate) struct Excerpt {
     pub(crate) number: usize,
     pub(crate) column: usize,
     pub(crate) width: usize,
     pub(crate) line: String,
+    pub(crate) before: usize,
 }
 
 impl Excerpt {
@@ -34,6 +35,7 @@ impl Excerpt {
             column: 1 + front.width(),
             width: if width == 0 { 1 } else { width },
             line,
+            before: front.len(),
         })
     }
 }

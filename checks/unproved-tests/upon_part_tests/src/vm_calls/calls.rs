@@ -6,6 +6,7 @@ use std::alloc::{AllocError, Global};
 use std::process::Abort;
 use std::test::Fail;
 use upon_fmt::fmt::Formatter;
+use upon_types::error::reason::Reason;
 use upon_types::types::Span;
 use upon_types::types::ast::{Ident, Name};
 use upon_types::value::{Value, ValueCow};
@@ -32,8 +33,9 @@ fn reported(alloc: Global, halt: Halt) -> Result<String, AllocError> {
         Halt::Fault(fault) => {
             let Span { m, n } = fault.span;
             match fault.reason {
-                Some(reason) => format!(in alloc; "{m}..{n} {reason}"),
-                None => format!(in alloc; "{m}..{n}"),
+                Reason::Cause(cause) => format!(in alloc; "{m}..{n} {}", cause.text(alloc)?),
+                Reason::Text(text) => format!(in alloc; "{m}..{n} {text}"),
+                Reason::None => format!(in alloc; "{m}..{n}"),
             }
         }
         Halt::Memory => String::from_str(alloc, "memory"),

@@ -5,6 +5,7 @@ use std::test::Fail;
 use std::time::Clock;
 use upon_tool::program::{has_colors, run};
 use upon_tool_io::arguments::Color;
+use upon_tool_io::targets::SystemTargets;
 use upon_tool_messages::color::{Tint, parts_of};
 
 #[test]
@@ -61,7 +62,8 @@ fn said<R: Files + Env + Clock + AllocGlobal + Clone + Drop>(
     let mut input = source.as_bytes();
     let mut out = Vec::new(alloc);
     let mut err = Vec::new(alloc);
-    run(rt, owned.as_slice(), &mut input, &mut out, &mut err, is_terminal);
+    let mut targets = SystemTargets::new(rt);
+    run(rt, &mut targets, owned.as_slice(), &mut input, &mut out, &mut err, is_terminal);
     Ok(String::from_utf8_lossy(alloc, err.as_slice())?)
 }
 

@@ -3,8 +3,8 @@ use Rattle.std.proofs.lemmas.Grind.{common_steps}
 use Rattle.upon_render.proofs.iter.lookup_key.Goals as goal
 
 -- the search finds no proof of these, and takes long
-pub wrong-requires : goal.wrong-requires
-wrong-requires = grind (arith, common_steps)
+pub caused-requires : goal.caused-requires
+caused-requires = grind (arith, common_steps)
 
 pub returns-in_ok-from_text-in-empty : goal.returns-in_ok-from_text-in-empty
 returns-in_ok-from_text-in-empty = grind (arith, common_steps)

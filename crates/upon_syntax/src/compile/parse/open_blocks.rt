@@ -1,54 +1,23 @@
 // The blocks that are open at an offset of a template, and what a tag does to them.
-ghost use Rattle.std.specs.Prelude.{◌≡◌, [], ◌∷◌, ◌++◌, true, false, option_map, string_bytes, codes, IfOk};
+ghost use Rattle.std.specs.Prelude.{◌≡◌, [], ◌∷◌, true, false, option_map, IfOk};
 ghost use Rattle.std.specs.Prelude.{MatchOption};
-ghost use Rattle.upon_types.specs.BlockKinds.{Block, block_word};
+ghost use Rattle.upon_types.specs.BlockKinds.{Block};
+ghost use Rattle.upon_types.specs.BlockKinds.{block_kind};
 ghost use Rattle.upon_language_spec.specs.Blocks.{takes, block_takes, after_closer, outermost};
-ghost use Rattle.upon_language_spec.specs.Blocks.{closer_words, plain_else, end_of};
-ghost use Rattle.upon_language_spec.specs.Wanted.{in_quotes};
-ghost use Rattle.upon_tag_parser.specs.BlockTags.{BlockTag, Keeps, block_kind};
+ghost use Rattle.upon_language_spec.specs.Blocks.{plain_else, end_of};
+ghost use Rattle.upon_tag_parser.specs.BlockTags.{BlockTag, Keeps};
 ghost use Rattle.upon_syntax.specs.OpenBlocks.{closer_view, block_of, new_block, after_tag, HasEffect, IsTaken, IsUntaken};
 
 use std::alloc::{AllocError, Global};
-use upon_tag_parser::compile::parse::kind::Kind;
 use upon_tag_parser::compile::parse::tag::Tag;
 use upon_types::types::Span;
-
-/// A tag that closes a block, or one of its branches.
-#[derive(Clone, Copy, Debug, PartialEq, Eq)]
-pub enum Closing {
-    ElseIf,
-    Else,
-    /// The last tag of a block of this kind.
-    End(Kind),
-}
-
-impl Closing {
-    // The words that begin it.
-    fn words(self) -> &'static str
-        ensures { result.now ≡ closer_words (closer_view self) }
-    {
-        match self {
-            Closing::ElseIf => "else if",
-            Closing::Else => "else",
-            Closing::End(kind) => kind.end_word(),
-        }
-    }
-
-    /// Returns the reason if no block takes it.
-    pub fn reason(self, alloc: Global) -> Result<String, AllocError>
-        ensures { IfOk result (λ reason. string_bytes reason
-            ≡ codes "unexpected " ++ (in_quotes (closer_words (closer_view self)) ++ codes " block")) }
-    {
-        let words = self.words();
-        format!(in alloc; "unexpected `{words}` block")
-    }
-}
+use upon_types::types::block::{BlockKind, Closing};
 
 /// What a tag does to the open blocks.
 #[derive(Clone, Copy, Debug, PartialEq, Eq)]
 pub enum Effect {
     /// It opens one of this kind.
-    Opens(Kind),
+    Opens(BlockKind),
     /// It closes the innermost, or goes on with its other branch.
     Closes(Closing),
     /// It leaves them.
@@ -60,9 +29,9 @@ pub fn effect_of(tag: &Tag) -> Effect
     ensures { (told : BlockTag) → Keeps tag.now told → HasEffect told result }
 {
     match tag {
-        Tag::If(_) => Effect::Opens(Kind::If),
-        Tag::For(_, _) => Effect::Opens(Kind::For),
-        Tag::With(_) => Effect::Opens(Kind::With),
+        Tag::If(_) => Effect::Opens(BlockKind::If),
+        Tag::For(_, _) => Effect::Opens(BlockKind::For),
+        Tag::With(_) => Effect::Opens(BlockKind::With),
         Tag::ElseIf(_) => Effect::Closes(Closing::ElseIf),
         Tag::Else => Effect::Closes(Closing::Else),
         Tag::End(kind) => Effect::Closes(Closing::End(*kind)),
@@ -74,7 +43,7 @@ pub fn effect_of(tag: &Tag) -> Effect
 /// An open block: its kind, whether its `else` was read, and the span of its tag.
 #[derive(Clone, Copy)]
 pub struct OpenBlock {
-    pub kind: Kind,
+    pub kind: BlockKind,
     pub has_else: bool,
     pub span: Span,
 }
@@ -89,15 +58,6 @@ impl OpenBlock {
             Closing::Else => !self.has_else && self.kind.may_have_else(),
             Closing::End(ended) => self.kind == ended,
         }
-    }
-
-    /// Returns the reason if the text ends with it open.
-    pub fn reason(self, alloc: Global) -> Result<String, AllocError>
-        ensures { IfOk result (λ reason. string_bytes reason
-            ≡ codes "unclosed " ++ (in_quotes (block_word (block_kind self.kind)) ++ codes " block")) }
-    {
-        let word = self.kind.word();
-        format!(in alloc; "unclosed `{word}` block")
     }
 }
 
@@ -120,7 +80,7 @@ impl OpenBlocks {
     }
 
     // A block is open from here on, whose tag has this span.
-    fn push(&mut self, kind: Kind, span: Span) -> Result<(), AllocError>
+    fn push(&mut self, kind: BlockKind, span: Span) -> Result<(), AllocError>
         ensures { IfOk result (λ _. stack_of self.new ≡ new_block (block_kind kind) span ∷ stack_of self.old) }
     {
         let block = OpenBlock {

@@ -13,7 +13,7 @@ ghost use Rattle.upon_language_spec.specs.Lexing.{LexerState};
 ghost use Rattle.upon_language_spec.specs.Wanted.{in_quotes};
 ghost use Rattle.upon_lexer.specs.Lexers.{lexer_text};
 ghost use Rattle.upon_delimiters.specs.Searcher.{searcher_delimiters};
-ghost use Rattle.upon_tag_parser.specs.BlockTags.{block_kind};
+ghost use Rattle.upon_types.specs.BlockKinds.{block_kind};
 ghost use Rattle.upon_tag_parser.specs.TagTokens.{lexemes_of};
 ghost use Rattle.upon_syntax.specs.CommentReasons.{comment_reason};
 ghost use Rattle.upon_syntax.specs.OpenBlocks.{closer_view};
@@ -23,7 +23,7 @@ ghost use Rattle.upon_syntax.specs.TagReaders.{reader_text};
 
 use crate::compile::parse::comment_fault::CommentFault;
 use crate::compile::parse::fault::syntax_error;
-use crate::compile::parse::open_blocks::{Closing, OpenBlock, OpenBlocks};
+use crate::compile::parse::open_blocks::{OpenBlock, OpenBlocks};
 use crate::compile::parse::piece::Piece;
 use crate::compile::parse::tag_reader::TagReader;
 use std::alloc::Global;
@@ -32,7 +32,9 @@ use upon_delimiters::search::Searcher;
 use upon_lexer::compile::lex::Lexer;
 use upon_lexer::literal::Lexed;
 use upon_tag_parser::compile::parse::tag::Tag;
+use upon_types::error::cause::Cause;
 use upon_types::error::{Error, Result};
+use upon_types::types::block::Closing;
 use upon_types::types::{Span, Token};
 
 /// What a reader finds next.
@@ -229,8 +231,8 @@ impl<'a> PieceReader<'a> {
             (codes "unclosed " ++ (in_quotes (block_word (block_kind block.kind)) ++ codes " block")))
             (fault_of result) }
     {
-        let reason = block.reason(self.alloc);
-        syntax_error(self.alloc, self.source, block.span, reason)
+        let cause = Cause::UnclosedBlock(block.kind);
+        syntax_error(self.alloc, self.source, block.span, cause)
     }
 
     // The error for a closing tag that the innermost open block does not take.
@@ -243,7 +245,12 @@ impl<'a> PieceReader<'a> {
             (codes "unexpected " ++ (in_quotes (closer_words (closer_view closer)) ++ codes " block")))
             (fault_of result) }
     {
-        syntax_error(self.alloc, self.source, span, closer.reason(self.alloc))
+        syntax_error(
+            self.alloc,
+            self.source,
+            span,
+            Cause::UnexpectedBlock(closer),
+        )
     }
 
     // The error for a comment that the text does not go on with.
@@ -251,7 +258,7 @@ impl<'a> PieceReader<'a> {
         requires { LiesIn (text_of_reader self.now) span }
         ensures { OrMemory (syntax_fault (text_of_reader self.now) span (comment_reason fault)) (fault_of result) }
     {
-        syntax_error(self.alloc, self.source, span, fault.reason(self.alloc))
+        syntax_error(self.alloc, self.source, span, fault.cause())
     }
 
     // The text's end.

@@ -55,8 +55,10 @@ fn refuse_token(alloc: Global, source: &str, want: Want, found: Lexed) -> Error
     requires { LiesIn source.now found.span }
     ensures { OrMemory (token_fault source.now (wanted_of want) found) (fault_of result) }
 {
-    let reason = want.reason(alloc, source, found);
-    syntax_error(alloc, source, found.span, reason)
+    match want.cause(alloc, source, found) {
+        Ok(cause) => syntax_error(alloc, source, found.span, cause),
+        Err(e) => e.into(),
+    }
 }
 
 // The error for a literal that denotes nothing: that it does, where it may be there.
@@ -69,8 +71,7 @@ fn refuse_literal(alloc: Global, source: &str, want: Want, found: Lexed, refusal
         → OrMemory (token_fault source.now (wanted_of want) found) (fault_of result) }
 {
     if want.takes_literal(found.token) {
-        let reason = refusal.fault.reason(alloc);
-        syntax_error(alloc, source, refusal.span, reason)
+        syntax_error(alloc, source, refusal.span, refusal.fault.cause())
     } else {
         refuse_token(alloc, source, want, found)
     }
@@ -89,5 +90,5 @@ fn refuse_eof(alloc: Global, source: &str, want: Want) -> Error
         m: source.len(),
         n: source.len(),
     };
-    syntax_error(alloc, source, end, want.reason_at_end(alloc))
+    syntax_error(alloc, source, end, want.cause_at_end())
 }

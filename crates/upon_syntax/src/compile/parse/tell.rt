@@ -5,7 +5,8 @@ ghost use Rattle.upon_compiler.specs.After.{after_event};
 ghost use Rattle.upon_compiler.specs.Compiler.{compiler_state};
 ghost use Rattle.upon_compiler.specs.Events.{end_event};
 ghost use Rattle.upon_compiler.specs.Program.{program_view};
-ghost use Rattle.upon_tag_parser.specs.BlockTags.{BlockTag, Keeps, block_kind, tag_code};
+ghost use Rattle.upon_tag_parser.specs.BlockTags.{BlockTag, Keeps, tag_code};
+ghost use Rattle.upon_types.specs.BlockKinds.{block_kind};
 ghost use Rattle.upon_tag_parser.specs.TagTokens.{lexemes_of};
 ghost use Rattle.upon_tree.specs.AstExpression.{expression_tree};
 ghost use Rattle.upon_tree.specs.Opened.{tree_reader_text};
@@ -20,11 +21,12 @@ use std::alloc::AllocError;
 use upon_compiler::compile::Compiler;
 use upon_compiler::types::program::Instr;
 use upon_lexer::literal::Lexed;
-use upon_tag_parser::compile::parse::kind::{Kind, Opening};
+use upon_tag_parser::compile::parse::kind::Opening;
 use upon_tag_parser::compile::parse::tag::Tag;
 use upon_tree::ast::Expr;
 use upon_tree::expression::TreeReader;
 use upon_tree::statements::TreeBuilder;
+use upon_types::types::block::BlockKind;
 
 /// Tells a compiler of a piece, whose expression has these instructions if it has one, and leaves none of them
 /// behind. It fails if memory is out.
@@ -65,17 +67,17 @@ fn tell_tag(compiler: &mut Compiler, tag: Tag, code: &mut Vec<Instr>) -> Result<
 }
 
 // Tells it of the last tag of a block.
-fn tell_end(compiler: &mut Compiler, kind: Kind) -> Result<(), AllocError>
+fn tell_end(compiler: &mut Compiler, kind: BlockKind) -> Result<(), AllocError>
     ensures { OnOk result (compiler_state compiler.new
         ≡ after_event (end_event (block_kind kind)) (compiler_state compiler.old)) }
 {
     match kind {
-        Kind::If => {
+        BlockKind::If => {
             compiler.end_if();
             Ok(())
         }
-        Kind::For => compiler.end_for(),
-        Kind::With => compiler.end_with(),
+        BlockKind::For => compiler.end_for(),
+        BlockKind::With => compiler.end_with(),
     }
 }
 

@@ -15,12 +15,12 @@ ghost use Rattle.upon_tag_parser.specs.WholeTags.{LeadsToEnd, HoldsInline, Holds
 ghost use Rattle.upon_tag_parser.specs.WholeTags.{ReadsLoopVars, IsTooLong, NoOpeningWord};
 
 use crate::compile::parse::instructions::show;
-use crate::compile::parse::kind::Kind;
 use crate::compile::parse::path::{Failure, Parsed, TagParser, take};
 use crate::compile::parse::want::Want;
 use upon_compiler::types::program::Instr;
 use upon_lexer::literal::Lexed;
 use upon_types::types::ast::{self, Ident, KeyValue, LoopVars};
+use upon_types::types::block::BlockKind;
 use upon_types::types::{Span, Token, slice};
 
 /// What is in the tag of a block, without its expression: the instructions of that are appended.
@@ -36,7 +36,7 @@ pub enum Tag {
     /// The name of the value.
     With(Ident),
     /// The kind of the block that ends.
-    End(Kind),
+    End(BlockKind),
     /// The name of a template that sees all names.
     Include(ast::String),
     /// The name of a template that sees a value alone.
@@ -148,7 +148,7 @@ impl<'a> TagParser<'a> {
         let Some((span, rest)) = take(Token::Keyword, tokens) else {
             return Err(Failure::Stuck(Want::BlockWord, tokens));
         };
-        match Kind::ended_by(slice(self.source, span)) {
+        match BlockKind::ended_by(slice(self.source, span)) {
             None => Err(Failure::Stuck(Want::BlockWord, tokens)),
             Some(kind) => Ok((Tag::End(kind), rest)),
         }

@@ -1,5 +1,6 @@
-// What a tag wants at an offset, in the words that a fault reports.
-ghost use Rattle.std.specs.Prelude.{◌≡◌, string_bytes, codes, IfOk};
+// What a tag wants at an offset, and the cause of a fault if it is not there.
+ghost use Rattle.std.specs.Prelude.{◌≡◌, codes, IfOk};
+ghost use Rattle.upon_types.specs.Cause.{cause_text, name_at_end, wanted_name};
 ghost use Rattle.upon_types.specs.Span.{LiesIn};
 ghost use Rattle.upon_language_spec.specs.Tags.{word_of};
 ghost use Rattle.upon_language_spec.specs.Wanted.{wanted_word, wanted_at_end, expected_found, reason_for};
@@ -9,6 +10,8 @@ ghost use Rattle.upon_tag_parser.specs.Wants.{wanted_of};
 
 use std::alloc::{AllocError, Global};
 use upon_lexer::literal::Lexed;
+use upon_types::error::cause::{Cause, TagKeyword, Wanted};
+use upon_types::types::ast::name::Name;
 use upon_types::types::{Token, slice};
 
 /// What may be at an offset of a tag.
@@ -45,23 +48,26 @@ pub enum Want {
 }
 
 impl Want {
-    /// Returns the word for it.
-    pub fn word(self) -> &'static str
-        ensures { result.now ≡ wanted_word (wanted_of self) }
+    /// Returns what it is in a cause.
+    pub fn wanted(self) -> Wanted
+        ensures word { wanted_name result ≡ wanted_word (wanted_of self) }
+        ensures end { name_at_end result ≡ wanted_at_end (wanted_of self) }
     {
         match self {
-            Want::Expression => "expression",
-            Want::Text => "string",
-            Want::NameOrIndex => "identifier or index",
-            Want::EndExpr => "end expression",
-            Want::EndBlock => "end block",
-            Want::CloseParen => "close parenthesis",
-            Want::CloseBracket => "close bracket",
-            Want::CloseBrace => "close brace",
-            Want::In | Want::As | Want::BlockWord => "keyword",
-            Want::Name => "identifier",
-            Want::Number => "number",
-            Want::Colon => "colon",
+            Want::Expression => Wanted::Expression,
+            Want::Text => Wanted::Token(Token::String),
+            Want::NameOrIndex => Wanted::NameOrIndex,
+            Want::EndExpr => Wanted::Token(Token::EndExpr),
+            Want::EndBlock => Wanted::Token(Token::EndBlock),
+            Want::CloseParen => Wanted::Token(Token::CloseParen),
+            Want::CloseBracket => Wanted::Token(Token::CloseBracket),
+            Want::CloseBrace => Wanted::Token(Token::CloseBrace),
+            Want::In => Wanted::Token(Token::Keyword),
+            Want::As => Wanted::Token(Token::Keyword),
+            Want::BlockWord => Wanted::Token(Token::Keyword),
+            Want::Name => Wanted::Token(Token::Ident),
+            Want::Number => Wanted::Token(Token::Number),
+            Want::Colon => Wanted::Token(Token::Colon),
         }
     }
 
@@ -77,51 +83,41 @@ impl Want {
         }
     }
 
-    /// Returns the reason if the text ends there.
-    pub fn reason_at_end(self, alloc: Global) -> Result<String, AllocError>
-        ensures { IfOk result (λ reason.
-            string_bytes reason ≡ expected_found (wanted_at_end (wanted_of self)) (codes "EOF")) }
+    /// Returns the cause of a fault if the text ends there.
+    pub fn cause_at_end(self) -> Cause
+        ensures { cause_text result ≡ expected_found (wanted_at_end (wanted_of self)) (codes "EOF") }
     {
-        let word = self.word_at_end();
-        format!(in alloc; "expected {word}, found EOF")
+        Cause::ExpectedAtEnd(self.wanted())
     }
 
-    /// Returns the reason for a token that may not be there.
-    pub fn reason(self, alloc: Global, source: &str, found: Lexed) -> Result<String, AllocError>
+    /// Returns the cause of a fault for a token that may not be there. The error is that memory is out.
+    pub fn cause(self, alloc: Global, source: &str, found: Lexed) -> Result<Cause, AllocError>
         requires { LiesIn source.now found.span }
-        ensures { IfOk result (λ reason. string_bytes reason
+        ensures { IfOk result (λ cause. cause_text cause
             ≡ reason_for (wanted_of self) found.token (word_of source.now found.token found.span)) }
     {
-        if found.token == Token::Keyword {
-            return self.keyword_reason(alloc, slice(source, found.span));
+        match found.token {
+            Token::Keyword => self.keyword_cause(alloc, slice(source, found.span)),
+            token => Ok(Cause::Expected(self.wanted(), token)),
         }
-        let wanted = self.word();
-        let other = found.token.human();
-        format!(in alloc; "expected {wanted}, found {other}")
     }
 
-    // The reason for a keyword that may not be there.
-    fn keyword_reason(self, alloc: Global, word: &str) -> Result<String, AllocError>
-        ensures { IfOk result (λ reason. string_bytes reason ≡ reason_for_keyword (wanted_of self) word.now) }
+    // The cause for a keyword that may not be there.
+    fn keyword_cause(self, alloc: Global, word: &str) -> Result<Cause, AllocError>
+        ensures { IfOk result (λ cause. cause_text cause ≡ reason_for_keyword (wanted_of self) word.now) }
     {
         match self {
-            Want::Expression | Want::BlockWord => format!(in alloc; "unexpected keyword `{word}`"),
-            Want::In => format!(in alloc; "expected keyword `in`, found keyword `{word}`"),
-            Want::As => format!(in alloc; "expected keyword `as`, found keyword `{word}`"),
-            want => {
-                let wanted = want.word();
-                format!(in alloc; "expected {wanted}, found keyword")
+            Want::Expression => Ok(Cause::UnexpectedKeyword(Name::from_str(alloc, word)?)),
+            Want::BlockWord => Ok(Cause::UnexpectedKeyword(Name::from_str(alloc, word)?)),
+            Want::In => {
+                let found = Name::from_str(alloc, word)?;
+                Ok(Cause::ExpectedKeyword(TagKeyword::In, found))
             }
-        }
-    }
-
-    // The word for it at the end of the text.
-    fn word_at_end(self) -> &'static str
-        ensures { result.now ≡ wanted_at_end (wanted_of self) }
-    {
-        match self {
-            Want::Expression | Want::NameOrIndex => "token",
-            want => want.word(),
+            Want::As => {
+                let found = Name::from_str(alloc, word)?;
+                Ok(Cause::ExpectedKeyword(TagKeyword::As, found))
+            }
+            want => Ok(Cause::Expected(want.wanted(), Token::Keyword)),
         }
     }
 }

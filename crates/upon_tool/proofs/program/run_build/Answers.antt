@@ -5,25 +5,26 @@ use Rattle.upon_tool.specs.Filled.{tool_engine, TakesFiles}
 use Rattle.upon_tool.proofs.Calls.{context_read, no_context, wrong_words}
 use Rattle.upon_tool.proofs.Filled.{nothing_sent}
 use Rattle.upon_tool.proofs.ManyPages.{build_data_refused, build_moved, build_refused, unread_folder, unread_layout}
+use Rattle.upon_calls.specs.Rendering.{EachHasTree}
 use Rattle.upon_tool.proofs.program.run_build.Goals as goal
 
 pub returns-in_err-check-clause-refused : goal.returns-in_err-check-clause-refused
 returns-in_err-check-clause-refused g c =
-    build_data_refused c.args.call.now (g.I.Read.remaining c.args.input.now) c.in_err-check.field-0.0 c.from_residual.result c.from_residual.ensures.1
-    (wrong_words c.args.call.now.render c.data_words-words.result c.data_words-words.ensures _ _ (g.I.Read.remaining c.args.input.now) c.in_err-check.field-0.0 c.is_input.ensures c.in_err-check.ensures.refused)
+    build_data_refused (g.R.Sources.world c.args.rt.now) c.args.call.now (g.I.Read.remaining c.args.input.now) c.in_err-check.field-0.0 c.from_residual.result c.from_residual.ensures.1
+    (wrong_words (g.R.Sources.world c.args.rt.now) c.args.call.now.render c.data_words-words.result c.data_words-words.ensures _ _ (g.I.Read.remaining c.args.input.now) c.in_err-check.field-0.0 c.is_input.ensures c.in_err-check.ensures.refused)
 
 pub returns-in_err-layout-clause-refused : goal.returns-in_err-layout-clause-refused
 returns-in_err-layout-clause-refused g c =
-    unread_layout c.args.call.now (g.I.Read.remaining c.args.input.now) c.in_err-layout.field-0.0 c.from_residual-in_err-layout.result c.from_residual-in_err-layout.ensures.1 c.in_err-layout.ensures.unread
+    unread_layout (g.R.Sources.world c.args.rt.now) c.args.call.now (g.I.Read.remaining c.args.input.now) c.in_err-layout.field-0.0 c.from_residual-in_err-layout.result c.from_residual-in_err-layout.ensures.1 c.in_err-layout.ensures.unread
 
 pub returns-in_err-value-clause-refused : goal.returns-in_err-value-clause-refused
 returns-in_err-value-clause-refused g c =
-    build_data_refused c.args.call.now (g.I.Read.remaining c.args.input.now) c.in_err-value.field-0.0 c.from_residual-in_err-value.result c.from_residual-in_err-value.ensures.1
-    (no_context c.args.call.now.render c.data_words-words.result c.data_words-words.ensures _ (g.I.Read.remaining c.args.input.now) (g.I.Read.remaining c.layout_of.new.input) c.in_err-value.field-0.0 c.layout_of.ensures.kept c.in_err-value.ensures.refused)
+    build_data_refused (g.R.Sources.world c.args.rt.now) c.args.call.now (g.I.Read.remaining c.args.input.now) c.in_err-value.field-0.0 c.from_residual-in_err-value.result c.from_residual-in_err-value.ensures.1
+    (no_context (g.R.Sources.world c.args.rt.now) c.args.call.now.render c.data_words-words.result c.data_words-words.ensures _ (g.I.Read.remaining c.args.input.now) (g.I.Read.remaining c.layout_of.new.input) c.in_err-value.field-0.0 c.layout_of.ensures.kept c.in_err-value.ensures.refused)
 
 pub returns-in_err-files-clause-refused : goal.returns-in_err-files-clause-refused
 returns-in_err-files-clause-refused g c =
-    unread_folder c.args.call.now (g.I.Read.remaining c.args.input.now) c.in_err-files.field-0.0 c.from_residual-in_err-files.result c.from_residual-in_err-files.ensures.1 c.in_err-files.ensures.unread
+    unread_folder (g.R.Sources.world c.args.rt.now) c.args.call.now (g.I.Read.remaining c.args.input.now) c.in_err-files.field-0.0 c.from_residual-in_err-files.result c.from_residual-in_err-files.ensures.1 c.in_err-files.ensures.unread
 
 pub returns-clause-unsent : goal.returns-clause-unsent
 returns-clause-unsent g c = nothing_sent c.carry_out.result _ _ c.carry_out.ensures.ends (λ status said. said.3.0) c.carry_out.ensures.unsent
@@ -38,12 +39,13 @@ returns-clause-ends g c = IfOk-weaker c.carry_out.result _ _ (λ status said. re
   folder = said.1.0;
   read = c.in_ok-layout.ensures.read;
   left = c.layout_of.ensures.kept;
-  data_read = context_read c.args.call.now.render c.data_words-words.result c.data_words-words.ensures (g.I.Read.remaining c.layout_of.new.input) (view c.in_ok-value.value) (g.I.Read.remaining c.context.new.input) c.in_ok-value.ensures.read;
-  no_folder = c.in_ok-files.ensures.none;
+  data_read = context_read (g.R.Sources.world c.args.rt.now) c.args.call.now.render c.data_words-words.result c.data_words-words.ensures (g.I.Read.remaining c.layout_of.new.input) (view c.in_ok-value.value) (g.I.Read.remaining c.context.new.input) c.in_ok-value.ensures.read;
+  listed_files = c.in_ok-files.ensures.files;
   taken = subst (λ functions. TakesFiles c.in_ok-files.files.items (tool_engine c.args.call.now.render.escape functions) said.1.0) c.standard.ensures said.1.1;
-  built = build_moved _ _ _ _ _ status said.1.2
+  trees = subst EachHasTree said.1.2 said.2;
+  built = build_moved (g.R.Sources.world c.args.rt.now) _ _ _ _ _ status _ _ said.1.2
       (ap (λ limits. record { source = c.args.call.now.render.file; follows = c.args.call.now.render.follow; out = c.args.call.now.out; layout = c.args.call.now.layout; limits = limits; keep_going = c.args.call.now.keep_going }) c.limits_set.ensures) said.3.1;
 }) c.carry_out.ensures.ends
 
 pub returns-clause-refused : goal.returns-clause-refused
-returns-clause-refused g c = build_refused c.args.call.now c.in_ok-layout.layout (g.I.Read.remaining c.args.input.now) c.carry_out.result c.in_ok-layout.ensures.read c.carry_out.ensures.refused
+returns-clause-refused g c = build_refused (g.R.Sources.world c.args.rt.now) c.args.call.now c.in_ok-layout.layout (g.I.Read.remaining c.args.input.now) c.carry_out.result c.in_ok-layout.ensures.read c.carry_out.ensures.refused

@@ -46,7 +46,7 @@ loop-file-preserved g c =
     )
 
 pub returns-in_err-add-clause-refused : goal.returns-in_err-add-clause-refused
-returns-in_err-add-clause-refused g c = work_out_of_memory c.args.templates c.args.work c.from_residual-in_err-add.result c.from_residual-in_err-add.ensures.1
+returns-in_err-add-clause-refused g c = work_out_of_memory (g.R.Sources.world c.args.rt.now) c.args.templates c.args.work c.from_residual-in_err-add.result c.from_residual-in_err-add.ensures.1
 
 pub returns-in_err-add_template-clause-refused : goal.returns-in_err-add_template-clause-refused
 returns-in_err-add_template-clause-refused g c =
@@ -57,7 +57,7 @@ returns-in_err-add_template-clause-refused g c =
     let begun : texts_of (λ f. (own-1.entry f.vtable).1.formats f.value) (λ f. (own-2.entry f.vtable).1.answers f.value) c.loop-function.engine ≡ tool_engine c.args.templates.escape c.args.templates.functions.now = all_added c.args.templates.functions.now c.loop-function.function-index c.args.templates.escape _ _ c.loop-function-test.false c.loop-function.invariant.1 start in
     let folder : Texts = texts_of (λ f. (own-1.entry f.vtable).1.formats f.value) (λ f. (own-2.entry f.vtable).1.answers f.value) c.loop-file.engine in
     let filled : TakesFiles c.args.templates.files.items (tool_engine c.args.templates.escape c.args.templates.functions.now) folder = taken_from c.args.templates.files.items _ _ _ folder c.into_iter-file-iterator.ensures.into_iter_gives.0 begun (c.loop-file.invariant.1 folder (none_taken _ folder (nil_from_length (into_iter_items c.loop-file.file-iterator) (sym c.loop-file.file-iterator.rest.ok.0 ∙ c.in-None.ensures.steps.0)))) in
-    page_refused c.args.templates c.args.work c.in-Some-page.name c.in-Some-page.source folder c.in_err-add_template.field-0.0 c.from_residual-in_err-add_template.result (sym c.loop-function.invariant.0 ∙ sym c.loop-file.invariant.0 ∙ c.in-Some-page.is) c.from_residual-in_err-add_template.ensures.1 c.in_err-add_template.ensures.fault filled
+    page_refused (g.R.Sources.world c.args.rt.now) c.args.templates c.args.work c.in-Some-page.name c.in-Some-page.source folder c.in_err-add_template.field-0.0 c.from_residual-in_err-add_template.result (sym c.loop-function.invariant.0 ∙ sym c.loop-file.invariant.0 ∙ c.in-Some-page.is) c.from_residual-in_err-add_template.ensures.1 c.in_err-add_template.ensures.fault filled
 
 pub returns-clause-ends : goal.returns-clause-ends
 returns-clause-ends g c =
@@ -75,9 +75,9 @@ returns-clause-ends g c =
     ] in
     let so_far = folder_ended c.loop-file.library folder _ _ c.args.templates.files.items (nil_from_length (into_iter_items c.loop-file.file-iterator) (sym c.loop-file.file-iterator.rest.ok.0 ∙ c.in-None.ensures.steps.0)) c.into_iter-file-iterator.ensures.into_iter_gives.0 c.loop-file.invariant.2 in
     let same = c.loop-file.invariant.3 ∙ c.loop-function.invariant.2 in
-    IfOk-weaker c.do_work.result _ _ (λ status said. (whole, (folder, filled, put), c.held_has_tree.ensures, work_kept c.args.work _ whole (g.I.Read.remaining c.args.input.now) status (g.O.Write.contents c.args.out.now) (g.O.Write.contents c.do_work.new.out) same said.0, λ check zero. files_right c.loop-file.library folder whole c.args.templates.page c.args.templates.files.items put so_far (said.1 (check_kept c.args.work _ same check) zero))) (if_both _ _ c.do_work.result c.do_work.ensures.ends c.do_work.ensures.folder)
+    IfOk-weaker c.do_work.result _ _ (λ status said. (whole, (folder, filled, put), c.held_has_tree.ensures, work_kept (g.R.Sources.world c.args.rt.now) c.args.work _ whole (g.I.Read.remaining c.args.input.now) status (g.O.Write.contents c.args.out.now) (g.O.Write.contents c.do_work.new.out) (g.T.Targets.written c.args.targets.now) (g.T.Targets.written c.do_work.new.targets) same said.0, λ check zero. files_right c.loop-file.library folder whole c.args.templates.page c.args.templates.files.items put so_far (said.1 (check_kept c.args.work _ same check) zero))) (if_both _ _ c.do_work.result c.do_work.ensures.ends c.do_work.ensures.folder)
 
 pub returns-clause-refused : goal.returns-clause-refused
 returns-clause-refused g c =
     let same = c.loop-file.invariant.3 ∙ c.loop-function.invariant.2 in
-    work_refused c.args.templates c.args.work c.do_work.result (subst (λ work. IfErr c.do_work.result (IsUnreadOf (checked_files work))) same c.do_work.ensures.refused)
+    work_refused (g.R.Sources.world c.args.rt.now) c.args.templates c.args.work c.do_work.result (subst (λ work. IfErr c.do_work.result (IsUnreadOf (g.R.Sources.world c.args.rt.now) (checked_files work))) same c.do_work.ensures.refused)

@@ -9,8 +9,8 @@ loop-word-init g c = (refl, refl)
 
 pub returns-in_err-add_file-clause-refused : goal.returns-in_err-add_file-clause-refused
 returns-in_err-add_file-clause-refused g c =
-    handed_on (RefusesFiles c.args.given c.args.words.now (g.I.Read.remaining c.args.input.now) (data_entries c.args.data.now)) c.in_err-add_file.field-0.0 c.from_residual.result c.from_residual.ensures.1
-    (refused_at c.args.given c.args.words.now c.loop-word.word-index _ _ _ _ _ c.loop-word-test.true c.loop-word.invariant c.in_err-add_file.field-0.0 c.in_err-add_file.ensures.refused)
+    handed_on (RefusesFiles (g.R.Sources.world c.args.rt.now) c.args.given c.args.words.now (g.I.Read.remaining c.args.input.now) (data_entries c.args.data.now)) c.in_err-add_file.field-0.0 c.from_residual.result c.from_residual.ensures.1
+    (refused_at (g.R.Sources.world c.args.rt.now) c.args.given c.args.words.now c.loop-word.word-index _ _ _ _ _ c.loop-word-test.true c.loop-word.invariant c.in_err-add_file.field-0.0 c.in_err-add_file.ensures.refused)
 
 pub loop-word-preserved : goal.loop-word-preserved
-loop-word-preserved g c = added_more c.args.given c.args.words.now c.loop-word.word-index _ _ _ _ _ c.loop-word-test.true c.loop-word.invariant _ _ c.in_ok-add_file.ensures.added
+loop-word-preserved g c = added_more (g.R.Sources.world c.args.rt.now) c.args.given c.args.words.now c.loop-word.word-index _ _ _ _ _ c.loop-word-test.true c.loop-word.invariant _ _ c.in_ok-add_file.ensures.added

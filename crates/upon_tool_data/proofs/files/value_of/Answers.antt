@@ -8,5 +8,5 @@ pub returns-in-Ok-clause-read : goal.returns-in-Ok-clause-read
 returns-in-Ok-clause-read c = subst (λ format. IsValueIn format c.args.text.now (view c.in-Ok.value)) c.format_for.ensures c.in-Ok.ensures.read
 
 pub returns-in-Err-Refused-clause-refused : goal.returns-in-Err-Refused-clause-refused
-returns-in-Err-Refused-clause-refused c = λ input is.
-    (refl, c.args.text.now, is, subst (λ format. HasNoValue format c.args.text.now) c.format_for.ensures (c.in-Err-Refused.ensures.refused (ap is_data_memory c.in-Err-Refused.field-0-is)))
+returns-in-Err-Refused-clause-refused c =
+    (refl, subst (λ format. HasNoValue format c.args.text.now) c.format_for.ensures (c.in-Err-Refused.ensures.refused (ap is_data_memory c.in-Err-Refused.field-0-is)))

@@ -14,7 +14,7 @@ returns-clause-done g c = record {
   listed = c.in-Some.ensures.split;
   named = c.in_ok-pages.ensures.named;
   differ = subst (λ pages. DifferBelow (page_names pages) (length (page_names pages))) c.as_slice.ensures.value c.in_ok-refuse_twice.ensures.differ;
-  done_in_order = c.in_ok-render_all.ensures;
+  done_in_order = c.in_ok-render_all.ensures.done;
 }
 
 pub returns-in_err-pages-clause-refused : goal.returns-in_err-pages-clause-refused

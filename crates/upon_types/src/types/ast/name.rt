@@ -9,7 +9,7 @@ use std::marker::Model;
 const SHORT: usize = 16;
 
 // The bytes of a name.
-#[derive(Drop)]
+#[derive(Debug, Drop)]
 enum Text {
     // They lie in the name itself.
     Short(ArrayString<SHORT>),
@@ -18,7 +18,7 @@ enum Text {
 }
 
 /// The text of a name. A short one takes no memory of its own.
-#[derive(Drop)]
+#[derive(Debug, Drop)]
 pub struct Name {
     text: Text,
 }

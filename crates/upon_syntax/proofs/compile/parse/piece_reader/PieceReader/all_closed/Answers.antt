@@ -3,15 +3,15 @@ use Rattle.std.specs.Str.{IsUtf8}
 use Rattle.std.proofs.lemmas.Str.{IsUtf8-had}
 use Rattle.upon_types.specs.BlockKinds.{block_word}
 use Rattle.upon_language_spec.specs.Wanted.{in_quotes}
-use Rattle.upon_tag_parser.specs.declared.compile.parse.kind.Kind.{Kind}
-use Rattle.upon_tag_parser.specs.BlockTags.{block_kind}
+use Rattle.upon_types.specs.declared.types.block.BlockKind.{BlockKind}
+use Rattle.upon_types.specs.BlockKinds.{block_kind}
 use Rattle.upon_syntax.specs.OpenBlocks.{block_of}
 use Rattle.upon_syntax.specs.PieceReading.{text_of_reader, pieces_delimiters, pieces_state, pieces_blocks}
 use Rattle.upon_syntax.proofs.BlockFaults.{first_lies_in, none_open, unclosed_first}
 use Rattle.upon_syntax.proofs.NextTokens.{said_first}
 use Rattle.upon_syntax.proofs.compile.parse.piece_reader.PieceReader.all_closed.Goals as goal
 
-abbrev reason : Kind → List ℕ
+abbrev reason : BlockKind → List ℕ
 reason kind = codes "unclosed " ++ (in_quotes (block_word (block_kind kind)) ++ codes " block")
 
 pub unclosed-requires : goal.unclosed-requires

@@ -7,7 +7,7 @@ use Rattle.upon_language_spec.specs.Blocks.{closer_words}
 use Rattle.upon_language_spec.specs.Wanted.{in_quotes}
 use Rattle.upon_language_spec.proofs.SpansLieIn.Characters.{had_utf8}
 use Rattle.upon_lexer.specs.Lexers.{lexer_text}
-use Rattle.upon_syntax.specs.declared.compile.parse.open_blocks.Closing.{Closing}
+use Rattle.upon_types.specs.declared.types.block.Closing.{Closing}
 use Rattle.upon_syntax.specs.OpenBlocks.{closer_view, stack_of}
 use Rattle.upon_syntax.specs.PieceReading.{text_of_reader, pieces_delimiters, pieces_blocks, token_lexeme}
 use Rattle.upon_language_spec.specs.Cut.{Lexeme}

@@ -10,4 +10,4 @@ returns c =
     let span = c.args.span in
     let words = comment_reason c.args.fault in
     let F : List ℕ → Type 0 = λ s. OrMemory (syntax_fault s span words) (fault_of c.syntax_error.result) in
-    subst F (sym c.args.self.now.same_text) (c.syntax_error.ensures words c.reason.ensures)
+    subst F (sym c.args.self.now.same_text) (c.syntax_error.ensures.fault words c.cause.ensures)

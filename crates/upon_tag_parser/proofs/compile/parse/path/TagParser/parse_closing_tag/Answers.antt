@@ -2,7 +2,8 @@ use Rattle.std.proofs.Common.{[], ◌∷◌, refl, sym, ap, ◌∙◌}
 use Rattle.upon_types.specs.BlockKinds.{end_word, kind_with}
 use Rattle.upon_language_spec.specs.Parts.{block_word}
 use Rattle.upon_language_spec.specs.Wanted.{a_block_word}
-use Rattle.upon_tag_parser.specs.BlockTags.{end_tag, block_kind}
+use Rattle.upon_tag_parser.specs.BlockTags.{end_tag}
+use Rattle.upon_types.specs.BlockKinds.{block_kind}
 use Rattle.upon_tag_parser.specs.TagTokens.{lexemes_of}
 use Rattle.upon_tag_parser.proofs.Stuck.{stuck_here}
 use Rattle.upon_tag_parser.proofs.Tags.{end_reads, ends_no_block, block_word_refused}
