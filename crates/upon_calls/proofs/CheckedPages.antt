@@ -1,5 +1,5 @@
 -- Pages that are checked: their names, and that they end on each context.
-use Rattle.std.proofs.Common.{◌≡◌, ◌<◌, ◌≤◌, ◌+◌, ◌∙◌, ◌∷◌, ◌++◌, [], ℕ, List, true, false, Bor, Option, Some, None, Contains, Result, Ok, Err, IfErr, IfOk, arith, length, take, get_or, map, refl, sym, ap, subst}
+use Rattle.std.proofs.Common.{◌≡◌, ◌<◌, ◌≤◌, ◌+◌, ◌∙◌, ◌∷◌, ◌++◌, [], ℕ, List, true, false, Bor, Option, Some, None, Contains, Result, Ok, Err, IfErr, IfOk, String, Global, string_bytes, arith, length, take, get_or, map, refl, sym, ap, subst}
 use Rattle.std.specs.Prelude.{All, ⊤}
 use Rattle.std.proofs.lemmas.List.{take_all, take_more}
 use Rattle.std.proofs.lemmas.List.Elements.{All-push, All-same}
@@ -81,3 +81,8 @@ faulty_so OutOfMemory so refuses said = tt
 pub err_faulty_so : {T : Type 0} {A B : Type 0} {P Q : Type 0} (r : Result T Failure) → (A → B) → (P → Q) → IfErr r (FaultyIf A P) → IfErr r (FaultyIf B Q)
 err_faulty_so (Ok x) so refuses said = tt
 err_faulty_so (Err f) so refuses said = faulty_so f so refuses said
+
+-- each text that is held has a tree where pages end
+pub with_trees : (P Q : Type 0) (r : Result (String Global) Failure) → P → IfOk r (λ text. string_bytes text ≡ [] → Q) → IfOk r (λ text. string_bytes text ≡ [] → P × Q)
+with_trees P Q (Ok text) trees said = λ empty. (trees, said empty)
+with_trees P Q (Err f) trees said = tt

@@ -52,7 +52,7 @@ all_added asked functions i first e are done is begun =
     ∙ ap (with_functions (functions_if asked.functions)) begun
 
 -- ---- its templates, one more
-sources_more : (sources : List (List ℕ × List ℕ)) (s : List ℕ × List ℕ) (e : Texts) → with_sources (sources ++ s ∷ []) e ≡ with_text s.0 s.1 (with_sources sources e)
+pub sources_more : (sources : List (List ℕ × List ℕ)) (s : List ℕ × List ℕ) (e : Texts) → with_sources (sources ++ s ∷ []) e ≡ with_text s.0 s.1 (with_sources sources e)
 sources_more [] s e = refl
 sources_more (first ∷ rest) s e = sources_more rest s (with_text first.0 first.1 e)
 

@@ -12,7 +12,7 @@ use Rattle.upon_calls.specs.Asked.{Asked}
 use Rattle.upon_calls.specs.Failure.{IsPicture}
 use Rattle.upon_calls.specs.Filled.{filled}
 use Rattle.upon_calls.specs.Names.{ListsNamed}
-use Rattle.upon_calls.specs.Rendering.{FailsNamed, FailsText, IsFirstOfOne, MeansNamed, MeansText}
+use Rattle.upon_calls.specs.Rendering.{EachHasTree, FailsNamed, FailsText, IsFirstOfOne, MeansNamed, MeansText}
 use Rattle.upon_calls.specs.declared.failure.Argument.TheVariants.{Name}
 use Rattle.upon_calls.specs.declared.failure.Failure.{Failure}
 use Rattle.upon_calls.specs.declared.failure.Failure.TheVariants.{Faults, Refused, NotText, OutOfMemory}
@@ -31,7 +31,7 @@ abbrev pub WorkGives : Limits → Texts → Work → List ℕ → Type 0
 WorkGives limits e (Render name value) text = MeansNamed limits e name.now (view value.now) text
 WorkGives limits e (RenderText source value) text = MeansText limits e source.now (view value.now) text
 WorkGives limits e (Names name) text = ListsNamed e name.now text
-WorkGives limits e (Fit pages) text = text ≡ [] → PagesFit e pages
+WorkGives limits e (Fit pages) text = text ≡ [] → EachHasTree e × PagesFit e pages
 
 -- it ends with a fault
 abbrev pub WorkFaults : Limits → Texts → Work → Fault → Type 0

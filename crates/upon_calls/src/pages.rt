@@ -8,6 +8,7 @@ ghost use Rattle.upon_calls.specs.Check.{is_missing};
 ghost use Rattle.upon_calls.specs.Contexts.{checked_pages, AreThere, EndsOnEach, IsOneMissing};
 ghost use Rattle.upon_calls.specs.Failure.{FaultyIf, RefusedIf};
 ghost use Rattle.upon_calls.specs.Filled.{filled};
+ghost use Rattle.upon_calls.specs.Rendering.{EachHasTree};
 ghost use Rattle.upon_calls.specs.Templates.{lent_pairs};
 ghost use Rattle.upon_calls.specs.declared.failure.Argument.TheVariants.{Options as OptionsRefused};
 
@@ -84,6 +85,7 @@ pub fn check_pages(
     names: &[&str],
 ) -> Result<String, Failure>
     ensures empty { IfOk result (λ text. string_bytes text ≡ []) }
+    ensures trees { IfOk result (λ text. EachHasTree (filled (asked_by options) (lent_pairs sources.now))) }
     ensures ends { IfOk result (λ text. All
         (λ name. EndsOnEach (filled (asked_by options) (lent_pairs sources.now)) name (shape_view shape.now))
         (texts names.now)) }

@@ -11,13 +11,14 @@ use Rattle.upon_tool_io.specs.declared.arguments.RenderCall.{RenderCall}
 use Rattle.upon_tool_io.specs.World.{World}
 use Rattle.upon_tool_data.specs.Context.{IsContext, RefusesContext}
 use Rattle.upon_tool_data.specs.Sources.{is_standard}
-use Rattle.upon_tool_data.specs.Words.{IsWordFault}
+use Rattle.upon_tool_data.specs.Words.{AreWordsOf, IsWordFault}
 use Rattle.upon_tool_data.specs.declared.fault.ContextFault.{ContextFault}
 use Rattle.upon_tool_data.specs.declared.words.DataWords.{DataWords}
+use Rattle.upon_tool_io.specs.declared.arguments.DataCall.{DataCall}
 use Rattle.upon_tool_messages.specs.Status.{tool_status, IsMemory}
 use Rattle.upon_tool_messages.specs.declared.failure.Failure.{Failure}
 use Rattle.upon_tool_messages.specs.declared.failure.Failure.TheVariants.{Data}
-use Rattle.upon_tool.specs.Calls.{AreWordsOf, IsCallContext, IsNoContext, IsTextFault, NamedByCheck, NamedByNames, NamedByRender, RefusesCall}
+use Rattle.upon_tool.specs.Calls.{IsCallContext, IsNoContext, IsTextFault, NamedByCheck, NamedByNames, NamedByRender, RefusesCall}
 use Rattle.upon_tool_pages.specs.Refusals.{RefusesOrFails}
 use Rattle.upon_tool_pages.specs.Sources.{IsUnlisted, IsUnread}
 use Rattle.upon_tool.specs.Work.{checked_files, IsOneUnread, IsUnreadOf, RefusesWork}
@@ -27,21 +28,21 @@ use Rattle.upon_tool_pages.proofs.Refusals.{data_handed_on, handed_on, memory_ha
 
 -- there is no context, where standard input may have been taken
 abbrev no_context_of : World → RenderCall → Option (List ℕ) → ContextFault → Type 0
-no_context_of world call input = IsNoContext world (is_standard call.file.now) call input
+no_context_of world call input = IsNoContext world (is_standard call.file.now) call.data input
 
 pub data_refused : (world : World) (call : RenderCall) (input : Option (List ℕ)) (fault : ContextFault) (r : Result ℕ Failure) → IsErrAnd r (λ x. x ≡ Data fault) → no_context_of world call input fault → IfErr r (RefusesCall world (RenderAsked call) input)
 data_refused world call input fault r is refused = data_handed_on (no_context_of world call input) (NamedByRender world call input) (IsTextFault world call.file input) fault r is refused
 
 -- ---- the words of a call's data
-module _ (world : World) (call : RenderCall) (words : DataWords) (are : AreWordsOf call words) where
+module _ (world : World) (call : DataCall) (words : DataWords) (are : AreWordsOf call words) where
   -- what is said of the words is said of the call
   by_words : (P : Bool → List (Bor (List ℕ)) → Option (Bor (List ℕ)) → List (Bor (List ℕ)) → List (Bor (List ℕ)) → Type 0)
       → P words.env words.files.now words.format words.values.now words.texts.now
-      → P call.env call.data.items call.format call.set_json.items call.set.items
+      → P call.env call.files.items call.format call.set_json.items call.set.items
   by_words P is =
-      subst (λ texts. P call.env call.data.items call.format call.set_json.items texts) are.texts
-      (subst (λ values. P call.env call.data.items call.format values words.texts.now) are.values
-      (subst (λ format. P call.env call.data.items format words.values.now words.texts.now) are.format
+      subst (λ texts. P call.env call.files.items call.format call.set_json.items texts) are.texts
+      (subst (λ values. P call.env call.files.items call.format values words.texts.now) are.values
+      (subst (λ format. P call.env call.files.items format words.values.now words.texts.now) are.format
       (subst (λ files. P call.env files words.format words.values.now words.texts.now) are.files
       (subst (λ env. P env words.files.now words.format words.values.now words.texts.now) are.env is))))
 

@@ -59,7 +59,7 @@ read_syntax : (name : List ℕ) (read : Result (String Global) ReadFault) (old n
 read_syntax name (Ok text) old new takes = text_syntax name (string_bytes text) old new takes
 read_syntax name (Err fault) old new is = ap (λ e. e.syntax) is
 
-takes_syntax : (files : List FolderFile) (old new : Texts) → TakesFiles files old new → new.syntax ≡ old.syntax
+pub takes_syntax : (files : List FolderFile) (old new : Texts) → TakesFiles files old new → new.syntax ≡ old.syntax
 takes_syntax [] old new is = ap (λ e. e.syntax) is
 takes_syntax (file ∷ files) old new takes = takes_syntax files takes.0 new takes.2 ∙ read_syntax (string_bytes file.name) file.read old takes.0 takes.1
 
@@ -71,7 +71,7 @@ functions_syntax : (functions : List StandardFunction) (e : Texts) → (with_fun
 functions_syntax [] e = refl
 functions_syntax (f ∷ fs) e = functions_syntax fs (with_callable (standard_name f) (function (standard_answer f)) e)
 
-begun_syntax : (escape : Option Escape) (functions : List StandardFunction) → (tool_engine escape functions).syntax ≡ default_delimiters
+pub begun_syntax : (escape : Option Escape) (functions : List StandardFunction) → (tool_engine escape functions).syntax ≡ default_delimiters
 begun_syntax escape functions = functions_syntax functions (escaping_engine (language_for escape)) ∙ escaping_syntax (language_for escape)
 
 -- ---- what is shown

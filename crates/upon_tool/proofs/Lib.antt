@@ -6,3 +6,5 @@ pub mod FolderFiles
 pub mod Outputs
 pub mod ManyPages
 pub mod Taken
+pub mod OneTable
+pub mod PagesByTable

@@ -48,7 +48,7 @@ work_built world work value asked terminal e input status old was now is well = 
 
 -- ---- how a build is refused
 abbrev no_context_of : World → BuildCall → Option (List ℕ) → ContextFault → Type 0
-no_context_of world call input = IsNoContext world (may_be_input call.layout) call.render input
+no_context_of world call input = IsNoContext world (may_be_input call.layout) call.render.data input
 
 -- there is no context
 pub build_data_refused : (world : World) (call : BuildCall) (input : Option (List ℕ)) (fault : ContextFault) (r : Result ℕ Failure) → IsErrAnd r (λ x. x ≡ Data fault) → no_context_of world call input fault → IfErr r (RefusesCall world (BuildAsked call) input)

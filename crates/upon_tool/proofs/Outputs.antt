@@ -1,5 +1,6 @@
 -- Where the text of a page goes.
-use Rattle.std.proofs.Common.{◌≡◌, ℕ, List, [], Bool, true, false, not, Option, Some, Result, Ok, Err, IfSome, subst, ◌∙◌}
+use Rattle.std.proofs.Common.{◌≡◌, ℕ, List, [], ◌∷◌, ◌++◌, Bool, true, false, not, Option, Some, None, Result, Ok, Err, IfSome, ap, subst, ◌∙◌}
+use Rattle.std.specs.Io.KnownBytes.{Appends}
 use Rattle.upon_types.specs.declared.error.Error.{Error}
 use Rattle.upon_types.specs.Tree.{Statements}
 use Rattle.upon_types.specs.Val.{Val}
@@ -11,7 +12,7 @@ use Rattle.upon_vm.specs.Reports.{IsAnyIo, WritesReported}
 use Rattle.upon_vm.specs.declared.limits.Limits.{Limits}
 use Rattle.upon_engine.specs.Texts.{Stored, Texts}
 use Rattle.upon_engine.specs.Theorem.{IsTable, meaning}
-use Rattle.upon_tool_io.specs.Written.{Adds, Log}
+use Rattle.upon_tool_io.specs.Written.{written_as, Adds, Log, Written}
 use Rattle.upon_tool_messages.specs.Status.{tool_end_status}
 use Rattle.upon_tool_messages.specs.declared.failure.Failure.{Failure}
 use Rattle.upon_tool_messages.specs.declared.failure.Failure.TheVariants.{Unreadable, NotText, Data, Unwritable, Fault}
@@ -60,3 +61,25 @@ sent_by limits e name text tree v old new table (Err (Data fault)) unlimited is 
 sent_by limits e name text tree v old new table (Err (Unreadable file error)) unlimited is sends = absurd sends
 sent_by limits e name text tree v old new table (Err (NotText file)) unlimited is sends = absurd sends
 sent_by limits e name text tree v old new table (Err (Unwritable file error)) unlimited is sends = absurd sends
+
+-- ---- what is written of it, if it is known what was written before
+appended : (first last : Option (List ℕ)) (bytes : List ℕ) → first ≡ Some [] → Appends first last bytes → last ≡ Some bytes
+appended None last bytes is more = absurd cc
+appended (Some xs) None bytes is more = absurd more
+appended (Some xs) (Some ys) bytes is more = let none : xs ≡ [] = cc in ap Some (more ∙ ap (λ xs. xs ++ bytes) none)
+
+grown : (path bytes : List ℕ) (was : List Written) (now : Log) → Adds (Some bytes) path (Some was) now → now ≡ Some (was ++ (written_as path bytes ∷ []))
+grown path bytes was None adds = absurd adds
+grown path bytes was (Some all) adds = ap Some adds
+
+pub filed_by : (limits : Limits) (e : Texts) (name text : List ℕ) (tree : Statements) (v : Val) (path : List ℕ) (end : Result (Unit {0}) Failure) (was : List Written) (now : Log) (table : Table) → is_limited limits ≡ false
+    → IsTable e.texts table → 0 ≡ tool_end_status end → SendsToFile (λ r first last. SendsPage limits e (Some name) text tree v r first last) path end (Some was) now
+    → now ≡ Some (was ++ (written_as path (meaning e table (Some name) text tree v).text ∷ []))
+filed_by limits e name text tree v path (Ok u) was now table unlimited is well (first, last, start, sent, adds) =
+    let (end, more) = sent_by limits e name text tree v first last table (Ok u) unlimited is sent in
+    grown path (meaning e table (Some name) text tree v).text was now (subst (λ last. Adds last path (Some was) now) (appended first last (meaning e table (Some name) text tree v).text start more) adds)
+filed_by limits e name text tree v path (Err (Fault error)) was now table unlimited is well sends = absurd cc
+filed_by limits e name text tree v path (Err (Unwritable file error)) was now table unlimited is well sends = absurd cc
+filed_by limits e name text tree v path (Err (Data fault)) was now table unlimited is well sends = absurd sends
+filed_by limits e name text tree v path (Err (Unreadable file error)) was now table unlimited is well sends = absurd sends
+filed_by limits e name text tree v path (Err (NotText file)) was now table unlimited is well sends = absurd sends

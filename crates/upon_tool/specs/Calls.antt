@@ -18,6 +18,7 @@ use Rattle.upon_tool_io.specs.declared.arguments.Call.{Call}
 use Rattle.upon_tool_io.specs.declared.arguments.Call.TheVariants.{Render as RenderAsked, Check as CheckAsked, Fit as FitAsked, Shape as ShapeAsked, Names as NamesAsked, Each as EachAsked, Build as BuildAsked}
 use Rattle.upon_tool_io.specs.declared.arguments.BuildCall.{BuildCall}
 use Rattle.upon_tool_io.specs.declared.arguments.CheckCall.{CheckCall}
+use Rattle.upon_tool_io.specs.declared.arguments.DataCall.{DataCall}
 use Rattle.upon_tool_io.specs.declared.arguments.EachCall.{EachCall}
 use Rattle.upon_tool_io.specs.declared.arguments.NamesCall.{NamesCall}
 use Rattle.upon_tool_io.specs.declared.arguments.RenderCall.{RenderCall}
@@ -25,7 +26,6 @@ use Rattle.upon_tool_data.specs.Context.{IsContext, RefusesContext}
 use Rattle.upon_tool_data.specs.Sources.{is_standard, IsNoTextOf, IsTextOf}
 use Rattle.upon_tool_data.specs.Words.{IsWordFault}
 use Rattle.upon_tool_data.specs.declared.fault.ContextFault.{ContextFault}
-use Rattle.upon_tool_data.specs.declared.words.DataWords.{DataWords}
 use Rattle.upon_tool_many.specs.declared.build.Build.{Build}
 use Rattle.upon_tool_many.specs.declared.each.Each.{Each}
 use Rattle.upon_tool_messages.specs.Status.{tool_end_status, tool_status}
@@ -44,14 +44,6 @@ use Rattle.upon_tool_pages.specs.declared.sources.FolderFile.{FolderFile}
 -- the limits that a call asks for
 abbrev pub limits_asked : RenderCall → Limits
 limits_asked call = record { steps = call.max_steps; output = call.max_output; values = call.max_memory }
-
--- the words of a call's data
-pub record AreWordsOf (call : RenderCall) (words : DataWords) : Type 0 where
-  pub env : words.env ≡ call.env
-  pub files : words.files.now ≡ call.data.items
-  pub format : words.format ≡ call.format
-  pub values : words.values.now ≡ call.set_json.items
-  pub texts : words.texts.now ≡ call.set.items
 
 -- what the engine of a call holds before its templates
 abbrev pub engine_asked : RenderCall → Texts
@@ -91,9 +83,9 @@ status_at (Err failure) = tool_status failure
 
 module _ (world : World) where
   -- the value that a call's data are, by what standard input had left and has left, if that is known
-  abbrev pub IsCallContext : RenderCall → Option (List ℕ) → Val → Option (List ℕ) → Type 0
+  abbrev pub IsCallContext : DataCall → Option (List ℕ) → Val → Option (List ℕ) → Type 0
   IsCallContext call input v later =
-      IsContext world call.env call.data.items call.format call.set_json.items call.set.items input v later
+      IsContext world call.env call.files.items call.format call.set_json.items call.set.items input v later
 
   -- A call of `render` ends with a status, by what standard input had left, if that is known. FILE's text was read, and
   -- the files of the context, after it, which is a value; and then the folder's files. Each text that is held has a
@@ -111,7 +103,7 @@ module _ (world : World) where
     pub folder : Texts
     pub read : IsTextOf world call.file.now input text
     pub left : is_standard call.file.now ≡ false → later ≡ input
-    pub data_read : IsCallContext call later value last
+    pub data_read : IsCallContext call.data later value last
     pub listed_files : AreFolderFiles world call.templates call.follow files
     pub taken : TakesFiles files (engine_asked call) folder
     pub trees : EachHasTree (with_text call.file.now text folder)
@@ -151,7 +143,7 @@ module _ (world : World) where
     pub folder : Texts
     pub read : IsTextOf world call.render.file.now input text
     pub left : is_standard call.render.file.now ≡ false → later ≡ input
-    pub data_read : IsCallContext call.render later value last
+    pub data_read : IsCallContext call.render.data later value last
     pub listed_files : AreFolderFiles world call.render.templates call.render.follow files
     pub taken : TakesFiles files (engine_asked call.render) folder
     pub trees : EachHasTree (with_text call.render.file.now text folder)
@@ -175,7 +167,7 @@ module _ (world : World) where
     pub folder : Texts
     pub read : IsLayout call.layout input layout
     pub left : may_be_input call.layout ≡ false → later ≡ input
-    pub data_read : IsCallContext call.render later value last
+    pub data_read : IsCallContext call.render.data later value last
     pub listed_files : AreFolderFiles world call.render.templates call.render.follow files
     pub taken : TakesFiles files (engine_asked call.render) folder
     pub trees : EachHasTree (with_page layout folder)
@@ -188,10 +180,10 @@ module _ (world : World) where
 
   -- The words of a call's data are wrong, where standard input may have been taken; or they give no context, by what
   -- standard input has left after that.
-  abbrev pub IsNoContext : Bool → RenderCall → Option (List ℕ) → ContextFault → Type 0
-  IsNoContext taken call input fault = IsWordFault taken call.data.items call.set_json.items call.set.items fault
+  abbrev pub IsNoContext : Bool → DataCall → Option (List ℕ) → ContextFault → Type 0
+  IsNoContext taken call input fault = IsWordFault taken call.files.items call.set_json.items call.set.items fault
       ⊎ ((later : Option (List ℕ)) × (taken ≡ false → later ≡ input)
-      × RefusesContext world call.env call.data.items call.format call.set_json.items call.set.items later fault)
+      × RefusesContext world call.env call.files.items call.format call.set_json.items call.set.items later fault)
 
   -- the layout's text, as it was read, has this fault
   abbrev pub IsFaultOfLayout : Option (Bor (List ℕ)) → Option (List ℕ) → Error → Type 0
@@ -225,16 +217,17 @@ module _ (world : World) where
 
   -- Why a call ends before its work.
   abbrev pub RefusesCall : Call → Option (List ℕ) → Failure → Type 0
-  RefusesCall (RenderAsked call) input = RefusesOrFails (IsNoContext (is_standard call.file.now) call input)
+  RefusesCall (RenderAsked call) input = RefusesOrFails (IsNoContext (is_standard call.file.now) call.data input)
       (NamedByRender call input) (IsTextFault call.file input)
   RefusesCall (CheckAsked call) input = RefusesOrFails (λ fault. ⊥) (NamedByCheck call) (λ error. ⊥)
   RefusesCall (FitAsked call) input = RefusesOrFails (λ fault. Unit {0}) (NamedByCheck call.check) (λ error. ⊥)
   RefusesCall (ShapeAsked call) input = RefusesOrFails (λ fault. Unit {0}) (λ name fault. ⊥) (λ error. ⊥)
   RefusesCall (NamesAsked call) input =
       RefusesOrFails (λ fault. ⊥) (NamedByNames call input) (IsTextFault call.file input)
-  RefusesCall (EachAsked call) input = RefusesOrFails (IsNoContext (is_standard call.render.file.now) call.render input)
-      (NamedByRender call.render input) (IsTextFault call.render.file input)
-  RefusesCall (BuildAsked call) input = RefusesOrFails (IsNoContext (may_be_input call.layout) call.render input)
+  RefusesCall (EachAsked call) input = RefusesOrFails
+      (IsNoContext (is_standard call.render.file.now) call.render.data input) (NamedByRender call.render input)
+      (IsTextFault call.render.file input)
+  RefusesCall (BuildAsked call) input = RefusesOrFails (IsNoContext (may_be_input call.layout) call.render.data input)
       (NamedByBuild call input) (IsFaultOfLayout call.layout input)
 
   -- a call's work is done, and ends with a status; files are written by `render` and `build` alone

@@ -4,3 +4,4 @@ pub mod Work
 pub mod Checked
 pub mod Fitting
 pub mod Calls
+pub mod ByTable

@@ -4,7 +4,7 @@ ghost use Rattle.upon_tool.specs.Checked.{ChecksCall};
 ghost use Rattle.upon_tool.specs.Filled.{standard_functions};
 ghost use Rattle.upon_tool_pages.specs.ManyPages.{limits_set};
 ghost use Rattle.upon_tool_pages.specs.Sources.{IsUnread};
-ghost use Rattle.upon_tool.specs.Calls.{may_be_input, limits_asked, AreWordsOf, BuildsCall, CallEnds, IsLayout, ListsCall, RefusesCall, RendersCall, RendersEachCall, RunsCall};
+ghost use Rattle.upon_tool.specs.Calls.{may_be_input, limits_asked, BuildsCall, CallEnds, IsLayout, ListsCall, RefusesCall, RendersCall, RendersEachCall, RunsCall};
 ghost use Rattle.upon_tool_io.specs.declared.arguments.Color.TheVariants.{Auto, Always, Never};
 ghost use Rattle.upon_tool_io.specs.declared.arguments.Call.TheVariants.{Render as RenderAsked, Check as CheckAsked, Names as NamesAsked, Each as EachAsked, Build as BuildAsked};
 
@@ -165,7 +165,7 @@ fn run_render<'a, R: Sources + Clock + AllocGlobal, T: Targets, I: Read, O: Writ
     ensures unwritten { OnErr result (T.written targets.new ≡ T.written targets.old) }
     ensures refused { IfErr result (RefusesCall (R.world rt.now) (RenderAsked call.now) (I.remaining input.old)) }
 {
-    let words = data_words(call);
+    let words = DataWords::of(&call.data);
     check(&words, call.file == STANDARD)?;
     let source = text_of(rt, call.file, input)?;
     let value = context(rt, &words, input)?;
@@ -305,7 +305,7 @@ fn run_each<'a, R: Sources + Clock + AllocGlobal, T: Targets, I: Read, O: Write,
     ensures refused { IfErr result (RefusesCall (R.world rt.now) (EachAsked call.now) (I.remaining input.old)) }
 {
     let render = &call.render;
-    let words = data_words(render);
+    let words = DataWords::of(&render.data);
     check(&words, render.file == STANDARD)?;
     let source = text_of(rt, render.file, input)?;
     let value = context(rt, &words, input)?;
@@ -353,7 +353,7 @@ fn run_build<'a, R: Sources + Clock + AllocGlobal, T: Targets, I: Read, O: Write
     ensures refused { IfErr result (RefusesCall (R.world rt.now) (BuildAsked call.now) (I.remaining input.old)) }
 {
     let render = &call.render;
-    let words = data_words(render);
+    let words = DataWords::of(&render.data);
     check(&words, is_input(call.layout))?;
     let layout = layout_of(rt, call.layout, input)?;
     let value = context(rt, &words, input)?;
@@ -381,19 +381,6 @@ fn run_build<'a, R: Sources + Clock + AllocGlobal, T: Targets, I: Read, O: Write
         out,
         err,
     )
-}
-
-// The words of a call's data.
-fn data_words<'a, 'w>(call: &'w RenderCall<'a>) -> DataWords<'a, 'w>
-    ensures { AreWordsOf call.entry.now result }
-{
-    DataWords {
-        env: call.env,
-        files: call.data.as_slice(),
-        format: call.format,
-        values: call.set_json.as_slice(),
-        texts: call.set.as_slice(),
-    }
 }
 
 // Whether a file that may be named is standard input.

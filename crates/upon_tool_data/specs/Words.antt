@@ -6,10 +6,12 @@ use Rattle.upon_types.specs.Bytes.{equals_sign}
 use Rattle.upon_data.specs.Format.{format_named, format_of_path}
 use Rattle.upon_data.specs.declared.format.Format.{Format}
 use Rattle.upon_data.specs.declared.format.Format.TheVariants.{Json}
+use Rattle.upon_tool_io.specs.declared.arguments.DataCall.{DataCall}
 use Rattle.upon_tool_data.specs.Sources.{is_standard}
 use Rattle.upon_tool_data.specs.declared.fault.ContextFault.{ContextFault}
 use Rattle.upon_tool_data.specs.declared.fault.ContextFault.TheVariants.{LacksText, LacksValue, InputTwice, Unreadable, NotText}
 use Rattle.upon_tool_data.specs.declared.fault.ContextFault.TheVariants.{NotOfFormat, NotObject, NotJson, NotMap, OutOfMemory}
+use Rattle.upon_tool_data.specs.declared.words.DataWords.{DataWords}
 
 -- a `=` (61)
 abbrev pub is_equals : ℕ → Bool
@@ -56,6 +58,14 @@ is_input word = is_standard (file_of word)
 abbrev pub asks_again : Bool → List (Bor (List ℕ)) → Bool
 asks_again asked [] = false
 asks_again asked (word ∷ words) = (asked && is_input word.now) || asks_again (asked || is_input word.now) words
+
+-- the words of a call's data
+pub record AreWordsOf (call : DataCall) (words : DataWords) : Type 0 where
+  pub env : words.env ≡ call.env
+  pub files : words.files.now ≡ call.files.items
+  pub format : words.format ≡ call.format
+  pub values : words.values.now ≡ call.set_json.items
+  pub texts : words.texts.now ≡ call.set.items
 
 -- Standard input is asked for once at most, and each word that is to set a value has a `=`.
 abbrev pub AreRightWords : Bool → List (Bor (List ℕ)) → List (Bor (List ℕ)) → List (Bor (List ℕ)) → Type 0

@@ -6,6 +6,7 @@ ghost use Rattle.upon_tool_data.specs.Words.{asks_again, file_of, format_asked, 
 use crate::fault::ContextFault;
 use crate::sources::STANDARD;
 use upon_data::format::Format;
+use upon_tool_io::arguments::DataCall;
 
 /// What a call says of its data.
 #[derive(Clone, Copy)]
@@ -20,6 +21,23 @@ pub struct DataWords<'a, 'w> {
     pub values: &'w [&'a str],
     /// The words of `--set`, each `PATH=TEXT`.
     pub texts: &'w [&'a str],
+}
+
+impl<'a, 'w> DataWords<'a, 'w> {
+    ghost use Rattle.upon_tool_data.specs.Words.{AreWordsOf};
+
+    /// Returns the words of a call's data.
+    pub fn of(call: &'w DataCall<'a>) -> DataWords<'a, 'w>
+        ensures { AreWordsOf call.entry.now result }
+    {
+        DataWords {
+            env: call.env,
+            files: call.files.as_slice(),
+            format: call.format,
+            values: call.set_json.as_slice(),
+            texts: call.set.as_slice(),
+        }
+    }
 }
 
 /// Checks the words, before anything is read. Standard input can be a template's file too.

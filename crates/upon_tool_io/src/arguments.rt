@@ -32,16 +32,8 @@ pub enum Call<'a> {
 pub struct RenderCall<'a> {
     /// The template's file; `-` is standard input.
     pub file: &'a str,
-    /// Whether the variables of the environment are data, a map at the key `env`.
-    pub env: bool,
-    /// The words of `--data`, each `FILE` or `KEY=FILE`; the file `-` is standard input.
-    pub data: Vec<&'a str>,
-    /// The name of the format that each file of the data has, if it is given.
-    pub format: Option<&'a str>,
-    /// The words of `--set-json`.
-    pub set_json: Vec<&'a str>,
-    /// The words of `--set`.
-    pub set: Vec<&'a str>,
+    /// The data of the context.
+    pub data: DataCall<'a>,
     /// The folder of the templates that can be included.
     pub templates: Option<&'a str>,
     /// Whether links out of the folder are followed.
@@ -60,6 +52,22 @@ pub struct RenderCall<'a> {
     pub max_memory: Option<usize>,
     /// When pictures of errors have colors.
     pub color: Color,
+}
+
+/// The data of a context, or of samples, that are asked for.
+#[derive(Drop)]
+pub struct DataCall<'a> {
+    /// Whether the variables of the environment are data, a map at the key `env`.
+    pub env: bool,
+    /// The words of `--data`, each `FILE` or `KEY=FILE`; the file `-` is standard input. In a check each `FILE` is a
+    /// sample, and each `KEY=FILE` is put into all of them.
+    pub files: Vec<&'a str>,
+    /// The name of the format that each file has, if it is given.
+    pub format: Option<&'a str>,
+    /// The words of `--set-json`, each `PATH=JSON`.
+    pub set_json: Vec<&'a str>,
+    /// The words of `--set`, each `PATH=TEXT`.
+    pub set: Vec<&'a str>,
 }
 
 /// A language that values are escaped for.
@@ -99,16 +107,8 @@ pub struct CheckCall<'a> {
 pub struct ContextsCall<'a> {
     /// The file of a JSON Schema, if there is one; `-` is standard input.
     pub schema: Option<&'a str>,
-    /// Whether the variables of the environment are data of each sample, a map at the key `env`.
-    pub env: bool,
-    /// The words of `--data`: each `FILE` is a sample, and each `KEY=FILE` is put into all of them.
-    pub data: Vec<&'a str>,
-    /// The name of the format that each file of the data has, if it is given.
-    pub format: Option<&'a str>,
-    /// The words of `--set-json`, for each sample.
-    pub set_json: Vec<&'a str>,
-    /// The words of `--set`, for each sample.
-    pub set: Vec<&'a str>,
+    /// The data of the samples.
+    pub data: DataCall<'a>,
 }
 
 /// A check on contexts that is asked for.
@@ -272,14 +272,10 @@ fn any_rendering<'a>(alloc: Global, matches: &ArgMatches<'a>) -> Result<Call<'a>
 
 // What a rendering's matches ask for.
 fn render_call<'a>(alloc: Global, matches: &ArgMatches<'a>) -> Result<RenderCall<'a>, AllocError> {
-    let contexts = contexts_call(alloc, matches)?;
+    let data = data_call(alloc, matches)?;
     Ok(RenderCall {
         file: matches.get_str(FILE).unwrap_or_default(),
-        env: contexts.env,
-        data: contexts.data,
-        format: contexts.format,
-        set_json: contexts.set_json,
-        set: contexts.set,
+        data,
         templates: matches.get_str(TEMPLATES),
         follow: matches.get_flag(FOLLOW),
         escape: escape_of(matches.get_str(ESCAPE), matches.get_flag(HTML)),
@@ -381,11 +377,12 @@ fn check_on<'a>(check: CheckCall<'a>, contexts: ContextsCall<'a>) -> Call<'a> {
 
 // Whether there are contexts.
 fn has_contexts(contexts: &ContextsCall<'_>) -> bool {
+    let data = &contexts.data;
     contexts.schema.is_some()
-        || contexts.env
-        || !contexts.data.is_empty()
-        || !contexts.set_json.is_empty()
-        || !contexts.set.is_empty()
+        || data.env
+        || !data.files.is_empty()
+        || !data.set_json.is_empty()
+        || !data.set.is_empty()
 }
 
 // The contexts that the matches ask for; only a check has a schema.
@@ -393,13 +390,21 @@ fn contexts_call<'a>(
     alloc: Global,
     matches: &ArgMatches<'a>,
 ) -> Result<ContextsCall<'a>, AllocError> {
-    let data = words(alloc, matches, DATA)?;
-    let set_json = words(alloc, matches, SET_JSON)?;
-    let set = words(alloc, matches, SET)?;
+    let data = data_call(alloc, matches)?;
     Ok(ContextsCall {
         schema: matches.get_str(SCHEMA),
-        env: matches.get_flag(ENV),
         data,
+    })
+}
+
+// The data that the matches ask for.
+fn data_call<'a>(alloc: Global, matches: &ArgMatches<'a>) -> Result<DataCall<'a>, AllocError> {
+    let files = words(alloc, matches, DATA)?;
+    let set_json = words(alloc, matches, SET_JSON)?;
+    let set = words(alloc, matches, SET)?;
+    Ok(DataCall {
+        env: matches.get_flag(ENV),
+        files,
         format: matches.get_str(FORMAT),
         set_json,
         set,

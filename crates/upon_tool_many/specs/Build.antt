@@ -61,8 +61,10 @@ module _ (world : World) where
   -- How the page of a name ends that is made of a template's file: by the text of what that may hold; or it was not
   -- read.
   abbrev pub EndsOfTemplate : List ℕ → List ℕ → Texts → Build → Val → PageEnd → Log → Log → Type 0
-  EndsOfTemplate name path e asked context end old new = ((source : List ℕ) × (text : Result (String Global) PageFault)
-      × world.holds (joined_path asked.source.now path) source × IsPageText e asked context source text
+  EndsOfTemplate name path e asked context end old new = ((source : String Global)
+      × (text : Result (String Global) PageFault)
+      × world.holds (joined_path asked.source.now path) (string_bytes source)
+      × IsPageText e asked context (string_bytes source) text
       × PageEndsBy world (joined_path asked.out.now name) text end old new)
       ⊎ IsUnreadPage (joined_path asked.source.now path) end old new
 

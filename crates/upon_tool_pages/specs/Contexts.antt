@@ -11,15 +11,8 @@ use Rattle.upon_tool_io.specs.World.{World}
 use Rattle.upon_tool_io.specs.declared.arguments.ContextsCall.{ContextsCall}
 use Rattle.upon_tool_data.specs.Files.{IsRead}
 use Rattle.upon_tool_data.specs.Samples.{sample_files, AreSamples}
+use Rattle.upon_tool_data.specs.Words.{AreWordsOf}
 use Rattle.upon_tool_data.specs.declared.words.DataWords.{DataWords}
-
--- the words of a call's samples
-pub record AreSampleWords (call : ContextsCall) (words : DataWords) : Type 0 where
-  pub env : words.env ≡ call.env
-  pub files : words.files.now ≡ call.data.items
-  pub format : words.format ≡ call.format
-  pub values : words.values.now ≡ call.set_json.items
-  pub texts : words.texts.now ≡ call.set.items
 
 module _ (world : World) where
   -- Samples were read, by what standard input had left, if that is known, and each of them fits a shape.
@@ -27,7 +20,7 @@ module _ (world : World) where
     pub words : DataWords
     pub samples : List Val
     pub later : Option (List ℕ)
-    pub asked : AreSampleWords call words
+    pub asked : AreWordsOf call.data words
     pub read : AreSamples world words (sample_files words.files.now) input samples later
     pub fit : (sample : Val) → IsAmong sample samples → Fits s sample
 

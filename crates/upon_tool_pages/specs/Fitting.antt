@@ -5,6 +5,7 @@ use Rattle.upon_shape_spec.specs.Shape.{Shape}
 use Rattle.upon_calls.specs.Asked.{Asked}
 use Rattle.upon_calls.specs.Contexts.{EndsOnEach}
 use Rattle.upon_calls.specs.Filled.{filled}
+use Rattle.upon_calls.specs.Rendering.{EachHasTree}
 use Rattle.upon_calls.specs.declared.escaping.Language.{Language}
 use Rattle.upon_calls.specs.declared.escaping.Language.TheVariants.{Html, Json, Shell, Yaml}
 use Rattle.upon_tool_io.specs.declared.arguments.Escape.{Escape}
@@ -29,7 +30,7 @@ asked_of escape standard = record {
 }
 
 -- a template of a name and text ends without a fault on each value of a shape, but that includes may be too deep one
--- inside another, where an engine holds the texts of a folder and then this one
+-- inside another, where an engine holds the texts of a folder and then this one, each of which has a tree
 abbrev pub FileFits : Option Escape → Bool → List (List ℕ × List ℕ) → Shape → List ℕ → List ℕ → Type 0
 FileFits escape standard folder s name text =
-    EndsOnEach (filled (asked_of escape standard) (folder ++ (name, text) ∷ [])) name s
+    let e = filled (asked_of escape standard) (folder ++ (name, text) ∷ []) in EachHasTree e × EndsOnEach e name s

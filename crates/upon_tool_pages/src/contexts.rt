@@ -1,7 +1,7 @@
 // What is known of the contexts of a check: the shape of samples, or of what is valid by a schema.
 ghost use Rattle.std.specs.Prelude.{◌≡◌, IfOk, IfSome};
 ghost use Rattle.upon_shape.specs.View.{shape_view};
-ghost use Rattle.upon_tool_pages.specs.Contexts.{AreSampleWords, HasShape, EachSampleFits, SchemaFits};
+ghost use Rattle.upon_tool_pages.specs.Contexts.{HasShape, EachSampleFits, SchemaFits};
 
 use std::io::{Read, Write};
 use upon_data::format::Format;
@@ -41,23 +41,10 @@ fn of_samples<'a, R: Sources + AllocGlobal, I: Read>(
 ) -> Result<Shape, ContextFault<'a>>
     ensures { IfOk result (λ s. EachSampleFits (R.world rt.now) contexts.now (I.remaining input.old) (shape_view s)) }
 {
-    let words = data_words(contexts);
+    let words = DataWords::of(&contexts.data);
     check(&words, false)?;
     let all = samples(rt, &words, input)?;
     Ok(Shape::of_samples(rt.alloc(), all.as_slice())?)
-}
-
-// The words of a call's samples.
-fn data_words<'a, 'w>(contexts: &'w ContextsCall<'a>) -> DataWords<'a, 'w>
-    ensures { AreSampleWords contexts.entry.now result }
-{
-    DataWords {
-        env: contexts.env,
-        files: contexts.data.as_slice(),
-        format: contexts.format,
-        values: contexts.set_json.as_slice(),
-        texts: contexts.set.as_slice(),
-    }
 }
 
 // The shape of what is valid by the schema in a file.

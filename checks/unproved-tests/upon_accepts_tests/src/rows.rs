@@ -10,6 +10,9 @@ const SAMPLE: &str = r#"{"name": "J", "n": 1, "b": true, "nil": null, "list": [1
     "map": {"a": 1, "b": 2}, "deep": {"er": {"most": 1}},
     "tree": {"v": 1, "kids": [{"v": 2, "kids": []}, {"v": 3, "kids": [{"v": 4, "kids": []}]}]}}"#;
 
+// The keys of a sample, beside the one that is shown.
+const KEYS: usize = 6_000; // ./test: 600
+
 // Each row: the template, the one that it may include as `t`, and what is said.
 fn all_are_said(alloc: Global, rows: &[(&str, &str, &str)]) -> Result<(), Fail> {
     let sample = upon_json::context::context(alloc, Some(SAMPLE), &[]);
@@ -210,6 +213,27 @@ fn a_ring(rt: HostRuntime) -> Result<(), Fail> {
     ] {
         let Ok(sample) = upon_json::context::context(alloc, Some(sample), &[]) else {
             return Err(Fail::new(format_args!("the sample is no JSON")));
+        };
+        assert_eq!(&rt; said_of(alloc, &engine, &sample)?.as_str(), wanted);
+    }
+    Ok(())
+}
+
+// Each key of a sample is known, however many there are.
+#[test]
+fn a_sample_of_many_keys(rt: HostRuntime) -> Result<(), Fail> {
+    let alloc = rt.alloc();
+    let mut json = String::from_str(alloc, "{\"shown\": 1")?;
+    for number in 0..KEYS {
+        json.push_str(format!(in alloc; ", \"k{number}\": 1")?.as_str())?;
+    }
+    json.push('}')?;
+    let Ok(sample) = upon_json::context::context(alloc, Some(json.as_str()), &[]) else {
+        return Err(Fail::new(format_args!("the sample is no JSON")));
+    };
+    for (main, wanted) in [("{{ shown }}", "accepted"), ("{{ other }}", "member at 3..8 in main")] {
+        let Some(engine) = engine_of(alloc, main, "")? else {
+            return Err(Fail::new(format_args!("no template: {main}")));
         };
         assert_eq!(&rt; said_of(alloc, &engine, &sample)?.as_str(), wanted);
     }

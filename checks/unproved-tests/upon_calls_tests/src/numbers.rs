@@ -1,13 +1,17 @@
-// Calls with 1, 17, 101 and 1,001 of what they may have many of: templates, pages on contexts, keywords, names.
+// Calls with 1, 17, 101, 1,001 and 10,001 of what they may have many of: templates, includes, parts of a text, items and keys
+// of a context, samples, pages on contexts, keywords, names.
 use std::alloc::{AllocError, Global};
 use std::process::Abort;
 use std::test::Fail;
 use upon_calls::check::check;
 use upon_calls::failure::Failure;
 use upon_calls::names::names;
-use upon_calls::render::render;
+use upon_calls::render::{render, render_text};
 
 const COUNTS: [u32; 4] = [1, 17, 101, 1_001];
+
+// So many of what costs little.
+const MOST: [u32; 5] = [1, 17, 101, 1_001, 10_001]; // ./test: [1, 17, 101, 1_001, 1_002]
 
 // How many places a check shows at most.
 const SHOWN: usize = 100;
@@ -94,6 +98,89 @@ fn names_that_a_page_reads(rt: HostRuntime) -> Result<(), Fail> {
         let listed = text.as_str().matches("\"n").count();
         // The word `names` begins so too.
         assert!(&rt; listed == count as usize + 1, "{listed} names of {count}");
+    }
+    Ok(())
+}
+
+// The text of a call.
+fn text_of(given: Result<String, Failure>) -> Result<String, Fail> {
+    match given {
+        Ok(text) => Ok(text),
+        Err(_) => Err(Fail::new("a call has no text")),
+    }
+}
+
+// The call has this text.
+fn is_text(rt: &impl Abort, given: Result<String, Failure>, wanted: &str, what: &str) {
+    let has_text = matches!(&given, Ok(text) if text.as_str() == wanted);
+    assert!(rt; has_text, "{what}");
+}
+
+#[test]
+fn parts_of_a_text(rt: HostRuntime) -> Result<(), Fail> {
+    let alloc = rt.alloc();
+    for count in MOST {
+        let wanted = numbered(alloc, "", count, ("x", ""), "")?;
+        let source = numbered(alloc, "", count, ("{{ \"x", "\" }}"), "")?;
+        let given = render_text(alloc, source.as_bytes(), b"", b"");
+        is_text(&rt, given, wanted.as_str(), "literals in a row");
+    }
+    Ok(())
+}
+
+#[test]
+fn items_and_keys(rt: HostRuntime) -> Result<(), Fail> {
+    let alloc = rt.alloc();
+    let rows = b"{% for x in rows %}{{ x }}{% if not loop.last %}, {% endif %}{% endfor %}";
+    for count in MOST {
+        let wanted = numbered(alloc, "", count, ("", ""), "")?;
+        let items = numbered(alloc, "{\"rows\": [", count, ("", ""), "]}")?;
+        is_text(&rt, render_text(alloc, rows, items.as_bytes(), b""), wanted.as_str(), "items");
+        let ones = numbered(alloc, "", count, ("1{#", "#}"), "")?;
+        let ones = text_of(render_text(alloc, ones.as_bytes(), b"", b""))?;
+        let keys = numbered(alloc, "{", count, ("\"k", "\": 1"), "}")?;
+        let source = numbered(alloc, "", count, ("{{ k", " }}"), "")?;
+        let given = render_text(alloc, source.as_bytes(), keys.as_bytes(), b"");
+        is_text(&rt, given, ones.as_str(), "keys");
+    }
+    Ok(())
+}
+
+#[test]
+fn templates_that_a_page_includes(rt: HostRuntime) -> Result<(), Fail> {
+    let alloc = rt.alloc();
+    for count in COUNTS {
+        let page = numbered(alloc, "", count, ("{% include \\\"p", "\\\" %}"), "")?;
+        let page = format!(in alloc; "\"page\": \"{page}\"")?;
+        let parts = numbered(alloc, "", count, ("\"p", "\": \"{# #}\""), "")?;
+        let empty = format!(in alloc; "{{{page}, {parts}}}")?;
+        let given = text_of(render(alloc, empty.as_bytes(), b"", b"page", b""))?;
+        let commas = given.as_str().matches(", ").count() + 1;
+        assert_eq!(&rt; commas, count as usize);
+        is_text(&rt, check(alloc, empty.as_bytes(), b""), "", "includes that are there");
+        let listed = text_of(names(alloc, empty.as_bytes(), b"page", b""))?;
+        assert_eq!(&rt; listed.as_str().matches("\"p").count(), count as usize);
+        let alone = format!(in alloc; "{{{page}}}")?;
+        let Err(Failure::Faults(pictures)) = check(alloc, alone.as_bytes(), b"") else {
+            return Err(Fail::new("a fault is missing"));
+        };
+        let shown = pictures.as_str().matches("unknown template").count();
+        assert_eq!(&rt; shown, SHOWN.min(count as usize));
+    }
+    Ok(())
+}
+
+#[test]
+fn samples(rt: HostRuntime) -> Result<(), Fail> {
+    let alloc = rt.alloc();
+    for count in MOST {
+        let samples = numbered(alloc, "{\"samples\": [", count, ("{\"n\": \"", "\"}"), "")?;
+        let right = format!(in alloc; "{samples}]}}")?;
+        let given = check(alloc, b"{\"page\": \"{{ n }}\"}", right.as_bytes());
+        is_text(&rt, given, "", "samples");
+        let lacking = format!(in alloc; "{samples}, {{}}]}}")?;
+        let given = check(alloc, b"{\"page\": \"{{ n }}\"}", lacking.as_bytes());
+        assert!(&rt; matches!(given, Err(Failure::Faults(_))), "{count} samples and one that lacks it");
     }
     Ok(())
 }

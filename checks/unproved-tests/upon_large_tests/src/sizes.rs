@@ -5,6 +5,7 @@ use std::process::Abort;
 use std::test::Fail;
 use upon::{Engine, Value};
 use upon_examples::answers::line_of;
+use upon_serde::to_value;
 
 // How often a text is doubled, a literal, and a list's items.
 const TEXTS: usize = 20; // ./test: 16
@@ -13,6 +14,13 @@ const ITEMS: usize = 12; // ./test: 9
 
 // The bytes of the largest literal.
 const LARGEST: usize = 1 << 20; // ./test: 1 << 17
+
+// How near to a power of two sizes are tried.
+const NEAR: usize = 8;
+
+// The bytes of a source, and the items of a program's own list.
+const SOURCE: usize = 17_000_000; // ./test: 170_000
+const LISTED: u32 = 250_000; // ./test: 2_500
 
 // A text many times over.
 fn many(alloc: Global, part: &str, times: usize) -> Result<String, AllocError> {
@@ -162,6 +170,50 @@ fn limits_of_depth(rt: HostRuntime) -> Result<(), Fail> {
             "render error: reached maximum include depth ({limit})"
         )?;
         assert!(&rt; line == wanted, "{line}");
+    }
+    Ok(())
+}
+
+// A long source is written as any other.
+#[test]
+fn a_source_of_many_bytes(rt: HostRuntime) -> Result<(), Fail> {
+    let alloc = rt.alloc();
+    let source = "x".repeat(alloc, SOURCE)?;
+    let mut received = Vec::new(alloc);
+    Engine::new(alloc).render_text_to(source.as_str(), &Value::None, &mut received)?;
+    assert_eq!(&rt; received.len(), SOURCE);
+    Ok(())
+}
+
+// A program's own list is a value, however long.
+#[test]
+fn a_list_of_many_items(rt: HostRuntime) -> Result<(), Fail> {
+    let alloc = rt.alloc();
+    let mut items = Vec::new(alloc);
+    for number in 0..LISTED {
+        items.push(number)?;
+    }
+    let Value::List(list) = to_value(alloc, items)? else {
+        return Err(Fail::new(format_args!("no list")));
+    };
+    assert_eq!(&rt; list.len(), LISTED as usize);
+    Ok(())
+}
+
+// Texts of each size near a power of two are templates.
+#[test]
+fn sizes_around_powers_of_two(rt: HostRuntime) -> Result<(), Fail> {
+    let alloc = rt.alloc();
+    let engine = Engine::new(alloc);
+    let longest = "x".repeat(alloc, LARGEST + NEAR)?;
+    let mut power = NEAR;
+    while power <= LARGEST {
+        for size in power - NEAR..=power + NEAR {
+            let text = longest.get(..size).unwrap_or_default();
+            let template = engine.compile(CowStr::Borrowed(text))?;
+            assert_eq!(&rt; template.source().len(), size);
+        }
+        power = power.wrapping_mul(2);
     }
     Ok(())
 }

@@ -6,6 +6,7 @@ use std::process::Abort;
 use std::test::Fail;
 use upon::{Engine, Value};
 use upon_examples::answers::describe;
+use upon_types::error::ErrorKind;
 
 // It keeps what it receives, and counts its flushes.
 #[derive(Drop)]
@@ -90,5 +91,38 @@ fn the_error_is_that_of_a_template_of_the_engine(rt: HostRuntime) -> Result<(), 
     let wanted = "render error: not found in this scope at 4..5 in t";
     assert_eq!(&rt; describe(alloc, &error)?.as_str(), wanted);
     assert!(&rt; received.as_slice() == b"a".as_slice());
+    Ok(())
+}
+
+// It fails with this error of the system.
+#[derive(Drop)]
+struct Fails {
+    code: i32,
+}
+
+impl Write for Fails {
+    fn write(&mut self, _bytes: &[u8]) -> io::Result<usize> {
+        Err(io::Error::from_raw_os_error(self.code))
+    }
+
+    fn flush(&mut self) -> io::Result<()> {
+        Ok(())
+    }
+}
+
+// The error that a writer answers is reported, and no other one of its kind.
+#[test]
+fn the_error_is_the_writers(rt: HostRuntime) -> Result<(), Fail> {
+    let alloc = rt.alloc();
+    let engine = Engine::new(alloc);
+    for code in [5, 28, 32, 122] {
+        let Err(error) = engine.render_text_to("x", &Value::None, &mut Fails { code }) else {
+            return Err(Fail::new("no error"));
+        };
+        let ErrorKind::Io(error) = error.kind() else {
+            return Err(Fail::new("no error of a writer"));
+        };
+        assert_eq!(&rt; error.raw_os_error(), Some(code));
+    }
     Ok(())
 }

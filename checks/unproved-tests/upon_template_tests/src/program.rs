@@ -219,3 +219,16 @@ fn broken_file_and_streams(rt: HostRuntime) -> Result<(), Fail> {
     );
     Ok(())
 }
+
+// The picture of a long line is written whole.
+#[test]
+fn wide_pictures(rt: HostRuntime) -> Result<(), Fail> {
+    let alloc = rt.alloc();
+    let mut page = "x".repeat(alloc, 70_000)?;
+    page.push_str("{{ none }}")?;
+    let (status, out, err) = run_on(alloc, &["t"], Some(page.as_bytes()))?;
+    assert_eq!(&rt; status, 1);
+    assert_eq!(&rt; out.len(), 70_000);
+    assert!(&rt; err.len() > 140_000);
+    Ok(())
+}

@@ -10,7 +10,7 @@ use upon_shape::shape::Shape;
 use upon_tool_data::files::read_value;
 use upon_tool_data::samples::samples;
 use upon_tool_data::words::DataWords;
-use upon_tool_io::arguments::{ContextsCall, Escape};
+use upon_tool_io::arguments::{ContextsCall, DataCall, Escape};
 use upon_tool_messages::picture::shown;
 use upon_tool_pages::contexts::shape_of;
 use upon_tool_pages::fitting::{OnShape, fits};
@@ -122,18 +122,14 @@ fn contexts_call<'a>(
     schema: Option<&'a str>,
     files: &[&'a str],
 ) -> Result<ContextsCall<'a>, AllocError> {
-    let mut data = Vec::new(alloc);
-    for file in files {
-        data.push(*file)?;
-    }
-    Ok(ContextsCall {
-        schema,
+    let data = DataCall {
         env: false,
-        data,
+        files: Vec::from_slice(alloc, files)?,
         format: if schema.is_some() { None } else { Some("jsonl") },
         set_json: Vec::new(alloc),
         set: Vec::new(alloc),
-    })
+    };
+    Ok(ContextsCall { schema, data })
 }
 
 // The shape of contexts, or what is said.

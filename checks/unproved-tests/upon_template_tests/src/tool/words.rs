@@ -2,7 +2,7 @@
 use std::alloc::{AllocError, Global};
 use std::test::Fail;
 use upon_tool_io::arguments::{
-    BuildCall, Call, CheckCall, Color, ContextsCall, EachCall, Escape, FitCall, NamesCall,
+    BuildCall, Call, CheckCall, Color, ContextsCall, DataCall, EachCall, Escape, FitCall, NamesCall,
     RenderCall, ShapeCall, read,
 };
 
@@ -46,11 +46,7 @@ fn env_text(env: bool) -> &'static str {
 fn render_line(alloc: Global, call: &RenderCall<'_>) -> Result<String, AllocError> {
     let RenderCall {
         file,
-        env,
         data,
-        format,
-        set_json,
-        set,
         templates,
         follow,
         escape,
@@ -63,8 +59,8 @@ fn render_line(alloc: Global, call: &RenderCall<'_>) -> Result<String, AllocErro
     } = call;
     let limits = format!(in alloc; "{max_steps:?} {max_output:?} {max_memory:?}")?;
     let writing = format!(in alloc; "{escape:?} {standard}")?;
-    let said = format!(in alloc; "{data:?} {format:?} {set_json:?} {set:?}")?;
-    let (env, color) = (env_text(*env), color_text(*color));
+    let said = data_text(alloc, data)?;
+    let (env, color) = (env_text(data.env), color_text(*color));
     format!(in alloc; "{file} {said} {templates:?} {follow} {writing} {out:?} {limits}{env}{color}")
 }
 
@@ -99,16 +95,22 @@ fn shape_line(alloc: Global, call: &ShapeCall<'_>) -> Result<String, AllocError>
 
 // The contexts of a check.
 fn contexts_text(alloc: Global, contexts: &ContextsCall<'_>) -> Result<String, AllocError> {
-    let ContextsCall {
-        schema,
-        env,
-        data,
+    let ContextsCall { schema, data } = contexts;
+    let said = data_text(alloc, data)?;
+    let env = env_text(data.env);
+    format!(in alloc; "{schema:?} {said}{env}")
+}
+
+// The words of data.
+fn data_text(alloc: Global, data: &DataCall<'_>) -> Result<String, AllocError> {
+    let DataCall {
+        files,
         format,
         set_json,
         set,
-    } = contexts;
-    let env = env_text(*env);
-    format!(in alloc; "{schema:?} {data:?} {format:?} {set_json:?} {set:?}{env}")
+        ..
+    } = data;
+    format!(in alloc; "{files:?} {format:?} {set_json:?} {set:?}")
 }
 
 // What a check says of what templates may call, if it does.

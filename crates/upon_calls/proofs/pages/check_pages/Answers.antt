@@ -18,4 +18,9 @@ returns-then-is_empty-clause-ends c =
     let declared = declared_view c.in_ok-declared.declared in
     let pictures = c.in_ok-pictures.pictures in
     let empty = nil_from_length (string_bytes pictures) (sym pictures.bytes.ok.0 ∙ eqb-true pictures.bytes.len 0 (sym c.if-is_empty.ensures)) in
-    each_ends (filled asked sources) declared (shape_view c.args.shape.now) (texts c.args.names.now) (filled_keeps declared asked sources c.in_ok-declared.ensures) (c.in_ok-pictures.ensures.gives empty)
+    each_ends (filled asked sources) declared (shape_view c.args.shape.now) (texts c.args.names.now) (filled_keeps declared asked sources c.in_ok-declared.ensures) (c.in_ok-pictures.ensures.gives empty).1
+
+pub returns-then-is_empty-clause-trees : goal.returns-then-is_empty-clause-trees
+returns-then-is_empty-clause-trees c =
+    let pictures = c.in_ok-pictures.pictures in
+    (c.in_ok-pictures.ensures.gives (nil_from_length (string_bytes pictures) (sym pictures.bytes.ok.0 ∙ eqb-true pictures.bytes.len 0 (sym c.if-is_empty.ensures)))).0

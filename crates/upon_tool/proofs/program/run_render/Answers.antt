@@ -12,7 +12,7 @@ use Rattle.upon_tool.proofs.program.run_render.Goals as goal
 pub returns-in_err-check-clause-refused : goal.returns-in_err-check-clause-refused
 returns-in_err-check-clause-refused g c =
     data_refused (g.R.Sources.world c.args.rt.now) c.args.call.now (g.I.Read.remaining c.args.input.now) c.in_err-check.field-0.0 c.from_residual.result c.from_residual.ensures.1
-    (wrong_words (g.R.Sources.world c.args.rt.now) c.args.call.now c.data_words-words.result c.data_words-words.ensures _ _ (g.I.Read.remaining c.args.input.now) c.in_err-check.field-0.0 c.eq.ensures c.in_err-check.ensures.refused)
+    (wrong_words (g.R.Sources.world c.args.rt.now) c.args.call.now.data c.of-words.result c.of-words.ensures _ _ (g.I.Read.remaining c.args.input.now) c.in_err-check.field-0.0 c.eq.ensures c.in_err-check.ensures.refused)
 
 pub returns-in_err-source-clause-refused : goal.returns-in_err-source-clause-refused
 returns-in_err-source-clause-refused g c =
@@ -21,7 +21,7 @@ returns-in_err-source-clause-refused g c =
 pub returns-in_err-value-clause-refused : goal.returns-in_err-value-clause-refused
 returns-in_err-value-clause-refused g c =
     data_refused (g.R.Sources.world c.args.rt.now) c.args.call.now (g.I.Read.remaining c.args.input.now) c.in_err-value.field-0.0 c.from_residual-in_err-value.result c.from_residual-in_err-value.ensures.1
-    (no_context (g.R.Sources.world c.args.rt.now) c.args.call.now c.data_words-words.result c.data_words-words.ensures _ (g.I.Read.remaining c.args.input.now) (g.I.Read.remaining c.text_of.new.input) c.in_err-value.field-0.0 c.text_of.ensures.kept c.in_err-value.ensures.refused)
+    (no_context (g.R.Sources.world c.args.rt.now) c.args.call.now.data c.of-words.result c.of-words.ensures _ (g.I.Read.remaining c.args.input.now) (g.I.Read.remaining c.text_of.new.input) c.in_err-value.field-0.0 c.text_of.ensures.kept c.in_err-value.ensures.refused)
 
 pub returns-in_err-files-clause-refused : goal.returns-in_err-files-clause-refused
 returns-in_err-files-clause-refused g c =
@@ -37,7 +37,7 @@ returns-clause-ends g c = IfOk-weaker c.carry_out.result _ _ (λ status said. re
   folder = said.1.0;
   read = c.in_ok-source.ensures.text;
   left = c.text_of.ensures.kept;
-  data_read = context_read (g.R.Sources.world c.args.rt.now) c.args.call.now c.data_words-words.result c.data_words-words.ensures (g.I.Read.remaining c.text_of.new.input) (view c.in_ok-value.value) (g.I.Read.remaining c.context.new.input) c.in_ok-value.ensures.read;
+  data_read = context_read (g.R.Sources.world c.args.rt.now) c.args.call.now.data c.of-words.result c.of-words.ensures (g.I.Read.remaining c.text_of.new.input) (view c.in_ok-value.value) (g.I.Read.remaining c.context.new.input) c.in_ok-value.ensures.read;
   listed_files = c.in_ok-files.ensures.files;
   taken = subst (λ functions. TakesFiles c.in_ok-files.files.items (tool_engine c.args.call.now.escape functions) said.1.0) c.standard.ensures said.1.1;
   trees = subst EachHasTree said.1.2 said.2;
