@@ -1,5 +1,5 @@
 -- Templates that are checked.
-use Rattle.std.proofs.Common.{arith, ◌≡◌, ◌⊎◌, ◌↔◌, ◌<◌, ◌≤◌, ◌+◌, ◌&&◌, ◌==◌, ◌∙◌, ◌∷◌, ◌++◌, [], length, ℕ, List, Bool, true, false, Bor, Contains, Option, Some, None, get_or, take, map, refl, sym, ap, subst, inl, inr}
+use Rattle.std.proofs.Common.{arith, ◌≡◌, ◌⊎◌, ◌↔◌, ◌<◌, ◌≤◌, ◌+◌, ◌&&◌, ◌==◌, ◌∙◌, ◌∷◌, ◌++◌, [], length, ℕ, List, Bool, true, false, Bor, Contains, get_or, take, refl, sym, ap, subst, inl, inr}
 use Rattle.std.proofs.lemmas.Bool.{eqb-true}
 use Rattle.std.proofs.lemmas.List.{map-append, take_all, take_more}
 use Rattle.upon_types.specs.Error.{fault_of}
@@ -17,7 +17,7 @@ use Rattle.upon_calls.specs.Templates.{lent_pairs}
 use Rattle.upon_calls.proofs.Kept.{first_true, second_true}
 
 -- ---- one text
-not_memory : (e : Error) → is_memory_kind (fault_of e).kind ≡ false → fault_of e ≡ out_of_memory → ⊥
+pub not_memory : (e : Error) → is_memory_kind (fault_of e).kind ≡ false → fault_of e ≡ out_of_memory → ⊥
 not_memory e is out = let no : true ≡ false = sym (ap (λ f. is_memory_kind f.kind) out) ∙ is in absurd cc
 
 -- it has a fault, so it is not right
@@ -29,14 +29,14 @@ not_compiled delimiters templates name text e named is (inl same) (inl out) none
 not_compiled delimiters templates name text e named is (inl same) (inr first) none kind =
     (λ no. absurd cc, λ right. absurd (none (kind first) right.0 right.1))
 
-no_member : (name : List ℕ) → Contains [] name → ⊥
+pub no_member : (name : List ℕ) → Contains [] name → ⊥
 no_member name c = let inside : c.0 < 0 = c.1 in omega arith
 
-unmissed : (b : Bool) → (b ≡ true → ⊥) → b ≡ false
+pub unmissed : (b : Bool) → (b ≡ true → ⊥) → b ≡ false
 unmissed true never = absurd (never refl)
 unmissed false never = refl
 
-no_names : (items : List (Bor (List ℕ))) (n : ℕ) → n ≡ length items → (n == 0) ≡ true → texts items ≡ []
+pub no_names : (items : List (Bor (List ℕ))) (n : ℕ) → n ≡ length items → (n == 0) ≡ true → texts items ≡ []
 no_names [] n len is = refl
 no_names (item ∷ items) n len is =
     let none : n ≡ 0 = eqb-true n 0 is in

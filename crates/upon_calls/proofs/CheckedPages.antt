@@ -1,6 +1,6 @@
 -- Pages that are checked: their names, and that they end on each context.
-use Rattle.std.proofs.Common.{◌≡◌, ◌<◌, ◌≤◌, ◌+◌, ◌∙◌, ◌∷◌, ◌++◌, [], ℕ, List, true, false, Bor, Option, Some, None, Contains, Result, Ok, Err, IfErr, IfOk, String, Global, string_bytes, arith, length, take, get_or, map, refl, sym, ap, subst}
-use Rattle.std.specs.Prelude.{All, ⊤}
+use Rattle.std.proofs.Common.{◌≡◌, ◌<◌, ◌≤◌, ◌+◌, ◌∙◌, ◌∷◌, ◌++◌, [], ℕ, List, true, false, Bor, Option, Some, None, Contains, Result, Ok, Err, IfOk, String, Global, string_bytes, arith, length, take, get_or, map, refl, sym, ap, subst}
+use Rattle.std.specs.Prelude.{All}
 use Rattle.std.proofs.lemmas.List.{take_all, take_more}
 use Rattle.std.proofs.lemmas.List.Elements.{All-push, All-same}
 use Rattle.upon_types.specs.Val.{Val}
@@ -14,11 +14,9 @@ use Rattle.upon_calls.specs.Asked.{Asked}
 use Rattle.upon_calls.specs.Calls.{AreRightOn}
 use Rattle.upon_calls.specs.Check.{AreRight}
 use Rattle.upon_calls.specs.Contexts.{checked_pages, AreThere, Contexts, EndsOnEach, PagesEndIf}
-use Rattle.upon_calls.specs.Failure.{FaultyIf}
 use Rattle.upon_calls.specs.Filled.{filled}
 use Rattle.upon_calls.specs.Templates.{lent_pairs}
 use Rattle.upon_calls.specs.declared.failure.Failure.{Failure}
-use Rattle.upon_calls.specs.declared.failure.Failure.TheVariants.{Faults, Refused, NotText, OutOfMemory}
 use Rattle.upon_calls.proofs.Each.{texts_pushed}
 
 -- ---- the names of all templates
@@ -70,17 +68,6 @@ right_on (Ok text) asked given s pages templates sources names is right there na
   });
 }
 right_on (Err f) asked given s pages templates sources names is right there named ends = tt
-
--- ---- how a check fails
-pub faulty_so : {A B : Type 0} {P Q : Type 0} (f : Failure) → (A → B) → (P → Q) → FaultyIf A P f → FaultyIf B Q f
-faulty_so (Faults pictures) so refuses said = so said
-faulty_so (Refused argument reason) so refuses said = (said.0, refuses said.1)
-faulty_so (NotText argument) so refuses said = absurd said
-faulty_so OutOfMemory so refuses said = tt
-
-pub err_faulty_so : {T : Type 0} {A B : Type 0} {P Q : Type 0} (r : Result T Failure) → (A → B) → (P → Q) → IfErr r (FaultyIf A P) → IfErr r (FaultyIf B Q)
-err_faulty_so (Ok x) so refuses said = tt
-err_faulty_so (Err f) so refuses said = faulty_so f so refuses said
 
 -- each text that is held has a tree where pages end
 pub with_trees : (P Q : Type 0) (r : Result (String Global) Failure) → P → IfOk r (λ text. string_bytes text ≡ [] → Q) → IfOk r (λ text. string_bytes text ≡ [] → P × Q)

@@ -1,10 +1,14 @@
 -- The names of a list that pass a test.
-use Rattle.std.proofs.Common.{◌≡◌, ◌↔◌, ◌<◌, ◌+◌, ◌||◌, ◌&&◌, ℕ, List, [], ◌∷◌, ◌++◌, cond, length, take, get_or, Bool, true, false, Contains, Bor, bytes_eq, refl, sym, ap, ◌∙◌}
+use Rattle.std.proofs.Common.{◌≡◌, ◌↔◌, ◌<◌, ◌+◌, ◌||◌, ◌&&◌, ℕ, List, [], ◌∷◌, ◌++◌, cond, length, take, get_or, Bool, true, false, Contains, Bor, bytes_eq, nat_cmp, refl, sym, ap, subst, ◌∙◌}
+use Rattle.std.specs.Cmp.Lexicographic.{slice_cmp}
 use Rattle.std.specs.List.{filter, list_any}
 use Rattle.std.proofs.lemmas.List.{append-nil}
 use Rattle.std.proofs.lemmas.List.Elements.{filter_more}
+use Rattle.std.proofs.lemmas.List.Kept.{IsStrictlySortedBy-filter}
 use Rattle.std.proofs.lemmas.Slice.Eq.{bytes_eq-Decides}
-use Rattle.upon_needs.specs.Names.{texts}
+use Rattle.upon_types.specs.Tree.{Statements}
+use Rattle.upon_meaning_spec.specs.Includes.{Includes}
+use Rattle.upon_needs.specs.Names.{texts, Rise}
 use Rattle.upon_needs.proofs.SetsOfNames.{listed_contains}
 
 -- those of some names that pass
@@ -63,3 +67,28 @@ kept_past passes names some i d inside so is =
     ∙ sym (append-nil (kept passes (take i names)))
     ∙ ap (λ b. kept passes (take i names) ++ cond b (get_or names i d ∷ []) []) (sym is)
     ∙ sym (filter_more (λ name. passes name.now) names i d inside)
+
+-- names that rise, of which those are kept that pass
+kept_texts : (passes : List ℕ → Bool) (names : List (Bor (List ℕ))) → texts (kept passes names) ≡ filter passes (texts names)
+kept_texts passes [] = refl
+kept_texts passes (one ∷ names) = step (passes one.now) (kept_texts passes names)
+  where
+    step : (keep : Bool) → texts (kept passes names) ≡ filter passes (texts names) → texts (cond keep (one ∷ kept passes names) (kept passes names)) ≡ cond keep (one.now ∷ filter passes (texts names)) (filter passes (texts names))
+    step true later = ap (λ rest. one.now ∷ rest) later
+    step false later = later
+
+kept_rise : (passes : List ℕ → Bool) (names : List (Bor (List ℕ))) → Rise (texts names) → Rise (texts (kept passes names))
+kept_rise passes names rise =
+    subst Rise (sym (kept_texts passes names)) (IsStrictlySortedBy-filter (slice_cmp nat_cmp) passes (texts names) rise)
+
+-- those of a tree's includes that pass
+pub kept_includes : (passes : List ℕ → Bool) (tree : Statements) (names some : List (Bor (List ℕ))) → some ≡ kept passes names → Rise (texts names) → ((name : List ℕ) → Contains (texts names) name ↔ Includes name tree)
+    → Rise (texts some) × ((name : List ℕ) → Contains (texts some) name ↔ (Includes name tree × (passes name ≡ true)))
+kept_includes passes tree names some same rise included = (
+  subst (λ l. Rise (texts l)) (sym same) (kept_rise passes names rise),
+  λ name.
+      let found = kept_contains passes names name in (
+        λ h. let both = found.0 (subst (λ l. Contains (texts l) name) same h) in ((included name).0 both.0, both.1),
+        λ h. subst (λ l. Contains (texts l) name) (sym same) (found.1 ((included name).1 h.0, h.1)),
+      ),
+)

@@ -13,5 +13,9 @@ pub mod GivenContexts
 pub mod Declaring
 pub mod CheckedPages
 pub mod Checked
+pub mod PictureTexts
+pub mod FirstIncludes
+pub mod Shown
+pub mod OneShown
 pub mod Calls
 pub mod Ended

@@ -1,7 +1,6 @@
 -- What each call gives, from the bytes of its arguments to the bytes of its text.
-use Rattle.std.specs.Prelude.{◌≡◌, ◌⊎◌, ℕ, List, [], Option, Some, None, string_bytes}
+use Rattle.std.specs.Prelude.{◌≡◌, ◌⊎◌, ℕ, List, [], Option, Some, None, is_some, true, string_bytes}
 use Rattle.std.specs.Str.{IsUtf8}
-use Rattle.upon_types.specs.Fault.{Fault}
 use Rattle.upon_types.specs.Val.{Val}
 use Rattle.upon_calls.specs.Arguments.{HasNoArgumentValue, IsArgumentValue}
 use Rattle.upon_calls.specs.Asked.{Asked, IsAsked, IsUnasked}
@@ -10,6 +9,7 @@ use Rattle.upon_calls.specs.Contexts.{Contexts, IsCheckAsked, IsCheckUnasked, La
 use Rattle.upon_calls.specs.Failure.{IsPicture}
 use Rattle.upon_calls.specs.Filled.{engine_for, filled}
 use Rattle.upon_calls.specs.Names.{ListsNamed}
+use Rattle.upon_calls.specs.Pictures.{ShowsWrong}
 use Rattle.upon_calls.specs.Rendering.{FailsNamed, FailsText, IsFirstOfOne, MeansNamed, MeansText}
 use Rattle.upon_calls.specs.Templates.{AreNone, AreTemplates, sources_in}
 use Rattle.upon_calls.specs.declared.failure.Argument.{Argument}
@@ -122,9 +122,18 @@ pub record AreRightOn (asked : Asked) (contexts : Option Contexts) (value : Val)
   pub right : AreRight asked.delimiters value sources
   pub pages : PagesEndIf contexts (filled asked sources) value sources
 
--- without contexts, a template is not right; with them it isn't known that each page ends on each
-abbrev pub AreWrongOn : Asked → Option Contexts → Val → List (List ℕ × List ℕ) → Type 0
-AreWrongOn asked contexts value sources = contexts ≡ None → AreRight asked.delimiters value sources → ⊥
+-- Each template is right, but contexts are given, and it isn't known whether each page ends well on each of them. A
+-- text shows where one may not: it is not empty.
+pub record ShowsDoubt (asked : Asked) (contexts : Option Contexts) (value : Val) (sources : List (List ℕ × List ℕ))
+    (text : List ℕ) : Type 0 where
+  pub given : is_some contexts ≡ true
+  pub right : AreRight asked.delimiters value sources
+  pub some : text ≡ [] → ⊥
+
+-- a text is the pictures of what is wrong with templates; or they are right, and it shows where a page may fail
+abbrev pub AreWrongOn : Asked → Option Contexts → Val → List (List ℕ × List ℕ) → List ℕ → Type 0
+AreWrongOn asked contexts value sources text =
+    ShowsWrong asked.delimiters value sources text ⊎ ShowsDoubt asked contexts value sources text
 
 -- The text is empty, and each template is right: it has a tree, and no include in it names none of them. If contexts
 -- are given, each page ends without a fault on each of them, but that includes may be too deep one inside another,
@@ -140,7 +149,8 @@ pub record ChecksRight (templates options text : List ℕ) : Type 0 where
   pub right : AreRightOn asked contexts value sources
   pub empty : text ≡ []
 
--- A template is not right; or contexts are given, and it isn't known whether each page ends well on each of them.
+-- A template is not right, and the text is the pictures of all that is wrong with the templates. Or each is, contexts
+-- are given, and it isn't known whether each page ends well on each of them; then the text is not empty.
 pub record ChecksWrong (templates options text : List ℕ) : Type 0 where
   pub asked : Asked
   pub contexts : Option Contexts
@@ -149,7 +159,7 @@ pub record ChecksWrong (templates options text : List ℕ) : Type 0 where
   pub asks : IsCheckAsked options asked contexts
   pub read : IsArgumentValue templates value
   pub are : sources_in value ≡ Some sources
-  pub wrong : AreWrongOn asked contexts value sources
+  pub wrong : AreWrongOn asked contexts value sources text
 
 -- a page that the options name is none of the templates
 abbrev pub NamesNoPage : List ℕ → List ℕ → Type 0

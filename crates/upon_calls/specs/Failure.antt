@@ -73,9 +73,9 @@ RefusedIf argument Why (Refused other reason) = (other ≡ argument) × Why
 RefusedIf argument Why (NotText other) = ⊥
 RefusedIf argument Why OutOfMemory = Unit {0}
 
--- there are faults, and this is so; or the options are refused, and that is so; or memory was out
-abbrev pub FaultyIf : Type 0 → Type 0 → Failure → Type 0
-FaultyIf Faulty Refuses (Faults pictures) = Faulty
+-- there are faults, of whose pictures this is so; or the options are refused, and that is so; or memory was out
+abbrev pub FaultyIf : (List ℕ → Type 0) → Type 0 → Failure → Type 0
+FaultyIf Faulty Refuses (Faults pictures) = Faulty (string_bytes pictures)
 FaultyIf Faulty Refuses (Refused argument reason) = (argument ≡ Options) × Refuses
 FaultyIf Faulty Refuses (NotText argument) = ⊥
 FaultyIf Faulty Refuses OutOfMemory = Unit {0}

@@ -8,6 +8,7 @@ pub mod Filled
 pub mod Rendering
 pub mod Names
 pub mod Check
+pub mod Pictures
 pub mod Contexts
 pub mod Work
 pub mod Calls

@@ -1,7 +1,6 @@
 // Templates that are checked: their faults, and the includes that name nothing.
-ghost use Rattle.std.specs.Prelude.{◌≡◌, ◌↔◌, ℕ, List, [], Contains, string_bytes, IfErr, IfOk, option_map, true};
+ghost use Rattle.std.specs.Prelude.{◌≡◌, ◌↔◌, [], string_bytes, IfErr, IfOk, OnOk, option_map, true};
 ghost use Rattle.upon_types.specs.View.{view};
-ghost use Rattle.upon_meaning_spec.specs.Includes.{Includes};
 ghost use Rattle.upon_delimiters.specs.Syntax.{syntax_delimiters};
 ghost use Rattle.upon_engine.specs.Engine.{engine_syntax};
 ghost use Rattle.upon_needs.specs.Names.{texts};
@@ -11,6 +10,7 @@ ghost use Rattle.upon_calls.specs.Calls.{AreRightOn, AreWrongOn, CheckFails, Che
 ghost use Rattle.upon_calls.specs.Check.{is_missing, AreRight, IsRight};
 ghost use Rattle.upon_calls.specs.Contexts.{contexts_by, LacksPage};
 ghost use Rattle.upon_calls.specs.Failure.{FaultyIf};
+ghost use Rattle.upon_calls.specs.Pictures.{AreMissing, GetsPictures, ShowsEach, ShowsOne, ShowsWrong};
 ghost use Rattle.upon_calls.specs.Templates.{lent_pairs};
 ghost use Rattle.upon_calls.specs.declared.failure.Failure.TheVariants.{OutOfMemory};
 
@@ -78,7 +78,7 @@ fn check_plain(
     ensures right { IfOk result
         (λ text. AreRight (syntax_delimiters syntax) (view templates.now) (lent_pairs sources.now)) }
     ensures wrong { IfErr result
-        (FaultyIf (AreRight (syntax_delimiters syntax) (view templates.now) (lent_pairs sources.now) → ⊥) ⊥) }
+        (FaultyIf (ShowsWrong (syntax_delimiters syntax) (view templates.now) (lent_pairs sources.now)) ⊥) }
 {
     let mut pictures = String::new(alloc);
     if check_all(alloc, syntax, templates, sources, &mut pictures)? {
@@ -98,6 +98,9 @@ fn check_all(
 ) -> Result<bool, Failure>
     ensures right { IfOk result (λ is_right. (is_right ≡ true)
         ↔ AreRight (syntax_delimiters syntax) (view templates.now) (lent_pairs sources.now)) }
+    ensures shown { OnOk result (GetsPictures
+        (ShowsEach (syntax_delimiters syntax) (view templates.now) (lent_pairs sources.now))
+        (string_bytes pictures.old) (string_bytes pictures.new)) }
     ensures memory { IfErr result (λ f. f ≡ OutOfMemory) }
 {
     let mut engine = Engine::new(alloc);
@@ -125,7 +128,7 @@ struct Checked<'c> {
     source: &'c str,
 }
 
-// Whether nothing is wrong with a template.
+// Whether nothing is wrong with a template; the pictures of what is are appended.
 fn check_text(
     alloc: Global,
     engine: &Engine<'_>,
@@ -134,6 +137,9 @@ fn check_text(
 ) -> Result<bool, Failure>
     ensures right { IfOk result (λ is_right. (is_right ≡ true)
         ↔ IsRight (engine_syntax engine.now) (view checked.entry.templates.now) checked.entry.source.now) }
+    ensures shown { OnOk result (GetsPictures
+        (ShowsOne (engine_syntax engine.now) (view checked.entry.templates.now) checked.entry.name.now
+        checked.entry.source.now) (string_bytes pictures.old) (string_bytes pictures.new)) }
     ensures memory { IfErr result (λ f. f ≡ OutOfMemory) }
 {
     let Checked {
@@ -166,8 +172,7 @@ fn missing<'t>(
     templates: &Value,
     template: &'t Template<'_>,
 ) -> Result<Vec<&'t str>, AllocError>
-    ensures { IfOk result (λ names. (name : List ℕ) → Contains (texts names.items) name
-        ↔ (Includes name (template_tree template.now) × (is_missing (view templates.now) name ≡ true))) }
+    ensures { IfOk result (λ names. AreMissing (view templates.now) (template_tree template.now) (texts names.items)) }
 {
     let mut missing = Vec::new(alloc);
     let names = includes(template)?;

@@ -2,7 +2,9 @@
 ghost use Rattle.std.specs.Prelude.{◌≡◌, ℕ, List, None, Some};
 ghost use Rattle.serde_json.specs.Written.{compact_text};
 ghost use Rattle.upon_types.specs.Tree.{Statements};
+ghost use Rattle.upon_types.specs.Val.{Val};
 ghost use Rattle.upon_language_spec.specs.Grammar.{HasTree};
+ghost use Rattle.upon_language_spec.specs.Search.{DelimiterText, HasTexts};
 ghost use Rattle.upon_meaning_spec.specs.Engine.{Table, Template};
 ghost use Rattle.upon_needs.specs.declared.needs.Needs.{Needs};
 ghost use Rattle.upon_engine.specs.Texts.{Stored};
@@ -10,6 +12,7 @@ ghost use Rattle.upon_engine.specs.Theorem.{IsTable, meaning};
 ghost use Rattle.upon_calls.specs.Calls.{ListsNeeds, Renders, RendersText};
 ghost use Rattle.upon_calls.specs.Filled.{engine_for, filled};
 ghost use Rattle.upon_calls.specs.Names.{NeededBy, needs_data};
+ghost use Rattle.upon_calls.specs.Pictures.{ShowsWrong};
 
 /// States that what a rendering of a template gives is the text of a meaning, by a table of the templates that it is
 /// given: so it is no other text.
@@ -35,4 +38,11 @@ pub fn listed_text_is()
         → (table : Table) × (t : Template) × (needs : Needs)
         × IsTable (filled r.asked r.sources).texts table × (table name ≡ Some t) × NeededBy table t.tree needs
         × (text ≡ compact_text (needs_data needs)) }
+{}
+
+/// States that what is wrong with templates is shown by one text, where each delimiter has a byte.
+pub fn shown_text_is()
+    ensures { (delimiters : List DelimiterText) (templates : Val) (sources : List (List ℕ × List ℕ)) (a b : List ℕ)
+        → HasTexts delimiters → ShowsWrong delimiters templates sources a
+        → ShowsWrong delimiters templates sources b → a ≡ b }
 {}

@@ -89,7 +89,8 @@ pub fn check_pages(
     ensures ends { IfOk result (λ text. All
         (λ name. EndsOnEach (filled (asked_by options) (lent_pairs sources.now)) name (shape_view shape.now))
         (texts names.now)) }
-    ensures fails { IfErr result (FaultyIf ⊤ ⊥) }
+    // The pictures are of something.
+    ensures fails { IfErr result (FaultyIf (λ pictures. pictures ≡ [] → ⊥) ⊥) }
 {
     let declared = declared_for(alloc, &options)?;
     let pages = Pages {

@@ -2,10 +2,10 @@ use Rattle.std.proofs.Common.{rules, ◌≡◌, ◌↔◌, ◌<◌, ◌∙◌, �
 use Rattle.std.proofs.lemmas.List.{take_all}
 use Rattle.upon_types.specs.View.{view}
 use Rattle.upon_meaning_spec.specs.Includes.{Includes}
-use Rattle.upon_needs.specs.Names.{texts}
+use Rattle.upon_needs.specs.Names.{texts, Rise}
 use Rattle.upon_engine.specs.Template.{template_tree}
 use Rattle.upon_calls.specs.Check.{is_missing}
-use Rattle.upon_calls.proofs.Kept.{kept, kept_one, kept_past, kept_contains}
+use Rattle.upon_calls.proofs.Kept.{kept, kept_includes, kept_one, kept_past}
 use Rattle.upon_calls.proofs.check.missing.Goals.{then-is_missing+in_ok-push, else-is_missing}
 use Rattle.upon_calls.proofs.check.missing.Goals as goal
 
@@ -21,13 +21,11 @@ loop-name-preserved c =
     ]
 
 pub returns : goal.returns
-returns c = λ name.
+returns c =
     let names = c.as_slice-name-items.result.now in
     let passes : List ℕ → Bool = is_missing (view c.args.templates.now) in
     let whole : take c.loop-name.name-index names ≡ names = take_all c.loop-name.name-index names c.loop-name-test.false in
     let same : c.loop-name.missing.items ≡ kept passes names = c.loop-name.invariant ∙ ap (kept passes) whole in
-    let found = kept_contains passes names name in
-    let included : Contains (texts names) name ↔ Includes name (template_tree c.args.template.now) = subst (λ l. Contains (texts l) name ↔ Includes name (template_tree c.args.template.now)) (sym c.as_slice-name-items.ensures.value) (c.in_ok-names.ensures.included name) in (
-      λ h. let both = found.0 (subst (λ l. Contains (texts l) name) same h) in (included.0 both.0, both.1),
-      λ h. subst (λ l. Contains (texts l) name) (sym same) (found.1 (included.1 h.0, h.1)),
-    )
+    let from : names ≡ c.in_ok-names.names.items = c.as_slice-name-items.ensures.value in
+    kept_includes passes (template_tree c.args.template.now) names c.loop-name.missing.items same (subst (λ l. Rise (texts l)) (sym from) c.in_ok-names.ensures.rise)
+    (λ name. subst (λ l. Contains (texts l) name ↔ Includes name (template_tree c.args.template.now)) (sym from) (c.in_ok-names.ensures.included name))
