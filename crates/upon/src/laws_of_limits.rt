@@ -27,7 +27,7 @@ pub fn steps_suffice(engine: &Engine<'_>)
     ensures means { let engine = ⟦<AnyEngine as EngineTexts>⟧.texts engine.now in
         (table : Table) (name : Option (List ℕ)) (source : List ℕ) (tree : Statements) (v : Val) (n : ℕ)
         → EndsWithin engine table name source tree v n
-        → runs engine table name source tree v n ≡ Some (meaning engine table name source tree v) }
+        → (runs engine table name source tree v).out n ≡ Some (meaning engine table name source tree v) }
 {}
 
 /// States that greater limits change no answer but one that names a limit, and that an answer that names none is the
@@ -38,11 +38,11 @@ pub fn greater_limits(engine: &Engine<'_>)
         (one other : Limits) (name : Option (List ℕ)) (source : List ℕ) (tree : Statements) (v : Val)
         (result : Result (String Global) Error) → AreNoLess one other
         → AnswersWithin engine one name source tree v result
-        → NamesALimit result ⊎ AnswersWithin engine other name source tree v result }
+        → NamesALimit engine name source tree v result ⊎ AnswersWithin engine other name source tree v result }
     // An answer within limits names a limit, or is what a rendering without limits answers.
     ensures theorem { let engine = ⟦<AnyEngine as EngineTexts>⟧.texts engine.now in
         (limits : Limits) (name : Option (List ℕ)) (source : List ℕ) (tree : Statements) (v : Val)
         (result : Result (String Global) Error)
         → AnswersWithin engine limits name source tree v result
-        → NamesALimit result ⊎ AnswersTree engine name source tree v result }
+        → NamesALimit engine name source tree v result ⊎ AnswersTree engine name source tree v result }
 {}

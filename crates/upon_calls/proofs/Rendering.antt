@@ -9,6 +9,7 @@ use Rattle.upon_language_spec.specs.Grammar.{HasTree}
 use Rattle.upon_language_spec.specs.Search.{DelimiterText}
 use Rattle.upon_syntax.specs.TagReading.{IsSyntaxError}
 use Rattle.upon_meaning_spec.specs.Outcome.{Outcome}
+use Rattle.upon_vm.specs.Course.{Course}
 use Rattle.upon_vm.specs.Within.{FitsLimits}
 use Rattle.upon_vm.specs.declared.limits.Limits.{Limits}
 use Rattle.upon_engine.specs.Faults.{IsSyntaxErrorOf}
@@ -53,7 +54,7 @@ no_name Ends Absent (NotText argument) said absent = absurd said
 no_name Ends Absent OutOfMemory said absent = tt
 
 -- ---- no limit is set
-fits_unlimited : {Q : Type 0} (limits : Limits) (steps output values : Option ℕ) → limits.steps ≡ steps → limits.output ≡ output → ((is_some steps || is_some output) || is_some values) ≡ false → (ran : ℕ → Option (Outcome Q)) (o : Outcome Q) → FitsLimits limits ran o
+fits_unlimited : {Q : Type 0} (limits : Limits) (steps output values : Option ℕ) → limits.steps ≡ steps → limits.output ≡ output → ((is_some steps || is_some output) || is_some values) ≡ false → (ran : Course Q) (o : Outcome Q) → FitsLimits limits ran o
 fits_unlimited limits None None values no_steps no_output is ran o = record {
   steps = rw no_steps tt;
   output = rw no_output tt;

@@ -4,6 +4,7 @@ use Rattle.std.specs.BTreeMap.{get_by_text}
 use Rattle.std.specs.declared.alloc.Global.{Global}
 use Rattle.std.specs.declared.dyn_box.DynBox.{DynBox}
 use Rattle.upon_types.specs.Answers.{Formatter, Function}
+use Rattle.upon_types.specs.Error.{fault_of}
 use Rattle.upon_types.specs.Tree.{Statements}
 use Rattle.upon_types.specs.Val.{Val}
 use Rattle.upon_types.specs.View.{view}
@@ -17,23 +18,24 @@ use Rattle.upon_render.specs.declared.stack.Root.TheVariants.{Value, Source}
 use Rattle.upon_meaning_spec.specs.Alone.{alone_within, includes_left}
 use Rattle.upon_meaning_spec.specs.Engine.{Calls, Resolver, Table, Template}
 use Rattle.upon_meaning_spec.specs.Outcome.{Outcome, States, states}
-use Rattle.upon_machine_spec.specs.Run.{run}
 use Rattle.upon_machine_spec.specs.State.{at_start}
 use Rattle.upon_machine_spec.proofs.FollowsTree.Templates.{simulates}
 use Rattle.upon_machine_spec.proofs.Midway.{longer}
 use Rattle.upon_fmt.specs.declared.output.Mark.{Mark}
 use Rattle.upon_vm_steps.specs.Keeps.{SourceHas}
+use Rattle.upon_vm.specs.Course.{Course, course}
 use Rattle.upon_vm.specs.Limits.{AtMost}
 use Rattle.upon_vm_steps.specs.Machine.{source_state}
 use Rattle.upon_vm.specs.Reports.{IsAnyIo, IsTakenError}
-use Rattle.upon_vm.specs.Within.{EndsSo, FitsLimits, IsReportWithin, RanWithin, ReportMarksWithin, TextWithin, WritesWithin}
+use Rattle.upon_vm.specs.Within.{EndsSo, FitsLimits, IsOfLimit, IsReportWithin, RanWithin, ReportMarksWithin, TextWithin, WritesWithin}
+use Rattle.upon_vm.specs.declared.limits.Limit.{Limit}
 use Rattle.upon_vm.specs.declared.limits.Limits.{Limits}
 use Rattle.upon_vm.specs.declared.within.Within.{Within}
 use Rattle.upon_vm.proofs.WithinWrites.{writes_within}
 use Rattle.upon_engine.specs.Answers.{AnswersText}
 use Rattle.upon_engine.specs.Engine.{engine_templates}
 use Rattle.upon_engine.specs.Texts.{Texts, texts_of}
-use Rattle.upon_engine.specs.Theorem.{AnswersTree, meaning, rendering}
+use Rattle.upon_engine.specs.Theorem.{AnswersTree, IsTable, meaning, rendering}
 use Rattle.upon_engine.specs.Within.{AnswersWithin, AreNoLess, EndsWithin, IsNoLess, NamesALimit, SendsWithin, runs}
 use Rattle.upon_engine.specs.declared.engine.Engine.{Engine as Held}
 use Rattle.upon_engine.proofs.Tables.{is_table, made, only_table, table_held}
@@ -49,11 +51,11 @@ module _ {V P : Type 0} (calls : Calls (Unit {0})) (resolve : Resolver P) (left 
     (old new : Option (List ℕ)) (next : States (Unit {0}) P) where
   abbrev pub RanOver : Root V → Type 0
   RanOver root =
-      RanWithin limits (λ n. run calls resolve (pure_root root) n (at_start t name left (states (source_state (λ _. tt {0}) tt root) templates))) ended old new
+      RanWithin limits (course calls resolve (pure_root root) (at_start t name left (states (source_state (λ _. tt {0}) tt root) templates))) ended old new
       (alone_within calls resolve left t name (pure_root root) (states (source_state (λ _. tt {0}) tt root) templates)) next
 
   pub over_value : (root : Root V) (v : Bor CodeValue) → root ≡ Value v → RanOver root
-      → RanWithin limits (λ n. run calls resolve (context (view v.now)) n (at_start t name left (states tt templates))) ended old new
+      → RanWithin limits (course calls resolve (context (view v.now)) (at_start t name left (states tt templates))) ended old new
       (alone_within calls resolve left t name (context (view v.now)) (states tt templates)) next
   over_value root v is ran = subst RanOver is ran
 
@@ -93,7 +95,7 @@ module _ {X Y : Type 0} {P : X → Type 0} {Q : Y → Type 0} (formats : DynBox 
 
   abbrev RanHere : ℕ → Type 0
   RanHere left =
-      RanWithin limits (λ n. run calls_here resolve_here (context (view v.now)) n (at_start t name left (states tt tt))) ended old new
+      RanWithin limits (course calls_here resolve_here (context (view v.now)) (at_start t name left (states tt tt))) ended old new
       (alone_within calls_here resolve_here left t name (context (view v.now)) (states tt tt)) next
 
   abbrev SaidHere : Mark → Result (Unit {0}) Error → Option (List ℕ) → Type 0
@@ -124,7 +126,7 @@ one_of a b is = cc
 
 module _ (e : Texts) (table : Table) (name : Option (List ℕ)) (source : List ℕ) (tree : Statements) (v : Val) where
   abbrev out : ℕ → Option (Outcome (States (Unit {0}) (Unit {0})))
-  out n = runs e table name source tree v n
+  out n = (runs e table name source tree v).out n
 
   pub runs_longer : (m n : ℕ) (o : Outcome (States (Unit {0}) (Unit {0}))) → m ≤ n → out m ≡ Some o → out n ≡ Some o
   runs_longer m n o le is =
@@ -160,12 +162,17 @@ module _ {X Y : Type 0} {P : X → Type 0} {Q : Y → Type 0} (formats : DynBox 
   more_steps_of table name source tree v m n le = more_steps (texts_of formats answers e) table name source tree v m n le
 
   pub steps_mean_of : (table : Table) (name : Option (List ℕ)) (source : List ℕ) (tree : Statements) (v : Val) (n : ℕ) → EndsWithin (texts_of formats answers e) table name source tree v n
-      → runs (texts_of formats answers e) table name source tree v n ≡ Some (meaning (texts_of formats answers e) table name source tree v)
+      → (runs (texts_of formats answers e) table name source tree v).out n ≡ Some (meaning (texts_of formats answers e) table name source tree v)
   steps_mean_of table name source tree v n some = steps_mean (texts_of formats answers e) table name source tree v n some
 
 -- ---- greater limits
-module _ {Q : Type 0} (runs : ℕ → Option (Outcome Q)) (o : Outcome Q) (on : (m n : ℕ) → m ≤ n → runs m ≡ Some o → runs n ≡ Some o) where
-  ends_greater : (one other : Option ℕ) → IsNoLess one other → EndsSo one runs o → EndsSo other runs o
+-- the answer names a limit where a run is stopped at it
+abbrev NamesAt : {Q : Type 0} → Course Q → Result (String Global) Error → Type 0
+NamesAt course (Ok text) = ⊥
+NamesAt course (Err e) = (limit : Limit) × (n : ℕ) × IsOfLimit course limit n (fault_of e)
+
+module _ {Q : Type 0} (course : Course Q) (o : Outcome Q) (on : (m n : ℕ) → m ≤ n → course.out m ≡ Some o → course.out n ≡ Some o) where
+  ends_greater : (one other : Option ℕ) → IsNoLess one other → EndsSo one course.out o → EndsSo other course.out o
   ends_greater None None le ended = tt
   ends_greater (Some m) None le ended = tt
   ends_greater None (Some n) le ended = absurd le
@@ -177,50 +184,62 @@ module _ {Q : Type 0} (runs : ℕ → Option (Outcome Q)) (o : Outcome Q) (on : 
   most_greater None (Some n) count le most = absurd le
   most_greater (Some m) (Some n) count le most = omega (arith, le, most)
 
-  fits_greater : (one other : Limits) → AreNoLess one other → FitsLimits one runs o → FitsLimits other runs o
+  fits_greater : (one other : Limits) → AreNoLess one other → FitsLimits one course o → FitsLimits other course o
   fits_greater one other le fits = record {
     steps = ends_greater one.steps other.steps le.steps fits.steps;
     output = most_greater one.output other.output (length o.text) le.output fits.output;
   }
 
-  pub text_greater : (depth : ℕ) (one other : Limits) (result : Result (String Global) Error) → AreNoLess one other → TextWithin depth one runs o result
-      → NamesALimit result ⊎ TextWithin depth other runs o result
+  text_greater : (depth : ℕ) (one other : Limits) (result : Result (String Global) Error) → AreNoLess one other → TextWithin depth one course o result → NamesAt course result ⊎ TextWithin depth other course o result
   text_greater depth one other (Ok text) le h = inr (h.0, h.1, fits_greater one other le h.2)
   text_greater depth one other (Err e) le (inl h) = inr (inl (h.0, fits_greater one other le h.1))
   text_greater depth one other (Err e) le (inr (inl memory)) = inr (inr (inl memory))
   text_greater depth one other (Err e) le (inr (inr h)) = inl (h.0, h.1, h.3)
 
-module _ {Q : Type 0} (depth : ℕ) (limits : Limits) (runs : ℕ → Option (Outcome Q)) (o : Outcome Q) where
-  pub text_theorem : (result : Result (String Global) Error) → TextWithin depth limits runs o result → NamesALimit result ⊎ AnswersText depth o result
+module _ {Q : Type 0} (depth : ℕ) (limits : Limits) (course : Course Q) (o : Outcome Q) where
+  text_theorem : (result : Result (String Global) Error) → TextWithin depth limits course o result → NamesAt course result ⊎ AnswersText depth o result
   text_theorem (Ok text) h = inr (h.0, h.1)
   text_theorem (Err e) (inl h) = inr (inl h.0)
   text_theorem (Err e) (inr (inl memory)) = inr (inr memory)
   text_theorem (Err e) (inr (inr h)) = inl (h.0, h.1, h.3)
 
 module _ {X Y : Type 0} {P : X → Type 0} {Q : Y → Type 0} (formats : DynBox X Global P → Formatter) (answers : DynBox Y Global Q → Function) (e : Held X Y P Q)
-    (name : Option (List ℕ)) (source : List ℕ) (tree : Statements) (v : Val) (result : Result (String Global) Error) where
+    (name : Option (List ℕ)) (source : List ℕ) (tree : Statements) (v : Val) where
   abbrev held : Texts
   held = texts_of formats answers e
 
   abbrev the_table : Table
   the_table = table_held (get_by_text e.templates)
 
-  abbrev Within_table : Limits → Table → Type 0
-  Within_table limits table = TextWithin e.depth limits (runs held table name source tree v) (meaning held table name source tree v) result
+  abbrev course_by : Table → Course (States (Unit {0}) (Unit {0}))
+  course_by table = runs held table name source tree v
 
-  pub greater_answers : (one other : Limits) → AreNoLess one other → AnswersWithin held one name source tree v result → NamesALimit result ⊎ AnswersWithin held other name source tree v result
-  greater_answers one other le said =
-      either (text_greater (runs held the_table name source tree v) (meaning held the_table name source tree v) (λ m n. runs_longer held the_table name source tree v m n (meaning held the_table name source tree v))
-      e.depth one other result le (said the_table (is_table (get_by_text e.templates))))
-    where
-      either : NamesALimit result ⊎ Within_table other the_table → NamesALimit result ⊎ AnswersWithin held other name source tree v result
-      either (inl names) = inl names
-      either (inr is) = inr (λ table it. subst (Within_table other) (sym (only_table (get_by_text e.templates) table it)) is)
+  abbrev meant : Table → Outcome (States (Unit {0}) (Unit {0}))
+  meant table = meaning held table name source tree v
 
-  pub theorem_answers : (limits : Limits) → AnswersWithin held limits name source tree v result → NamesALimit result ⊎ AnswersTree held name source tree v result
-  theorem_answers limits said =
-      either (text_theorem e.depth limits (runs held the_table name source tree v) (meaning held the_table name source tree v) result (said the_table (is_table (get_by_text e.templates))))
-    where
-      either : NamesALimit result ⊎ AnswersText e.depth (meaning held the_table name source tree v) result → NamesALimit result ⊎ AnswersTree held name source tree v result
-      either (inl names) = inl names
-      either (inr is) = inr (λ table it. subst (λ z. AnswersText e.depth (meaning held z name source tree v) result) (sym (only_table (get_by_text e.templates) table it)) is)
+  -- what is so by the one table is so by any
+  by_any : (Is : Table → Type 0) → Is the_table → (table : Table) → IsTable held.texts table → Is table
+  by_any Is so table it = subst Is (sym (only_table (get_by_text e.templates) table it)) so
+
+  names_by_any : (result : Result (String Global) Error) → NamesAt (course_by the_table) result → NamesALimit held name source tree v result
+  names_by_any (Ok text) names = names
+  names_by_any (Err error) names = (names.0, names.1, by_any (λ table. IsOfLimit (course_by table) names.0 names.1 (fault_of error)) names.2)
+
+  pub greater_answers : (result : Result (String Global) Error) (one other : Limits) → AreNoLess one other → AnswersWithin held one name source tree v result
+      → NamesALimit held name source tree v result ⊎ AnswersWithin held other name source tree v result
+  greater_answers result one other le said =
+      let so = text_greater (course_by the_table) (meant the_table) (λ m n. runs_longer held the_table name source tree v m n (meant the_table)) e.depth one other result le
+      (said the_table (is_table (get_by_text e.templates))) in
+      elim so [
+        | inl names ↦ inl (names_by_any result names)
+        | inr is ↦ inr (by_any (λ table. TextWithin e.depth other (course_by table) (meant table) result) is)
+      ]
+
+  pub theorem_answers : (result : Result (String Global) Error) (limits : Limits) → AnswersWithin held limits name source tree v result
+      → NamesALimit held name source tree v result ⊎ AnswersTree held name source tree v result
+  theorem_answers result limits said =
+      let so = text_theorem e.depth limits (course_by the_table) (meant the_table) result (said the_table (is_table (get_by_text e.templates))) in
+      elim so [
+        | inl names ↦ inl (names_by_any result names)
+        | inr is ↦ inr (by_any (λ table. AnswersText e.depth (meant table) result) is)
+      ]

@@ -1,4 +1,4 @@
--- What rendering a text within limits answers, by texts and trees alone.
+-- What rendering a text within limits answers, by texts and trees, and by the machine's run of the program of a tree.
 use Rattle.std.specs.Prelude.{◌≤◌, ℕ, List, Option, Some, None, IsSome, Result, Ok, Err, String}
 use Rattle.std.specs.declared.alloc.Global.{Global}
 use Rattle.upon_types.specs.Error.{fault_of}
@@ -8,9 +8,9 @@ use Rattle.upon_types.specs.declared.error.Error.{Error}
 use Rattle.upon_lookup.specs.Environment.{context}
 use Rattle.upon_meaning_spec.specs.Alone.{includes_left}
 use Rattle.upon_meaning_spec.specs.Engine.{Table}
-use Rattle.upon_meaning_spec.specs.Outcome.{Outcome, States, states}
-use Rattle.upon_machine_spec.specs.Run.{run}
+use Rattle.upon_meaning_spec.specs.Outcome.{States, states}
 use Rattle.upon_machine_spec.specs.State.{at_start}
+use Rattle.upon_vm.specs.Course.{Course, course}
 use Rattle.upon_vm.specs.Reports.{IsAnyIo}
 use Rattle.upon_vm.specs.Within.{IsOfLimit, TextWithin, WritesWithin}
 use Rattle.upon_vm.specs.declared.limits.Limit.{Limit}
@@ -18,16 +18,15 @@ use Rattle.upon_vm.specs.declared.limits.Limits.{Limits}
 use Rattle.upon_engine.specs.Texts.{Texts}
 use Rattle.upon_engine.specs.Theorem.{IsTable, meaning, rendering}
 
--- what comes out of the machine within so many steps, if it ends by then: it runs the program of a tree on a value
-abbrev pub runs : Texts → Table → Option (List ℕ) → List ℕ → Statements → Val → ℕ
-    → Option (Outcome (States (Unit {0}) (Unit {0})))
-runs e table name source tree v n =
-    run (rendering e table).calls (rendering e table).resolve (context v) n
+-- the course of the machine's run of the program of a tree on a value
+abbrev pub runs : Texts → Table → Option (List ℕ) → List ℕ → Statements → Val → Course (States (Unit {0}) (Unit {0}))
+runs e table name source tree v =
+    course (rendering e table).calls (rendering e table).resolve (context v)
     (at_start (record { source = source; tree = tree }) name (includes_left e.depth) (states tt tt))
 
 -- the machine's run of a tree's program on a value ends within so many steps
 abbrev pub EndsWithin : Texts → Table → Option (List ℕ) → List ℕ → Statements → Val → ℕ → Type 0
-EndsWithin e table name source tree v n = IsSome (runs e table name source tree v n)
+EndsWithin e table name source tree v n = IsSome ((runs e table name source tree v).out n)
 
 -- A rendering of the tree of a text within limits answers what the tree means, if the machine ends within the steps and
 -- the text has no more bytes; if not, it names a limit beyond which it goes. A limit of values may be named if it is
@@ -46,10 +45,12 @@ SendsWithin e limits name source tree v result old new =
     → WritesWithin e.depth IsAnyIo limits (runs e table name source tree v) result old new
     (meaning e table name source tree v)
 
--- the answer names a limit
-abbrev pub NamesALimit : Result (String Global) Error → Type 0
-NamesALimit (Ok text) = ⊥
-NamesALimit (Err e) = (limit : Limit) × (n : ℕ) × IsOfLimit limit n (fault_of e)
+-- the answer names a limit, where the machine's run is stopped at it; whatever the table is
+abbrev pub NamesALimit : Texts → Option (List ℕ) → List ℕ → Statements → Val → Result (String Global) Error → Type 0
+NamesALimit e name source tree v (Ok text) = ⊥
+NamesALimit e name source tree v (Err error) =
+    (limit : Limit) × (n : ℕ) × ((table : Table) → IsTable e.texts table
+    → IsOfLimit (runs e table name source tree v) limit n (fault_of error))
 
 -- a limit that is as great as another, or is not set
 abbrev pub IsNoLess : Option ℕ → Option ℕ → Type 0

@@ -9,6 +9,7 @@ use Rattle.upon_types.specs.Tree.{Statements}
 use Rattle.upon_types.specs.Val.{Val}
 use Rattle.upon_types.specs.declared.error.Error.{Error}
 use Rattle.upon_meaning_spec.specs.Outcome.{Outcome}
+use Rattle.upon_vm.specs.Course.{Course}
 use Rattle.upon_vm.specs.Limits.{GrowsWithin}
 use Rattle.upon_vm.specs.Reports.{IsAnyIo, WritesReported}
 use Rattle.upon_vm.specs.Within.{WritesWithin}
@@ -33,7 +34,7 @@ writes_kept limit e old mid new o keeps (inl said) = inl (said.0, appends_kept o
 writes_kept limit e old mid new o keeps (inr said) = inr (said.0, (said.1.0, said.1.1, said.1.2, appends_kept old mid new said.1.0 said.1.3 keeps))
 
 -- what a failed rendering within limits has sent stays sent, if the output is kept
-within_kept : {Q : Type 0} (depth : ℕ) (limits : Limits) (ran : ℕ → Option (Outcome Q)) (e : Error) (old mid new : Option (List ℕ)) (o : Outcome Q) → Keeps mid new → WritesWithin depth IsAnyIo limits ran (Err e) old mid o → WritesWithin depth IsAnyIo limits ran (Err e) old new o
+within_kept : {Q : Type 0} (depth : ℕ) (limits : Limits) (ran : Course Q) (e : Error) (old mid new : Option (List ℕ)) (o : Outcome Q) → Keeps mid new → WritesWithin depth IsAnyIo limits ran (Err e) old mid o → WritesWithin depth IsAnyIo limits ran (Err e) old new o
 within_kept depth limits ran e old mid new o keeps (inl said) = inl (said.0, appends_kept old mid new o.text said.1 keeps, said.2)
 within_kept depth limits ran e old mid new o keeps (inr said) = inr (said.0, (said.1.0, said.1.1, said.1.2, appends_kept old mid new said.1.0 said.1.3 keeps))
 

@@ -7,6 +7,7 @@ pub mod Writes
 pub mod Fewer
 pub mod Turns
 pub mod Places
+pub mod Weights
 pub mod WithinWay
 pub mod WithinTurns
 pub mod WithinWrites

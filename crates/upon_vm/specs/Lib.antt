@@ -3,6 +3,8 @@ pub mod Runs
 pub mod Reports
 pub mod Limits
 pub mod Place
+pub mod Weight
+pub mod Course
 pub mod Turns
 pub mod Within
 pub mod Renderings

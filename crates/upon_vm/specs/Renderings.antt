@@ -7,10 +7,10 @@ use Rattle.upon_render.specs.declared.stack.Root.{Root}
 use Rattle.upon_meaning_spec.specs.Alone.{alone_within}
 use Rattle.upon_meaning_spec.specs.Engine.{Calls, Resolver, Template}
 use Rattle.upon_meaning_spec.specs.Outcome.{Outcome, States, states}
-use Rattle.upon_machine_spec.specs.Run.{run}
 use Rattle.upon_machine_spec.specs.State.{State, at_start}
 use Rattle.upon_vm_steps.specs.Keeps.{SourceHas}
 use Rattle.upon_vm_steps.specs.Machine.{source_state}
+use Rattle.upon_vm.specs.Course.{course}
 use Rattle.upon_vm.specs.Within.{RanWithin}
 use Rattle.upon_vm.specs.declared.limits.Limits.{Limits}
 use Rattle.upon_vm_steps.specs.declared.machine.Running.{Running}
@@ -35,7 +35,7 @@ start_state r t asked = at_start t (option_map (λ name. name.now) r.name) r.lef
 abbrev pub RendersWithin : {Q P : Type 0} → Limits → Calls Q → Resolver P → Running → Template → PureRoot → States Q P
     → Within → Option (List ℕ) → Option (List ℕ) → States Q P → Type 0
 RendersWithin limits calls resolve r t root asked ended old new next =
-    RanWithin limits (λ n. run calls resolve root n (start_state r t asked)) ended old new
+    RanWithin limits (course calls resolve root (start_state r t asked)) ended old new
     (rendered_alone calls resolve r t root asked) next
 
 -- A rendering leaves the stack and the source of templates so: the root denotes the same, and a source answers by the

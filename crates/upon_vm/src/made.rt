@@ -1,5 +1,11 @@
 // What a step makes, in bytes of values: each value is counted once, when it is made. Nothing is weighed if no limit of
 // values is set.
+ghost use Rattle.std.specs.Prelude.{◌≡◌, ◌≤◌, Bool, true, IsSome, None, option_map, slice_get};
+ghost use Rattle.upon_types.specs.Cow.{cow_view};
+ghost use Rattle.upon_compiler.specs.Program.{program_view};
+ghost use Rattle.upon_vm_steps.specs.Machine.{active_of};
+ghost use Rattle.upon_vm_steps.specs.Operands.{operands_of};
+ghost use Rattle.upon_vm.specs.Weight.{as_count, copy_weight, put_in, started};
 
 use crate::weight::{PLACE, weight};
 use upon_compiler::types::program::Instr;
@@ -15,7 +21,14 @@ use upon_vm_steps::step::fetch;
 pub(crate) fn bytes_put_in<'r, V: ValueSource, T: ProgramSource<'r>>(
     limit: Option<usize>,
     machine: &Machine<'r, V, T>,
-) -> usize {
+) -> usize
+    // If a limit is set, the operand on top is copied, or it is not.
+    ensures puts { IsSome limit → (copied : Bool) × (result ≡ as_count (put_in copied
+        (slice_get (active_of machine.now.running).code machine.now.position) (operands_of machine.now.operands))) }
+    ensures none { limit ≡ None → result ≡ 0 }
+    ensures most { result ≤ put_in true (slice_get (active_of machine.now.running).code machine.now.position)
+        (operands_of machine.now.operands) }
+{
     if limit.is_none() {
         return 0;
     }
@@ -35,7 +48,14 @@ pub(crate) fn bytes_started<'r>(
     program: Program<'r>,
     position: usize,
     operands: &Operands<'r>,
-) -> usize {
+) -> usize
+    // If a limit is set, what is on top is a copy, or it is not.
+    ensures starts { IsSome limit → (copied : Bool) × (result ≡ as_count (started copied
+        (slice_get (program_view program.entry.instrs.now) position) (operands_of operands.now))) }
+    ensures none { limit ≡ None → result ≡ 0 }
+    ensures most { result ≤ started true (slice_get (program_view program.entry.instrs.now) position)
+        (operands_of operands.now) }
+{
     if limit.is_none() {
         return 0;
     }
@@ -46,7 +66,9 @@ pub(crate) fn bytes_started<'r>(
 }
 
 // What the operand on top weighs if it is lent, or 0.
-fn weight_lent(operands: &Operands<'_>) -> usize {
+fn weight_lent(operands: &Operands<'_>) -> usize
+    ensures { (copied : Bool) × (result ≡ as_count (copy_weight copied (operands_of operands.now))) }
+{
     match top(operands) {
         Some(ValueCow::Borrowed(value)) => weight(value),
         _ => 0,
@@ -54,7 +76,9 @@ fn weight_lent(operands: &Operands<'_>) -> usize {
 }
 
 // What the operand on top weighs if it is owned, or 0.
-fn weight_owned(operands: &Operands<'_>) -> usize {
+fn weight_owned(operands: &Operands<'_>) -> usize
+    ensures { (copied : Bool) × (result ≡ as_count (copy_weight copied (operands_of operands.now))) }
+{
     match top(operands) {
         Some(ValueCow::Owned(value)) => weight(value),
         _ => 0,
@@ -62,7 +86,10 @@ fn weight_owned(operands: &Operands<'_>) -> usize {
 }
 
 // The operand on top.
-fn top<'o, 'r>(operands: &'o Operands<'r>) -> Option<&'o ValueCow<'r>> {
+fn top<'o, 'r>(operands: &'o Operands<'r>) -> Option<&'o ValueCow<'r>>
+    ensures { option_map (λ v. cow_view v.now) result
+        ≡ option_map (λ o. o.value) (slice_get (operands_of operands.now) 0) }
+{
     let (values, _) = operands.top(1)?;
     values.first()
 }

@@ -9,11 +9,11 @@ ghost use Rattle.upon_lookup.specs.Source.{Source};
 ghost use Rattle.upon_render.specs.Stack.{frames_of, root_of};
 ghost use Rattle.upon_meaning_spec.specs.Engine.{Template};
 ghost use Rattle.upon_meaning_spec.specs.Meaning.{fault_in};
-ghost use Rattle.upon_machine_spec.specs.Run.{run};
 ghost use Rattle.upon_machine_spec.specs.Spans.{CodeSpans};
 ghost use Rattle.upon_compiler.specs.Program.{program_view};
 ghost use Rattle.upon_vm_steps.specs.Acts.{calls_on};
 ghost use Rattle.upon_vm_steps.specs.Keeps.{HasState, Kept, SourceHas};
+ghost use Rattle.upon_vm.specs.Course.{course};
 ghost use Rattle.upon_vm.specs.Limits.{GrowsWithin};
 ghost use Rattle.upon_vm_steps.specs.Machine.{active_of, state_of};
 ghost use Rattle.upon_vm_steps.specs.Program.{IsProgramOf};
@@ -107,8 +107,8 @@ pub(crate) fn run_within<'r, V: ValueSource, T: ProgramSource<'r>, C: Callables,
     ensures ran { (known : KnownRun V.State T.State)
         → Starts V.ask V.value_state T.template_state (T.resolve machine.old.templates) (C.callables callables.now)
         (C.default_formatter callables.now) known machine.old → RanWithin limits
-        (λ n. run (calls_on (C.callables callables.now) (C.default_formatter callables.now) known.ask)
-        (T.resolve machine.old.templates) (pure_root (root_of machine.old.stack)) n
+        (course (calls_on (C.callables callables.now) (C.default_formatter callables.now) known.ask)
+        (T.resolve machine.old.templates) (pure_root (root_of machine.old.stack))
         (state_of V.value_state T.template_state known.values machine.old))
         result (W.given out.old) (W.given out.new) known.outcome
         (state_of V.value_state T.template_state known.values machine.new).asked }

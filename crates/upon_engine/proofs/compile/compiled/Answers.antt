@@ -1,11 +1,6 @@
 use Rattle.std.proofs.Common.{◌≡◌, ℕ, List, Result, Ok, Err, IfOk, IfErr, sym, subst}
-use Rattle.upon_types.specs.Error.{fault_of}
-use Rattle.upon_types.specs.Fault.{syntax}
-use Rattle.upon_types.specs.Tree.{Statements}
 use Rattle.upon_language_spec.specs.Grammar.{HasTree}
 use Rattle.upon_language_spec.specs.Search.{DelimiterText}
-use Rattle.upon_delimiters.specs.Searcher.{searcher_delimiters}
-use Rattle.upon_syntax.specs.Parsed.{source_of, syntax_of}
 use Rattle.upon_syntax.specs.TagReading.{IsSyntaxError}
 use Rattle.upon_compiler.proofs.CompiledTree.{is_compiled}
 use Rattle.upon_engine.proofs.compile.compiled.Goals as goal

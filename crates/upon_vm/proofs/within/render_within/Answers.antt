@@ -2,9 +2,9 @@ use Rattle.std.proofs.Common.{refl, subst}
 use Rattle.upon_render.specs.Roots.{pure_root}
 use Rattle.upon_render.specs.Stack.{root_of}
 use Rattle.upon_meaning_spec.specs.Outcome.{states}
-use Rattle.upon_machine_spec.specs.Run.{run}
 use Rattle.upon_vm_steps.specs.Acts.{calls_on}
 use Rattle.upon_vm_steps.specs.Machine.{source_state}
+use Rattle.upon_vm.specs.Course.{course}
 use Rattle.upon_vm.specs.Within.{RanWithin}
 use Rattle.upon_vm.proofs.AtStart.{asks_some, is_at_start, machine_of, known_of, some_asking, some_state, starts}
 use Rattle.upon_vm.proofs.within.render_within.Goals as goal
@@ -44,7 +44,7 @@ returns-clause-ran g c t ask q program asks =
     let given = g.W.Output.given in
     let next = states (source_state value_state q (root_of c.run_within-ended.new.machine.stack)) (template_state c.run_within-ended.new.machine.templates) in
     subst
-    (λ s. RanWithin c.args.limits (λ n. run (calls_on callables default ask) resolve root n s) c.run_within-ended.result (given c.args.out.now) (given c.run_within-ended.new.out) known.outcome next)
+    (λ s. RanWithin c.args.limits (course (calls_on callables default ask) resolve root s) c.run_within-ended.result (given c.args.out.now) (given c.run_within-ended.new.out) known.outcome next)
     (is_at_start value_state template_state q t m program c.new.ensures.items refl c.new-2.ensures c.requires.frames)
     (c.run_within-ended.ensures.ran known from)
 

@@ -77,6 +77,9 @@ returns-in_default-clause-ran g c known starts =
     let here = state_of g.V.ValueSource.value_state g.T.ProgramSource.template_state known.values c.turns.machine in
     within_steps h c.at_limit.result here.asked c.in_default.ensures c.at_limit.ensures
 
+pub returns-in_default-clause-bounded : goal.returns-in_default-clause-bounded
+returns-in_default-clause-bounded g c = grown_so c.args.limits.output c.turns.room (g.W.Output.given c.args.out.now) (g.W.Output.given c.turns.out) c.turns.invariant.grown
+
 pub returns-in-Over-clause-bounded : goal.returns-in-Over-clause-bounded
 returns-in-Over-clause-bounded g c =
     grown_within c.args.limits.output c.turns.room (g.W.Output.given c.args.out.now) (g.W.Output.given c.turns.out) (g.W.Output.given c.take_turn.new.out) c.turns.invariant.grown c.in-Over.ensures.grows
@@ -125,7 +128,7 @@ returns-in_default-spend-clause-ran g c known starts =
     let did = c.in-Went.ensures.did known.values known.ask (within_asks h) in
     let next = state_of g.V.ValueSource.value_state g.T.ProgramSource.template_state known.values c.take_turn.new.machine in
     within_values h c.in-Went.flow c.in-Some.fewer c.in-Went.rest (stop_or_memory c.take_turn.new.stop) (g.W.Output.given c.take_turn.new.out) c.take_turn.new.machine
-    c.saturating_add-made.result c.at_limit-in_default-spend.result next.asked (sym c.end_of.ensures ∙ c.in_default-end_of.is) c.in-Some.ensures did c.in-Went.ensures.kept
+    c.saturating_add-made.result c.at_limit-in_default-spend.result next.asked (sym c.end_of.ensures ∙ c.in_default-end_of.is) c.in-Some.ensures (omega (arith, c.bytes_put_in-put_in.ensures.most, c.bytes_started-started.ensures.most)) did c.in-Went.ensures.kept
     c.in_default-spend.ensures c.at_limit-in_default-spend.ensures
 
 pub turns-preserved : goal.turns-preserved
@@ -139,8 +142,8 @@ turns-preserved g c = record {
   going = λ known starts.
       let h = c.turns.invariant.going known starts in
       let did = c.in-Went.ensures.did known.values known.ask (within_asks h) in
-      within_on h c.in-Went.flow c.in-Some.fewer c.in-Went.rest (stop_or_memory c.take_turn.new.stop) (g.W.Output.given c.take_turn.new.out) c.take_turn.new.machine
-      (sym c.end_of.ensures ∙ c.in_default-end_of.is) c.in-Some.ensures did c.in-Went.ensures.kept;
+      within_on h c.in-Went.flow c.in-Some.fewer c.in-Went.rest c.saturating_add-made.result (stop_or_memory c.take_turn.new.stop) (g.W.Output.given c.take_turn.new.out) c.take_turn.new.machine
+      (sym c.end_of.ensures ∙ c.in_default-end_of.is) c.in-Some.ensures (omega (arith, c.bytes_put_in-put_in.ensures.most, c.bytes_started-started.ensures.most)) did c.in-Went.ensures.kept;
   enough =
       let before = c.turns.invariant.enough in
       let h = c.turns.invariant.going before.0 before.1 in

@@ -39,7 +39,7 @@ invariant-turns g l = record {
       → WayWithin
       g.V.ValueSource.ask g.V.ValueSource.value_state g.V.ValueSource.holds g.T.ProgramSource.template_state g.T.ProgramSource.resolve g.T.ProgramSource.holds
       (calls_on (g.C.Callables.callables l.fn.callables) (g.C.Callables.default_formatter l.fn.callables) known.ask)
-      known.values known.count known.outcome l.limits l.initial.machine l.steps l.room (g.W.Output.given l.initial.out) (g.W.Output.given l.out) l.machine;
+      known.values known.count known.outcome l.limits l.initial.machine l.steps l.room l.made (g.W.Output.given l.initial.out) (g.W.Output.given l.out) l.machine;
   enough :
       (known : KnownRun g.V.ValueSource.State g.T.ProgramSource.State)
       × Starts
