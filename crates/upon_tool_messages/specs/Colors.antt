@@ -15,3 +15,7 @@ tint_code Message = Some (rendition (codes "[1;31m"))
 tint_code Margin = Some (rendition (codes "[34m"))
 tint_code Place = Some (rendition (codes "[36m"))
 tint_code Hint = Some (rendition (codes "[32m"))
+
+-- what it is sent after such a part
+abbrev pub reset_code : List ℕ
+reset_code = rendition (codes "[0m")

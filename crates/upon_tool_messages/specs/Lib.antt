@@ -4,3 +4,5 @@ pub mod Colors
 pub mod Gone
 pub mod CallCheck
 pub mod Terminal
+pub mod Judged
+pub mod Included

@@ -1,8 +1,11 @@
 // Calls in templates that fail on any values: of functions that there are not, and with another number of arguments
 // than a function expects.
-ghost use Rattle.std.specs.Prelude.{◌≡◌, ◌≤◌, ◌↔◌, IfOk, OnErr, OnOk, false, true};
+ghost use Rattle.std.specs.Prelude.{◌≡◌, ◌≤◌, ◌↔◌, ◌&&◌, IfOk, OnErr, OnOk, false, not, true};
 ghost use Rattle.upon_types.specs.Span.{LiesIn};
+ghost use Rattle.upon_engine.specs.Template.{template_tree};
+ghost use Rattle.upon_needs.specs.Places.{call_at};
 ghost use Rattle.upon_tool_messages.specs.CallCheck.{checked_callables, is_right_so_far};
+ghost use Rattle.upon_tool_messages.specs.Judged.{calls_are_right, fault_cause, is_right_call};
 
 use crate::failure::report_hinted;
 use crate::judge::{CallFault, Declared, fault_of};
@@ -59,6 +62,9 @@ impl<'k> CallCheck<'k> {
         err: &mut E,
     ) -> Result<(), AllocError>
         ensures callables { checked_callables self.new ≡ checked_callables self.old }
+        // It is right so far exactly if it was, and nothing is wrong with any call of this template.
+        ensures right { OnOk result (is_right_so_far self.new ≡
+            (is_right_so_far self.old && calls_are_right (checked_callables self.old) (template_tree template.now))) }
         // A call that failed before is not forgotten.
         ensures kept { is_right_so_far self.old ≡ false → is_right_so_far self.new ≡ false }
         // If no call failed so far, nothing is said of this text.
@@ -87,7 +93,9 @@ impl<'k> CallCheck<'k> {
         err: &mut E,
     ) -> Result<bool, AllocError>
         requires { LiesIn source.now call.span }
-        ensures { IfOk result (λ is_wrong. is_wrong ≡ false → err.new ≡ err.old) }
+        ensures wrong { IfOk result (λ is_wrong.
+            is_wrong ≡ not (is_right_call (checked_callables self.now) (call_at call.entry))) }
+        ensures silent { IfOk result (λ is_wrong. is_wrong ≡ false → err.new ≡ err.old) }
     {
         let called = call.name;
         let Some(fault) = fault_of(alloc, &self.callables, called, call.arguments)? else {
@@ -112,7 +120,9 @@ impl<'k> CallCheck<'k> {
 }
 
 // Why a call fails that has so many arguments.
-fn cause_of(fault: CallFault, given: usize) -> Cause {
+fn cause_of(fault: CallFault, given: usize) -> Cause
+    ensures { result ≡ fault_cause fault given }
+{
     match fault {
         CallFault::Unknown => Cause::UnknownFunction,
         CallFault::Arguments(expected) => Cause::FunctionExpects(expected, given),

@@ -1,4 +1,9 @@
 // What is wrong with a call, by the functions that there are.
+ghost use Rattle.std.specs.Prelude.{◌≡◌, IfOk};
+ghost use Rattle.upon_functions.specs.Says.{Says};
+ghost use Rattle.upon_types.specs.Answers.{Answer};
+ghost use Rattle.upon_tool_messages.specs.Judged.{arguments_wanted, call_fault, function_named, number_wanted};
+
 use std::alloc::{AllocError, Global};
 use upon_functions::function::{CallError, Function};
 use upon_std::table::StandardFunction;
@@ -19,8 +24,14 @@ pub struct Declared<'k> {
 const VERBATIM: &str = "verbatim";
 
 impl<'k> Declared<'k> {
+    ghost use Rattle.std.specs.Prelude.{◌≡◌, IfOk};
+    ghost use Rattle.upon_needs.specs.Names.{texts};
+    ghost use Rattle.upon_tool_messages.specs.Judged.{callable_names};
+
     /// Returns the names of all that templates may call. It fails if there is no memory.
-    pub fn names(&self, alloc: Global) -> Result<Vec<&'k str>, AllocError> {
+    pub fn names(&self, alloc: Global) -> Result<Vec<&'k str>, AllocError>
+        ensures { IfOk result (λ names. texts names.items ≡ callable_names self.now) }
+    {
         let mut names = Vec::from_slice(alloc, self.others)?;
         if self.has_verbatim {
             names.push(VERBATIM)?;
@@ -50,8 +61,10 @@ pub fn fault_of(
     declared: &Declared<'_>,
     name: &str,
     arguments: usize,
-) -> Result<Option<CallFault>, AllocError> {
-    if has_name(declared.others, name) {
+) -> Result<Option<CallFault>, AllocError>
+    ensures { IfOk result (λ fault. fault ≡ call_fault declared.now name.now arguments) }
+{
+    if declared.others.contains(&name) {
         return Ok(None);
     }
     if declared.has_verbatim && name == VERBATIM {
@@ -67,18 +80,10 @@ pub fn fault_of(
     }
 }
 
-// Whether a name is among some.
-fn has_name(names: &[&str], name: &str) -> bool {
-    for other in names {
-        if *other == name {
-            return true;
-        }
-    }
-    false
-}
-
-// The function of a name, if there is one.
-fn function_of(functions: &[StandardFunction], name: &str) -> Option<StandardFunction> {
+// The first function of a name, if there is one.
+fn function_of(functions: &[StandardFunction], name: &str) -> Option<StandardFunction>
+    ensures { result ≡ function_named functions.now name.now }
+{
     for function in functions {
         if function.name() == name {
             return Some(*function);
@@ -92,14 +97,25 @@ fn expected(
     alloc: Global,
     function: StandardFunction,
     arguments: usize,
-) -> Result<Option<usize>, AllocError> {
+) -> Result<Option<usize>, AllocError>
+    ensures { IfOk result (λ number. number ≡ arguments_wanted function arguments) }
+{
     let mut nothing = Vec::new(alloc);
     for _ in 0..arguments {
         nothing.push(ValueCow::Owned(Value::None))?;
     }
-    match function.call(alloc, nothing.as_slice()) {
+    wanted_by(function.call(alloc, nothing.as_slice()))
+}
+
+// How many arguments are expected, if a call fails by their number.
+fn wanted_by(called: Result<Value, CallError>) -> Result<Option<usize>, AllocError>
+    ensures { (answer : Answer) → Says called answer → IfOk result (λ number. number ≡ number_wanted answer) }
+{
+    match called {
         Err(CallError::Arity(expected)) => Ok(Some(expected)),
         Err(CallError::Memory) => Err(AllocError),
-        _ => Ok(None),
+        Err(CallError::Arg(..)) => Ok(None),
+        Err(CallError::Fault(_)) => Ok(None),
+        Ok(_) => Ok(None),
     }
 }

@@ -2,7 +2,10 @@
 ghost use Rattle.std.specs.Prelude.{◌≡◌, ◌++◌, ◌∷◌, [], ℕ, List, map, None, Some, IfOk, OnErr, OnOk, option_map, bytes_eq, string_bytes};
 ghost use Rattle.std.specs.Map.{update};
 ghost use Rattle.upon_types.specs.Conversions.{or_else};
+ghost use Rattle.upon_engine.specs.Engine.{engine_templates};
+ghost use Rattle.upon_engine.specs.Template.{template_tree};
 ghost use Rattle.upon_tool_messages.specs.Gone.{IsOfGone};
+ghost use Rattle.upon_tool_messages.specs.Included.{include_at_span, lacking_include, IsRefusedIfNamed, IsRefusedOnWay};
 ghost use Rattle.upon_tool_messages.specs.Library.{library_callables, library_names, refused_as, read_refusal, IsOfAdded};
 
 use crate::failure::{is_memory, report_fault};
@@ -150,7 +153,11 @@ impl Library {
         &self,
         engine: &Engine<'_>,
         error: &Error,
-    ) -> Result<Option<(&str, &Refusal)>, AllocError> {
+    ) -> Result<Option<(&str, &Refusal)>, AllocError>
+        ensures { IfOk result (λ found.
+            IsRefusedIfNamed self.now (lacking_include (engine_templates engine.now) error.now)
+            (option_map (λ found. (found.0.now, found.1.now)) found)) }
+    {
         match missing_include(engine, error)? {
             Some(name) => Ok(self.refused_on_way(name)),
             None => Ok(None),
@@ -158,15 +165,16 @@ impl Library {
     }
 
     /// Returns the file of a name that is no template, or the folder on the way to it that can't be read.
-    pub fn refused_on_way(&self, name: &str) -> Option<(&str, &Refusal)> {
+    pub fn refused_on_way(&self, name: &str) -> Option<(&str, &Refusal)>
+        ensures { IsRefusedOnWay self.now name.now (option_map (λ found. (found.0.now, found.1.now)) result) }
+    {
         let mut path = name;
-        for _ in 0..name.len() {
+        loop {
             if let Some((found, refusal)) = self.refused.get_key_value(path) {
                 return Some((found.as_str(), refusal));
             }
             (path, _) = path.rsplit_once('/')?;
         }
-        None
     }
 }
 
@@ -175,7 +183,10 @@ impl Library {
 pub(crate) fn missing_include<'n>(
     engine: &'n Engine<'_>,
     error: &Error,
-) -> Result<Option<&'n str>, AllocError> {
+) -> Result<Option<&'n str>, AllocError>
+    ensures { IfOk result (λ name.
+        option_map (λ name. name.now) name ≡ lacking_include (engine_templates engine.now) error.now) }
+{
     // A source of templates refuses by a text, which has no cause.
     if !matches!(error.cause(), Some(Cause::UnknownTemplate) | None) {
         return Ok(None);
@@ -190,8 +201,12 @@ pub(crate) fn missing_include<'n>(
 }
 
 // The name of the include at a span of a template.
-fn included_at<'t>(template: &'t Template<'_>, span: Span) -> Result<Option<&'t str>, AllocError> {
-    for place in include_places(template)? {
+fn included_at<'t>(template: &'t Template<'_>, span: Span) -> Result<Option<&'t str>, AllocError>
+    ensures { IfOk result (λ name.
+        option_map (λ name. name.now) name ≡ include_at_span span (template_tree template.now)) }
+{
+    let places = include_places(template)?;
+    for place in places.as_slice() {
         if place.span == span {
             return Ok(Some(place.name));
         }
