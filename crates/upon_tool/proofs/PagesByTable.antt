@@ -85,10 +85,10 @@ module _ (world : World) (e : Texts) (table : Table) (is : IsTable e.texts table
       → IsPageText e asked context (string_bytes source) (Ok whole)
       → (text : List ℕ) × SourceMeans e table (string_bytes source) context text × Framed e table asked.layout context text (string_bytes whole)
   page_text asked context source whole unlimited there (Ok text, says, frames) = (
-      string_bytes text,
-      source_means e table is (string_bytes source) context text syntax (IsUtf8-string_bytes source) (subst (λ limits. IsSourceText limits e (string_bytes source) context (Ok text)) unlimited says),
-      framed asked.layout context text whole there (subst (λ limits. FramesText limits e asked.layout context (Ok text) (Ok whole)) unlimited frames),
-    )
+    string_bytes text,
+    source_means e table is (string_bytes source) context text syntax (IsUtf8-string_bytes source) (subst (λ limits. IsSourceText limits e (string_bytes source) context (Ok text)) unlimited says),
+    framed asked.layout context text whole there (subst (λ limits. FramesText limits e asked.layout context (Ok text) (Ok whole)) unlimited frames),
+  )
   page_text asked context source whole unlimited there (Err fault, says, frames) = absurd cc
 
   read : (asked : Build) (context : Val) (fault : Option ReadFault) (is_template : Bool) (name path : List ℕ) (end : PageEnd) (old new : Log) → is_failed end ≡ false

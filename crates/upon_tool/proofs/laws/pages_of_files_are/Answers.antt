@@ -17,8 +17,13 @@ returns g c = λ call input was now r unlimited.
     let syntax = page_syntax r.layout r.folder ∙ takes_syntax r.files _ r.folder r.taken ∙ begun_syntax call.render.escape (standard_functions call.render.standard) in
     let none : (build_asked call).limits ≡ None = ap (λ b. if b then Some (limits_asked call.render) else None) unlimited in
     elim r.built [
-      | inl (done, does, well) ↦ (table, does.files, is_table, does.listed,
+      | inl (done, does, well) ↦ (
+        table,
+        does.files,
+        is_table,
+        does.listed,
         in_order call.keep_going (DoesPage (g.R.Sources.world c.args.sources.now) e (build_asked call) r.value) IsPageOf (PutsFile (g.R.Sources.world c.args.sources.now) e table (build_asked call) r.value)
-        (file_done (g.R.Sources.world c.args.sources.now) e table is_table syntax (build_asked call) r.value none (layout_held (g.R.Sources.world c.args.sources.now) call.layout input r.layout r.folder r.read)) does.files does.pages done was now does.named (well refl) does.done_in_order)
+            (file_done (g.R.Sources.world c.args.sources.now) e table is_table syntax (build_asked call) r.value none (layout_held (g.R.Sources.world c.args.sources.now) call.layout input r.layout r.folder r.read)) does.files does.pages done was now does.named (well refl) does.done_in_order,
+      )
       | inr (not, kept) ↦ absurd (not refl)
     ]

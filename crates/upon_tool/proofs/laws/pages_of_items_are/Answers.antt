@@ -18,8 +18,14 @@ returns g c = λ call input was now r utf8 unlimited.
     let syntax = takes_syntax r.files _ r.folder r.taken ∙ begun_syntax call.render.escape (standard_functions call.render.standard) in
     let none : (each_asked call).limits ≡ None = ap (λ b. if b then Some (limits_asked call.render) else None) unlimited in
     elim r.rendered [
-      | inl (done, does, well) ↦ (table, does.others, does.items, is_table, does.listed,
+      | inl (done, does, well) ↦ (
+        table,
+        does.others,
+        does.items,
+        is_table,
+        does.listed,
         in_order call.keep_going (DoesItem (g.R.Sources.world c.args.sources.now) e (each_asked call) does.others) (NamesItem e (each_asked call) does.others) (PutsItem (g.R.Sources.world c.args.sources.now) e table (each_asked call) does.others)
-        (item_done (g.R.Sources.world c.args.sources.now) e table is_table syntax (each_asked call) does.others _ none utf8 (added call.render.file.now r.text r.folder)) does.items does.pages done was now does.named (well refl) does.done_in_order)
+            (item_done (g.R.Sources.world c.args.sources.now) e table is_table syntax (each_asked call) does.others _ none utf8 (added call.render.file.now r.text r.folder)) does.items does.pages done was now does.named (well refl) does.done_in_order,
+      )
       | inr (not, kept) ↦ absurd (not refl)
     ]
