@@ -147,7 +147,7 @@ fn each_line(alloc: Global, call: &EachCall<'_>) -> Result<String, AllocError> {
         keep_going,
     } = call;
     let file = render.file;
-    let (env, color) = (env_text(render.env), color_text(render.color));
+    let (env, color) = (env_text(render.data.env), color_text(render.color));
     format!(in alloc; "{file} {key} {name} {out} {keep_going}{env}{color}")
 }
 
@@ -160,7 +160,7 @@ fn build_line(alloc: Global, call: &BuildCall<'_>) -> Result<String, AllocError>
     } = call;
     let file = render.file;
     let follow = render.follow;
-    let (env, color) = (env_text(render.env), color_text(render.color));
+    let (env, color) = (env_text(render.data.env), color_text(render.color));
     format!(in alloc; "{file} {layout:?} {out} {keep_going} {follow}{env}{color}")
 }
 
