@@ -19,7 +19,7 @@ const LARGEST: usize = 1 << 20; // ./test: 1 << 17
 const NEAR: usize = 8;
 
 // The bytes of a source, and the items of a program's own list.
-const SOURCE: usize = 17_000_000; // ./test: 170_000
+const SOURCE: usize = 2_500_000; // ./test: 170_000
 const LISTED: u32 = 250_000; // ./test: 2_500
 
 // A text many times over.
