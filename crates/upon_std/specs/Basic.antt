@@ -1,3 +1,4 @@
+-- The functions of `basic`: what they answer of their arguments, and their names.
 pub mod Held
 pub mod Order
 pub mod Choices

@@ -1,3 +1,4 @@
+-- The functions of `cutting`: what they answer of their arguments, and their names.
 pub mod Items
 pub mod Numbers
 pub mod Pieces

@@ -1,3 +1,4 @@
+-- The functions of `encoding`: what they answer of their arguments, and their names.
 pub mod Columns
 pub mod Padding
 pub mod Truncating

@@ -1,3 +1,4 @@
+-- The functions of `ordering`: what they answer of their arguments, and their names.
 pub mod Keys
 pub mod Sorting
 pub mod Ranks
