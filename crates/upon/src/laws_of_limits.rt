@@ -1,13 +1,16 @@
-// Laws of limits: what a greater limit changes, and that each rendering ends within some number of steps.
-ghost use Rattle.std.specs.Prelude.{◌≡◌, ◌⊎◌, ◌≤◌, ℕ, List, Option, Some, Result, String};
+// Laws of limits: what a greater limit changes, what fits the limits and what is stopped, and that each rendering ends
+// within some number of steps.
+ghost use Rattle.std.specs.Prelude.{◌≡◌, ◌⊎◌, ◌≤◌, ℕ, List, Option, Some, Result, IsErrAnd, String};
 ghost use Rattle.std.specs.declared.alloc.Global.{Global};
+ghost use Rattle.upon_types.specs.Error.{fault_of};
+ghost use Rattle.upon_types.specs.Fault.{out_of_memory};
 ghost use Rattle.upon_types.specs.Tree.{Statements};
 ghost use Rattle.upon_types.specs.Val.{Val};
 ghost use Rattle.upon_types.specs.declared.error.Error.{Error};
 ghost use Rattle.upon_meaning_spec.specs.Engine.{Table};
 ghost use Rattle.upon_vm.specs.declared.limits.Limits.{Limits};
-ghost use Rattle.upon_engine.specs.Theorem.{AnswersTree, meaning};
-ghost use Rattle.upon_engine.specs.Within.{AnswersWithin, AreNoLess, EndsWithin, NamesALimit, runs};
+ghost use Rattle.upon_engine.specs.Theorem.{AnswersTree, IsTable, Sends, meaning};
+ghost use Rattle.upon_engine.specs.Within.{AnswersWithin, AreNoLess, EndsWithin, NamesALimit, SendsWithin, StopsSending, SurelyFits, SurelyMakesMore, runs};
 
 use upon_engine::engine::Engine;
 use upon_engine::texts::{AnyEngine, EngineTexts};
@@ -45,4 +48,38 @@ pub fn greater_limits(engine: &Engine<'_>)
         (result : Result (String Global) Error)
         → AnswersWithin engine limits name source tree v result
         → NamesALimit engine name source tree v result ⊎ AnswersTree engine name source tree v result }
+{}
+
+/// States that a rendering that fits its limits, even with each value that may be lent counted as a copy, is as one
+/// without limits.
+pub fn what_fits(engine: &Engine<'_>)
+    ensures answered { let engine = ⟦<AnyEngine as EngineTexts>⟧.texts engine.now in
+        (limits : Limits) (name : Option (List ℕ)) (source : List ℕ) (tree : Statements) (v : Val)
+        (result : Result (String Global) Error) → SurelyFits engine limits name source tree v
+        → AnswersWithin engine limits name source tree v result
+        → AnswersTree engine name source tree v result }
+    ensures sent { let engine = ⟦<AnyEngine as EngineTexts>⟧.texts engine.now in
+        (limits : Limits) (name : Option (List ℕ)) (source : List ℕ) (tree : Statements) (v : Val)
+        (result : Result (Unit {0}) Error) (old new : Option (List ℕ)) → SurelyFits engine limits name source tree v
+        → SendsWithin engine limits name source tree v result old new
+        → Sends engine name source tree v result old new }
+{}
+
+/// States that a rendering is stopped that makes more bytes of values than their limit, counted as few as they may be.
+pub fn what_makes_more(engine: &Engine<'_>)
+    // The answer names a limit, or memory is out.
+    ensures answered { let engine = ⟦<AnyEngine as EngineTexts>⟧.texts engine.now in
+        (limits : Limits) (n : ℕ) (name : Option (List ℕ)) (source : List ℕ) (tree : Statements) (v : Val)
+        (result : Result (String Global) Error) → limits.values ≡ Some n
+        → SurelyMakesMore engine n name source tree v
+        → AnswersWithin engine limits name source tree v result
+        → NamesALimit engine name source tree v result ⊎ IsErrAnd result (λ e. fault_of e ≡ out_of_memory) }
+    // So it is of what is written, but that a failed write may be told of.
+    ensures sent { let engine = ⟦<AnyEngine as EngineTexts>⟧.texts engine.now in
+        (limits : Limits) (n : ℕ) (name : Option (List ℕ)) (source : List ℕ) (tree : Statements) (v : Val)
+        (result : Result (Unit {0}) Error) (old new : Option (List ℕ)) → limits.values ≡ Some n
+        → SurelyMakesMore engine n name source tree v
+        → SendsWithin engine limits name source tree v result old new
+        → (table : Table) → IsTable engine.texts table
+        → StopsSending limits (runs engine table name source tree v) (meaning engine table name source tree v) result }
 {}

@@ -72,7 +72,7 @@ all_filled asked sources i first e done is begun =
     ∙ ap (with_sources (lent_pairs sources)) begun
 
 -- ---- the delimiters stay
-functions_syntax : (functions : List StandardFunction) (e : Texts) → (with_functions functions e).syntax ≡ e.syntax
+pub functions_syntax : (functions : List StandardFunction) (e : Texts) → (with_functions functions e).syntax ≡ e.syntax
 functions_syntax [] e = refl
 functions_syntax (f ∷ fs) e = functions_syntax fs (with_callable (standard_name f) (function (standard_answer f)) e)
 

@@ -1,6 +1,6 @@
 -- Contexts that options give, and why they give none.
-use Rattle.std.proofs.Common.{◌≡◌, ◌⊎◌, ◌∙◌, ◌&&◌, ◌||◌, ◌==◌, ◌∷◌, [], ℕ, List, length, arith, Bool, true, false, Option, Some, None, BTreeMap, String, Global, bytes_eq, codes, is_some, option_map, refl, sym, ap, subst, inl, inr}
-use Rattle.std.specs.Prelude.{if◌then◌else◌}
+use Rattle.std.proofs.Common.{◌≡◌, ◌⊎◌, ◌∙◌, ◌&&◌, ◌||◌, ◌==◌, ◌∷◌, [], ℕ, List, length, arith, Bool, true, false, Option, Some, None, BTreeMap, String, Global, bytes_eq, codes, option_map, string_bytes, refl, sym, ap, subst, inl, inr}
+use Rattle.std.specs.Prelude.{if◌then◌else◌, ⊤}
 use Rattle.std.proofs.lemmas.Bool.{eqb-true}
 use Rattle.std.proofs.lemmas.Slice.Eq.{bytes_eq-Decides}
 use Rattle.upon_types.specs.Val.{Val, none_val, bool_val, int_val, text_val, list_val, map_val, key_of, entry_at, Entries, no_entries, entry_then}
@@ -9,9 +9,17 @@ use Rattle.upon_types.specs.declared.value.Value.{Value}
 use Rattle.upon_types.specs.declared.value.Value.TheVariants.{Map as MapValue}
 use Rattle.upon_types.proofs.Views.{view-Map}
 use Rattle.upon_shape_spec.specs.Shape.{Shape}
+use Rattle.upon_schema.specs.Refusal.{Refusal, refusal, unknown_keyword, wrong_value, no_definition, too_deep, too_large, out_of_memory}
+use Rattle.upon_schema.specs.Refused.{IsRefusedSchema}
+use Rattle.upon_schema.specs.declared.fault.SchemaFault.{SchemaFault}
+use Rattle.upon_schema.specs.declared.fault.SchemaFault.TheVariants.{UnknownKeyword, WrongValue, NoDefinition, TooDeep, TooLarge, OutOfMemory as NoMemory}
 use Rattle.upon_calls.specs.Arguments.{HasNoArgumentValue, IsArgumentValue}
 use Rattle.upon_calls.specs.Asked.{are_keys, has_keys, is_check_key, is_option_key, is_known, Asked, Asks, AsksNothing}
-use Rattle.upon_calls.specs.Contexts.{pages_in, read_each, sample_in, samples_in, AsksCheck, AsksNoCheck, Contexts, IsCheckAsked, IsCheckUnasked, IsShapeBy, NoShapeBy}
+use Rattle.upon_calls.specs.Contexts.{pages_in, read_each, sample_in, samples_in, AsksCheck, AsksNoCheck, Contexts, IsCheckAsked, IsCheckUnasked, IsShapeBy, IsUnreadSchema, NoShapeBy}
+use Rattle.upon_calls.specs.Failure.{RefusedIf}
+use Rattle.upon_calls.specs.declared.failure.Argument.TheVariants.{Options}
+use Rattle.upon_calls.specs.declared.failure.Failure.{Failure}
+use Rattle.upon_calls.specs.declared.failure.Failure.TheVariants.{Faults, Refused, NotText, OutOfMemory}
 use Rattle.upon_calls.specs.declared.options.Known.TheVariants.{Rendering, OnContexts}
 use Rattle.upon_calls.proofs.Kept.{first_true, second_true}
 use Rattle.upon_calls.proofs.Values.{one_value}
@@ -86,6 +94,21 @@ one_shape_by (Some samples) (Some schema) s none some = none
 pub lone_pages : (v pages : Val) → key_of (codes "pages") v ≡ Some pages → AsksNothing Rendering v
 lone_pages v pages there asked asks =
     let no : Some pages ≡ None = sym there ∙ no_key_of (codes "pages") refl v asks.keys in absurd cc
+
+-- a schema is not read
+schema_refused_so : (schema : Val) (r : Refusal) (f : Failure) → (r ≡ out_of_memory → ⊥) → RefusedIf Options ⊤ f → IsRefusedSchema 128 65536 schema r → RefusedIf Options (IsUnreadSchema schema) f
+schema_refused_so schema r (Faults pictures) some refused is = refused
+schema_refused_so schema r (Refused argument reason) some refused is = (refused.0, (r, some, is))
+schema_refused_so schema r (NotText argument) some refused is = refused
+schema_refused_so schema r OutOfMemory some refused is = tt
+
+pub schema_unread : (schema : Val) (fault : SchemaFault) (f : Failure) → (fault ≡ NoMemory → f ≡ OutOfMemory) → RefusedIf Options ⊤ f → IsRefusedSchema 128 65536 schema (refusal fault) → RefusedIf Options (IsUnreadSchema schema) f
+schema_unread schema (UnknownKeyword path) f memory refused is = schema_refused_so schema (unknown_keyword (string_bytes path)) f (λ no. absurd cc) refused is
+schema_unread schema (WrongValue path) f memory refused is = schema_refused_so schema (wrong_value (string_bytes path)) f (λ no. absurd cc) refused is
+schema_unread schema (NoDefinition path) f memory refused is = schema_refused_so schema (no_definition (string_bytes path)) f (λ no. absurd cc) refused is
+schema_unread schema TooDeep f memory refused is = schema_refused_so schema too_deep f (λ no. absurd cc) refused is
+schema_unread schema TooLarge f memory refused is = schema_refused_so schema too_large f (λ no. absurd cc) refused is
+schema_unread schema NoMemory f memory refused is = subst (RefusedIf Options (IsUnreadSchema schema)) (sym (memory refl)) tt
 
 -- there is no shape
 shapeless : (v : Val) → ((shape : Option Shape) → IsShapeBy (key_of (codes "samples") v) (key_of (codes "schema") v) shape → ⊥) → (asked : Asked) (contexts : Option Contexts) → AsksCheck v asked contexts → ⊥

@@ -6,6 +6,7 @@ pub mod Sources
 pub mod Filled
 pub mod Rendering
 pub mod Tables
+pub mod HeldTrees
 pub mod Needs
 pub mod Kept
 pub mod Each

@@ -54,19 +54,21 @@ no_name Ends Absent (NotText argument) said absent = absurd said
 no_name Ends Absent OutOfMemory said absent = tt
 
 -- ---- no limit is set
-fits_unlimited : {Q : Type 0} (limits : Limits) (steps output values : Option ℕ) → limits.steps ≡ steps → limits.output ≡ output → ((is_some steps || is_some output) || is_some values) ≡ false → (ran : Course Q) (o : Outcome Q) → FitsLimits limits ran o
-fits_unlimited limits None None values no_steps no_output is ran o = record {
+fits_unlimited : {Q : Type 0} (limits : Limits) (steps output values : Option ℕ) → limits.steps ≡ steps → limits.output ≡ output → limits.values ≡ values → ((is_some steps || is_some output) || is_some values) ≡ false → (ran : Course Q) (o : Outcome Q) → FitsLimits limits ran o
+fits_unlimited limits None None None no_steps no_output no_values is ran o = record {
   steps = rw no_steps tt;
   output = rw no_output tt;
+  values = λ count point there. rw no_values tt;
 }
-fits_unlimited limits None (Some n) values no_steps no_output is ran o = absurd cc
-fits_unlimited limits (Some k) output values no_steps no_output is ran o = absurd cc
+fits_unlimited limits None None (Some n) no_steps no_output no_values is ran o = absurd cc
+fits_unlimited limits None (Some n) values no_steps no_output no_values is ran o = absurd cc
+fits_unlimited limits (Some k) output values no_steps no_output no_values is ran o = absurd cc
 
 module _ (limits : Limits) (e : Texts) (name : Option (List ℕ)) (source : List ℕ) (tree : Statements) (v : Val) where
   -- the text is what the tree means
   means_if : (limited : Bool) → is_limited limits ≡ limited → (text : String Global) → AnswersIf limited limits e name source tree v (Ok text) → IsMeaning limits e name source tree v (string_bytes text)
   means_if false is text said = λ table it.
-      ((said table it).0, (said table it).1, fits_unlimited limits limits.steps limits.output limits.values refl refl is (runs e table name source tree v) (meaning e table name source tree v))
+      ((said table it).0, (said table it).1, fits_unlimited limits limits.steps limits.output limits.values refl refl refl is (runs e table name source tree v) (meaning e table name source tree v))
   means_if true is text said = λ table it. said table it
 
   pub means : (text : String Global) → AnswersIf (is_limited limits) limits e name source tree v (Ok text) → IsMeaning limits e name source tree v (string_bytes text)
@@ -75,7 +77,7 @@ module _ (limits : Limits) (e : Texts) (name : Option (List ℕ)) (source : List
   -- the fault is the one with which it ends
   ends_if : (limited : Bool) → is_limited limits ≡ limited → (error : Error) → is_memory_kind (fault_of error).kind ≡ false → AnswersIf limited limits e name source tree v (Err error) → EndsWith limits e name source tree v (fault_of error)
   ends_if false is error memory said = λ table it. elim (said table it) [
-    | inl ended ↦ inl (ended, fits_unlimited limits limits.steps limits.output limits.values refl refl is (runs e table name source tree v) (meaning e table name source tree v))
+    | inl ended ↦ inl (ended, fits_unlimited limits limits.steps limits.output limits.values refl refl refl is (runs e table name source tree v) (meaning e table name source tree v))
     | inr out ↦ absurd (not_memory error memory out)
   ]
   ends_if true is error memory said = λ table it. elim (said table it) [

@@ -1,5 +1,5 @@
 -- Contexts on which the pages of a check are to end without a fault, as options give them.
-use Rattle.std.specs.Prelude.{◌≡◌, ◌⊎◌, ℕ, List, [], ◌∷◌, All, Contains, map, true, false, Option, Some, None, is_some, option_map, option_and_then, codes}
+use Rattle.std.specs.Prelude.{◌≡◌, ◌⊎◌, ℕ, List, [], ◌∷◌, All, Contains, map, true, false, Option, Some, None, IsSomeAnd, option_map, option_and_then, codes}
 use Rattle.upon_types.specs.Tree.{Statements}
 use Rattle.upon_types.specs.Fault.{Fault}
 use Rattle.upon_types.specs.Val.{Val, text_val, list_val, map_val, key_of, Vals, no_vals, val_then}
@@ -12,6 +12,8 @@ use Rattle.upon_json.specs.Context.{entries_in}
 use Rattle.upon_shape_spec.specs.Fits.{Fits, MapsRise}
 use Rattle.upon_shape_spec.specs.Shape.{Shape}
 use Rattle.upon_shape.specs.View.{shape_view}
+use Rattle.upon_schema.specs.Refusal.{Refusal, out_of_memory}
+use Rattle.upon_schema.specs.Refused.{IsRefusedSchema}
 use Rattle.upon_schema.specs.Valid.{Valid}
 use Rattle.upon_needs.specs.Names.{texts}
 use Rattle.upon_engine.specs.Texts.{Stored, Texts}
@@ -61,9 +63,14 @@ IsShapeBy (Some samples) None (Some s) = SamplesFit samples s
 IsShapeBy None (Some schema) (Some s) = ValidFit schema s
 IsShapeBy samples schema s = ⊥
 
+-- a schema is not read, for a cause that is in it
+abbrev pub IsUnreadSchema : Val → Type 0
+IsUnreadSchema schema = (r : Refusal) × (r ≡ out_of_memory → ⊥) × IsRefusedSchema 128 65536 schema r
+
 -- there is no shape of them, or their schema is not read
 abbrev pub NoShapeBy : Option Val → Option Val → Type 0
-NoShapeBy samples schema = ((shape : Option Shape) → IsShapeBy samples schema shape → ⊥) ⊎ (is_some schema ≡ true)
+NoShapeBy samples schema =
+    ((shape : Option Shape) → IsShapeBy samples schema shape → ⊥) ⊎ IsSomeAnd schema IsUnreadSchema
 
 -- the names of pages at a key: none are given if nothing is there
 abbrev pub pages_in : Option Val → Option (Option (List (List ℕ)))
@@ -85,7 +92,7 @@ AsksCheck v asked (Some contexts) = AsksOn v asked contexts
 -- it asks a check for nothing, or its schema is not read
 abbrev pub AsksNoCheck : Val → Type 0
 AsksNoCheck v = ((asked : Asked) (contexts : Option Contexts) → AsksCheck v asked contexts → ⊥)
-    ⊎ (is_some (key_of (codes "schema") v) ≡ true)
+    ⊎ IsSomeAnd (key_of (codes "schema") v) IsUnreadSchema
 
 -- the text of options asks a check for this
 abbrev pub IsCheckAsked : List ℕ → Asked → Option Contexts → Type 0

@@ -6,6 +6,7 @@ pub mod Asked
 pub mod Templates
 pub mod Filled
 pub mod Rendering
+pub mod ByTable
 pub mod Names
 pub mod Check
 pub mod Pictures

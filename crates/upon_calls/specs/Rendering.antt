@@ -24,20 +24,28 @@ abbrev pub AnswersIf : Bool → Limits → Texts → Option (List ℕ) → List 
 AnswersIf false limits e name source tree v result = AnswersTree e name source tree v result
 AnswersIf true limits e name source tree v result = AnswersWithin e limits name source tree v result
 
--- a text is what the tree of a text means on a value, and the limits that are set let it be
-abbrev pub IsMeaning : Limits → Texts → Option (List ℕ) → List ℕ → Statements → Val → List ℕ → Type 0
-IsMeaning limits e name source tree v text =
-    (table : Table) → IsTable e.texts table
-    → ((meaning e table name source tree v).end ≡ good) × (text ≡ (meaning e table name source tree v).text)
+-- a text is what the tree of a text means on a value by a table, and the limits that are set let it be
+abbrev pub IsMeaningBy : Limits → Texts → Table → Option (List ℕ) → List ℕ → Statements → Val → List ℕ → Type 0
+IsMeaningBy limits e table name source tree v text =
+    ((meaning e table name source tree v).end ≡ good) × (text ≡ (meaning e table name source tree v).text)
     × FitsLimits limits (runs e table name source tree v) (meaning e table name source tree v)
 
--- a fault is the one with which the meaning of a tree ends, or it names a limit beyond which that goes
-abbrev pub EndsWith : Limits → Texts → Option (List ℕ) → List ℕ → Statements → Val → Fault → Type 0
-EndsWith limits e name source tree v fault =
-    (table : Table) → IsTable e.texts table
-    → ((fault_of_end e.depth (meaning e table name source tree v).end ≡ Some fault)
+-- so by each table of the texts that are held
+abbrev pub IsMeaning : Limits → Texts → Option (List ℕ) → List ℕ → Statements → Val → List ℕ → Type 0
+IsMeaning limits e name source tree v text =
+    (table : Table) → IsTable e.texts table → IsMeaningBy limits e table name source tree v text
+
+-- a fault is the one with which the meaning of a tree ends by a table, or it names a limit beyond which that goes
+abbrev pub EndsWithBy : Limits → Texts → Table → Option (List ℕ) → List ℕ → Statements → Val → Fault → Type 0
+EndsWithBy limits e table name source tree v fault =
+    ((fault_of_end e.depth (meaning e table name source tree v).end ≡ Some fault)
     × FitsLimits limits (runs e table name source tree v) (meaning e table name source tree v))
     ⊎ NamesLimit limits (runs e table name source tree v) (meaning e table name source tree v) fault
+
+-- so by each table of the texts that are held
+abbrev pub EndsWith : Limits → Texts → Option (List ℕ) → List ℕ → Statements → Val → Fault → Type 0
+EndsWith limits e name source tree v fault =
+    (table : Table) → IsTable e.texts table → EndsWithBy limits e table name source tree v fault
 
 -- each text that is held has a tree, so that there is a table of them
 abbrev pub EachHasTree : Texts → Type 0

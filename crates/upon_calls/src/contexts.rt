@@ -6,9 +6,11 @@ ghost use Rattle.upon_shape.specs.View.{shape_view};
 ghost use Rattle.upon_needs.specs.Names.{texts};
 ghost use Rattle.upon_calls.specs.Arguments.{its_text};
 ghost use Rattle.upon_calls.specs.Asked.{asked_by, Asks, AsksNothing};
-ghost use Rattle.upon_calls.specs.Contexts.{contexts_by, read_each, pages_in, sample_in, samples_in, AsksCheck, AsksNoCheck, IsShapeBy, NoShapeBy, SamplesFit, ValidFit};
+ghost use Rattle.upon_calls.specs.Contexts.{contexts_by, read_each, pages_in, sample_in, samples_in, AsksCheck, AsksNoCheck, IsShapeBy, IsUnreadSchema, NoShapeBy, SamplesFit, ValidFit};
 ghost use Rattle.upon_calls.specs.Failure.{RefusedIf};
+ghost use Rattle.upon_schema.specs.declared.fault.SchemaFault.TheVariants.{OutOfMemory as NoMemory};
 ghost use Rattle.upon_calls.specs.declared.failure.Argument.TheVariants.{Options as OptionsRefused};
+ghost use Rattle.upon_calls.specs.declared.failure.Failure.TheVariants.{OutOfMemory};
 ghost use Rattle.upon_calls.specs.declared.options.Known.TheVariants.{Rendering};
 
 use crate::arguments::{refused, text_in};
@@ -89,12 +91,22 @@ fn shape_in(alloc: Global, value: &Value) -> Result<Option<Shape>, Failure>
 // The shape of the values that are valid by a schema.
 fn by_schema(alloc: Global, schema: &Value) -> Result<Shape, Failure>
     ensures fits { IfOk result (λ shape. ValidFit (view schema.now) (shape_view shape)) }
-    ensures refused { IfErr result (RefusedIf OptionsRefused ⊤) }
+    ensures refused { IfErr result (RefusedIf OptionsRefused (IsUnreadSchema (view schema.now))) }
 {
     match shape_of_schema(alloc, schema) {
         Ok(shape) => Ok(shape),
-        Err(SchemaFault::OutOfMemory) => Err(Failure::OutOfMemory),
-        Err(fault) => Err(refused(Argument::Options, format!(in alloc; "\"schema\": {fault}"))),
+        Err(fault) => Err(schema_refused(alloc, fault)),
+    }
+}
+
+// The refusal of a schema that is not read, for this reason.
+fn schema_refused(alloc: Global, fault: SchemaFault) -> Failure
+    ensures memory { fault ≡ NoMemory → result ≡ OutOfMemory }
+    ensures refused { RefusedIf OptionsRefused ⊤ result }
+{
+    match fault {
+        SchemaFault::OutOfMemory => Failure::OutOfMemory,
+        fault => refused(Argument::Options, format!(in alloc; "\"schema\": {fault}")),
     }
 }
 

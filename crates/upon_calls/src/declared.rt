@@ -9,8 +9,8 @@ ghost use Rattle.upon_calls.specs.Escaping.{written_shape};
 ghost use Rattle.upon_calls.specs.Filled.{engine_for, escaping_engine};
 
 use crate::escaping::Language;
+use crate::functions::standard;
 use crate::options::Options;
-use crate::work::standard;
 use std::alloc::{AllocError, Global};
 use upon_shape::shape::{Plain, Shape};
 use upon_shape_check::declared::Declared;

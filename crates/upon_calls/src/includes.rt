@@ -1,18 +1,16 @@
 // The pictures of includes that name nothing.
-ghost use Rattle.std.specs.Prelude.{◌≡◌, ℕ, List, IfOk, OnOk, bytes_eq, string_bytes};
-ghost use Rattle.std.specs.List.{list_any};
+ghost use Rattle.std.specs.Prelude.{◌≡◌, OnOk, string_bytes};
 ghost use Rattle.upon_types.specs.Pretty.{pretty};
 ghost use Rattle.upon_types.specs.Span.{LiesIn};
 ghost use Rattle.upon_engine.specs.Template.{template_source, template_tree};
-ghost use Rattle.upon_needs.specs.Names.{has_name, texts};
+ghost use Rattle.upon_needs.specs.Names.{texts};
 ghost use Rattle.upon_needs.specs.Places.{include_at};
 ghost use Rattle.upon_calls.specs.Pictures.{include_fault, include_pictures, with_picture, with_pictures};
 
 use crate::failure::Failure;
 use std::alloc::{AllocError, Global};
-use std::collections::BTreeSet;
 use upon_engine::template::Template;
-use upon_needs::places::{IncludePlace, include_places};
+use upon_needs::places::{IncludePlace, include_places, set_of};
 use upon_types::error::cause::Cause;
 use upon_types::error::{Error, ErrorKind};
 
@@ -40,18 +38,6 @@ pub(crate) fn show_includes(
         }
     }
     Ok(())
-}
-
-// The set of some names.
-fn set_of<'n>(alloc: Global, names: &[&'n str]) -> Result<BTreeSet<&'n str>, AllocError>
-    ensures { IfOk result
-        (λ set. (name : List ℕ) → has_name set name ≡ list_any (bytes_eq name) (texts names.entry.now)) }
-{
-    let mut set = BTreeSet::new(alloc);
-    for name in names {
-        set.insert(*name)?;
-    }
-    Ok(set)
 }
 
 // Appends the picture of an include in the template of a name.

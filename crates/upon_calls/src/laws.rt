@@ -1,6 +1,9 @@
-// What each call gives is one text: there is a table of the trees of the templates that it is given.
-ghost use Rattle.std.specs.Prelude.{◌≡◌, ℕ, List, None, Some};
+// What each call gives is one text, or the picture of one fault: there is a table of the trees of the templates that it
+// is given.
+ghost use Rattle.std.specs.Prelude.{◌≡◌, ◌⊎◌, ℕ, List, All, IfSome, None, Some, false};
 ghost use Rattle.serde_json.specs.Written.{compact_text};
+ghost use Rattle.upon_types.specs.Fault.{Fault};
+ghost use Rattle.upon_types.specs.Pretty.{pretty};
 ghost use Rattle.upon_types.specs.Tree.{Statements};
 ghost use Rattle.upon_types.specs.Val.{Val};
 ghost use Rattle.upon_language_spec.specs.Grammar.{HasTree};
@@ -8,11 +11,15 @@ ghost use Rattle.upon_language_spec.specs.Search.{DelimiterText, HasTexts};
 ghost use Rattle.upon_meaning_spec.specs.Engine.{Table, Template};
 ghost use Rattle.upon_needs.specs.declared.needs.Needs.{Needs};
 ghost use Rattle.upon_engine.specs.Texts.{Stored};
-ghost use Rattle.upon_engine.specs.Theorem.{IsTable, meaning};
-ghost use Rattle.upon_calls.specs.Calls.{ListsNeeds, Renders, RendersText};
+ghost use Rattle.upon_engine.specs.Theorem.{IsTable};
+ghost use Rattle.upon_calls.specs.ByTable.{FailsNamedBy, FailsTextBy, NamedEnds};
+ghost use Rattle.upon_calls.specs.Calls.{ChecksRight, ListsNeeds, RenderFaults, Renders, RendersText, TextFaults};
+ghost use Rattle.upon_calls.specs.Contexts.{checked_pages};
+ghost use Rattle.upon_calls.specs.Failure.{is_memory_kind};
 ghost use Rattle.upon_calls.specs.Filled.{engine_for, filled};
 ghost use Rattle.upon_calls.specs.Names.{NeededBy, needs_data};
 ghost use Rattle.upon_calls.specs.Pictures.{ShowsWrong};
+ghost use Rattle.upon_calls.specs.Rendering.{IsFirstOfOne, IsMeaningBy};
 
 /// States that what a rendering of a template gives is the text of a meaning, by a table of the templates that it is
 /// given: so it is no other text.
@@ -20,8 +27,18 @@ pub fn rendered_text_is()
     ensures { (templates context name options text : List ℕ) (r : Renders templates context name options text)
         → (table : Table) × (held : Stored) × (tree : Statements)
         × IsTable (filled r.asked r.sources).texts table
-        × ((filled r.asked r.sources).texts name ≡ Some held)
-        × (text ≡ (meaning (filled r.asked r.sources) table (Some name) held.text tree r.value).text) }
+        × ((filled r.asked r.sources).texts name ≡ Some held) × ∥ HasTree held.syntax held.text tree ∥₁
+        × IsMeaningBy r.asked.limits (filled r.asked r.sources) table (Some name) held.text tree r.value text }
+{}
+
+/// States that the fault of which a rendering of a template shows the picture is the first one of a template's text, or
+/// that of a meaning, by a table of the templates that it is given; or it names a limit beyond which that goes.
+pub fn fault_is()
+    ensures { (templates context name options text : List ℕ) (r : RenderFaults templates context name options text)
+        → (fault : Fault) × (is_memory_kind fault.kind ≡ false) × (text ≡ pretty fault)
+        × (IsFirstOfOne r.asked.delimiters r.sources fault
+        ⊎ ((table : Table) × IsTable (filled r.asked r.sources).texts table
+        × FailsNamedBy r.asked.limits (filled r.asked r.sources) table name r.value fault)) }
 {}
 
 /// States that what a rendering of a source gives is the text of the source's meaning, by a table of no templates.
@@ -29,7 +46,16 @@ pub fn source_text_is()
     ensures { (source context options text : List ℕ) (r : RendersText source context options text)
         → (table : Table) × (tree : Statements)
         × IsTable (engine_for r.asked).texts table × HasTree (engine_for r.asked).syntax source tree
-        × (text ≡ (meaning (engine_for r.asked) table None source tree r.value).text) }
+        × IsMeaningBy r.asked.limits (engine_for r.asked) table None source tree r.value text }
+{}
+
+/// States that the fault of which a rendering of a source shows the picture is the first one of the source, or that of
+/// its meaning, by a table of no templates; or it names a limit beyond which that goes.
+pub fn source_fault_is()
+    ensures { (source context options text : List ℕ) (r : TextFaults source context options text)
+        → (table : Table) × (fault : Fault) × IsTable (engine_for r.asked).texts table
+        × (is_memory_kind fault.kind ≡ false) × (text ≡ pretty fault)
+        × FailsTextBy r.asked.limits (engine_for r.asked) table source r.value fault }
 {}
 
 /// States that what the list of names gives is the JSON of what a template needs, by such a table.
@@ -38,6 +64,17 @@ pub fn listed_text_is()
         → (table : Table) × (t : Template) × (needs : Needs)
         × IsTable (filled r.asked r.sources).texts table × (table name ≡ Some t) × NeededBy table t.tree needs
         × (text ≡ compact_text (needs_data needs)) }
+{}
+
+/// States that what a check found right on contexts ends on each of them: what each page that is checked means, by a
+/// table of the templates that it is given, ends without a fault on each value of the shape that is known of the
+/// contexts, but that includes may be too deep one inside another. There is such a table without contexts too.
+pub fn fitting_pages_end()
+    ensures { (templates options text : List ℕ) (r : ChecksRight templates options text)
+        → (table : Table) × IsTable (filled r.asked r.sources).texts table
+        × IfSome r.contexts (λ contexts. All
+        (λ name. NamedEnds (filled r.asked r.sources) table name contexts.shape)
+        (checked_pages contexts.pages r.sources)) }
 {}
 
 /// States that what is wrong with templates is shown by one text, where each delimiter has a byte.

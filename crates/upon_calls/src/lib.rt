@@ -7,6 +7,7 @@ mod contexts;
 mod declared;
 pub mod escaping;
 pub mod failure;
+pub mod functions;
 mod includes;
 pub mod laws;
 mod misfits;

@@ -8,7 +8,7 @@ ghost use Rattle.upon_engine.specs.Template.{template_of};
 ghost use Rattle.upon_engine.specs.Texts.{Stored};
 ghost use Rattle.upon_calls.specs.Asked.{asked_by};
 ghost use Rattle.upon_calls.specs.Failure.{RefusedIf};
-ghost use Rattle.upon_calls.specs.Filled.{filled, functions_if};
+ghost use Rattle.upon_calls.specs.Filled.{filled};
 ghost use Rattle.upon_vm.specs.Limits.{is_limited};
 ghost use Rattle.upon_calls.specs.Rendering.{AnswersIf, FailsNamed, FailsText, MeansNamed, MeansText};
 ghost use Rattle.upon_calls.specs.Templates.{lent_pairs};
@@ -18,6 +18,7 @@ ghost use Rattle.upon_calls.specs.declared.failure.Argument.TheVariants.{Name};
 use crate::arguments::refused;
 use crate::escaping::Escaping;
 use crate::failure::{Argument, Failure};
+use crate::functions::standard;
 use crate::misfits::misfits;
 use crate::names::list;
 use crate::options::Options;
@@ -31,7 +32,6 @@ use upon_engine::within::Limits;
 use upon_html::formatters::Verbatim;
 use upon_shape::shape::Shape;
 use upon_shape_check::declared::Declared;
-use upon_std::table::{ALL, StandardFunction};
 use upon_types::value::Value;
 
 /// What is done with an engine.
@@ -96,17 +96,6 @@ pub(crate) fn carry_out(
     }
     theorem::held_has_tree(&engine);
     do_work(alloc, &engine, &limits, work)
-}
-
-/// Returns the functions that templates may call.
-pub(crate) fn standard(wanted: bool) -> &'static [StandardFunction]
-    ensures { result.now ≡ functions_if wanted }
-{
-    if wanted {
-        ALL.as_slice()
-    } else {
-        [].as_slice()
-    }
 }
 
 // Does a piece of work with an engine, each of whose texts has a tree.

@@ -1,18 +1,19 @@
 -- What rendering a text within limits answers, by texts and trees, and by the machine's run of the program of a tree.
-use Rattle.std.specs.Prelude.{◌≤◌, ℕ, List, Option, Some, None, IsSome, Result, Ok, Err, String}
+use Rattle.std.specs.Prelude.{◌≡◌, ◌⊎◌, ◌≤◌, ℕ, List, Option, Some, None, IsSome, Result, Ok, Err, String}
 use Rattle.std.specs.declared.alloc.Global.{Global}
 use Rattle.upon_types.specs.Error.{fault_of}
+use Rattle.upon_types.specs.Fault.{out_of_memory}
 use Rattle.upon_types.specs.Tree.{Statements}
 use Rattle.upon_types.specs.Val.{Val}
 use Rattle.upon_types.specs.declared.error.Error.{Error}
 use Rattle.upon_lookup.specs.Environment.{context}
 use Rattle.upon_meaning_spec.specs.Alone.{includes_left}
 use Rattle.upon_meaning_spec.specs.Engine.{Table}
-use Rattle.upon_meaning_spec.specs.Outcome.{States, states}
+use Rattle.upon_meaning_spec.specs.Outcome.{Outcome, States, states}
 use Rattle.upon_machine_spec.specs.State.{at_start}
 use Rattle.upon_vm.specs.Course.{Course, course}
 use Rattle.upon_vm.specs.Reports.{IsAnyIo}
-use Rattle.upon_vm.specs.Within.{IsOfLimit, TextWithin, WritesWithin}
+use Rattle.upon_vm.specs.Within.{FitsWithCopies, IsOfLimit, MustMakeMore, NamesLimit, TextWithin, WritesWithin}
 use Rattle.upon_vm.specs.declared.limits.Limit.{Limit}
 use Rattle.upon_vm.specs.declared.limits.Limits.{Limits}
 use Rattle.upon_engine.specs.Texts.{Texts}
@@ -29,8 +30,9 @@ abbrev pub EndsWithin : Texts → Table → Option (List ℕ) → List ℕ → S
 EndsWithin e table name source tree v n = IsSome ((runs e table name source tree v).out n)
 
 -- A rendering of the tree of a text within limits answers what the tree means, if the machine ends within the steps and
--- the text has no more bytes; if not, it names a limit beyond which it goes. A limit of values may be named if it is
--- set. So it is whatever the table of the texts that are held.
+-- the text has no more bytes; if not, it names a limit beyond which it goes. So it is of bytes of values too, but that
+-- they count as few as they may be if it ends, and as many if it is stopped. So it is whatever the table of the texts
+-- that are held.
 abbrev pub AnswersWithin : Texts → Limits → Option (List ℕ) → List ℕ → Statements → Val → Result (String Global) Error
     → Type 0
 AnswersWithin e limits name source tree v result =
@@ -51,6 +53,23 @@ NamesALimit e name source tree v (Ok text) = ⊥
 NamesALimit e name source tree v (Err error) =
     (limit : Limit) × (n : ℕ) × ((table : Table) → IsTable e.texts table
     → IsOfLimit (runs e table name source tree v) limit n (fault_of error))
+
+-- a rendering fits the limits, even if each value that may be lent counts as a copy; whatever the table is
+abbrev pub SurelyFits : Texts → Limits → Option (List ℕ) → List ℕ → Statements → Val → Type 0
+SurelyFits e limits name source tree v =
+    (table : Table) → IsTable e.texts table
+    → FitsWithCopies limits (runs e table name source tree v) (meaning e table name source tree v)
+
+-- a rendering makes more bytes of values than so many, even counted as few as they may be; whatever the table is
+abbrev pub SurelyMakesMore : Texts → ℕ → Option (List ℕ) → List ℕ → Statements → Val → Type 0
+SurelyMakesMore e n name source tree v =
+    (table : Table) → IsTable e.texts table → MustMakeMore n (runs e table name source tree v)
+
+-- of what is written: memory is out, or a write failed, or the fault names a limit beyond which the rendering goes
+abbrev pub StopsSending : {Q : Type 0} → Limits → Course Q → Outcome Q → Result (Unit {0}) Error → Type 0
+StopsSending limits course o (Ok u) = ⊥
+StopsSending limits course o (Err e) =
+    (fault_of e ≡ out_of_memory) ⊎ (IsAnyIo e ⊎ NamesLimit limits course o (fault_of e))
 
 -- a limit that is as great as another, or is not set
 abbrev pub IsNoLess : Option ℕ → Option ℕ → Type 0

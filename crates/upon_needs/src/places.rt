@@ -1,8 +1,10 @@
 // Where a template calls by name, and where it includes other templates, by walks along its instructions.
-ghost use Rattle.std.specs.Prelude.{◌≡◌, IfOk, map, option_map};
+ghost use Rattle.std.specs.Prelude.{◌≡◌, ℕ, List, IfOk, bytes_eq, map, option_map};
+ghost use Rattle.std.specs.List.{list_any};
 ghost use Rattle.upon_machine_spec.specs.Code.{program_of};
 ghost use Rattle.upon_compiler.specs.Program.{instr_of};
 ghost use Rattle.upon_engine.specs.Template.{template_source, template_tree};
+ghost use Rattle.upon_needs.specs.Names.{has_name, texts};
 ghost use Rattle.upon_needs.specs.Places.{call_at, called, calls_in, include_at, included_name, includes_in, CallsLie, IncludesLie};
 
 use std::alloc::{AllocError, Global};
@@ -118,8 +120,11 @@ pub fn counts<'t>(
     Ok(counts)
 }
 
-// The set of some names.
-fn set_of<'n>(alloc: Global, names: &[&'n str]) -> Result<BTreeSet<&'n str>, AllocError> {
+/// Returns the set of some names. An error comes only when memory is out.
+pub fn set_of<'n>(alloc: Global, names: &[&'n str]) -> Result<BTreeSet<&'n str>, AllocError>
+    ensures { IfOk result
+        (λ set. (name : List ℕ) → has_name set name ≡ list_any (bytes_eq name) (texts names.entry.now)) }
+{
     let mut set = BTreeSet::new(alloc);
     for name in names {
         set.insert(*name)?;

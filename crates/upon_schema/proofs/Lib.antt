@@ -5,6 +5,11 @@ pub mod KeptKinds
 pub mod KeySteps
 pub mod Schemas
 pub mod Spellings
+pub mod OtherKinds
+pub mod Refusals
+pub mod Referred
+pub mod Opened
+pub mod Counts
 pub mod Writing
 pub mod SchemaEntries
 pub mod KindNames

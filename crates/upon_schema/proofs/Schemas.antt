@@ -1,5 +1,5 @@
 -- What is valid by a schema fits the shape that is made of those of its parts.
-use Rattle.std.proofs.Common.{Bor, ◌≡◌, ℕ, suc, ◌+◌, true, Option, Some, List, codes, refl, sym, ap, subst, ◌∙◌, arith}
+use Rattle.std.proofs.Common.{Bor, ◌≡◌, ℕ, suc, ◌+◌, Bool, true, false, Option, Some, List, codes, refl, sym, ap, subst, ◌∙◌, arith}
 use Rattle.upon_types.specs.Val.{Val, none_val, bool_val, int_val, text_val, list_val, map_val, Entries, entry_at, key_of}
 use Rattle.upon_types.specs.View.{view}
 use Rattle.upon_types.specs.declared.value.Value.{Value}
@@ -64,3 +64,11 @@ other_schema P root schema other (map_val es) v h = h
 pub read_inside : (place inner : Place) (schema v : Val) → place.depth ≡ inner.depth + 1 → inner.root ≡ place.root → ValidAt place schema v → SchemaHolds (ValidAt inner) (view inner.root.now) schema v
 read_inside place inner schema v e same h =
     subst (λ (r : Bor Value). SchemaHolds (ValidWithin inner.depth (view r.now)) (view r.now) schema v) (sym same) (holds_inside place.depth inner.depth (view place.root.now) schema v e h)
+
+-- ---- truth values
+bool_holds : (P : Val → Val → Type 0) (root v : Val) (b : Bool) → SchemaHolds P root (bool_val b) v → b ≡ true
+bool_holds P root v true h = refl
+bool_holds P root v false h = absurd h
+
+pub truth_covers : (P : Val → Val → Type 0) (root schema : Val) (s : Shape) → ((b : Bool) × (schema ≡ bool_val b) × ((v : Val) → b ≡ true → Fits s v)) → (v : Val) → SchemaHolds P root schema v → Fits s v
+truth_covers P root schema s f v h = f.2 v (bool_holds P root v f.0 (subst (λ (x : Val). SchemaHolds P root x v) f.1 h))

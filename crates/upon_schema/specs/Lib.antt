@@ -2,5 +2,8 @@ pub mod Reference
 pub mod Valid
 pub mod Covers
 pub mod Kept
+pub mod Refusal
+pub mod Counted
+pub mod Refused
 pub mod Place
 pub mod Written

@@ -1,4 +1,9 @@
 // Why a value is no schema that can be read, and where.
+ghost use Rattle.std.specs.Prelude.{◌≡◌, ◌++◌, IfOk, OnOk, string_bytes};
+ghost use Rattle.std.specs.Char.{encode_utf8};
+ghost use Rattle.upon_schema.specs.Reference.{spelled};
+ghost use Rattle.upon_schema.specs.Refusal.{SaysRefusal, behind, out_of_memory, step_spelled, refusal, wrong_value};
+
 use std::alloc::{AllocError, AllocFailed, Global};
 use std::fmt;
 
@@ -23,12 +28,16 @@ pub enum SchemaFault {
 }
 
 impl From<AllocError> for SchemaFault {
+    ghost from_gives = { λ _ fault. refusal fault ≡ out_of_memory };
+
     fn from(_: AllocError) -> SchemaFault {
         SchemaFault::OutOfMemory
     }
 }
 
 impl<T: Drop> From<AllocFailed<T>> for SchemaFault {
+    ghost from_gives = { λ _ fault. refusal fault ≡ out_of_memory };
+
     fn from(_: AllocFailed<T>) -> SchemaFault {
         SchemaFault::OutOfMemory
     }
@@ -36,12 +45,16 @@ impl<T: Drop> From<AllocFailed<T>> for SchemaFault {
 
 impl SchemaFault {
     // A value of the wrong kind at a keyword.
-    pub(crate) fn wrong_value(alloc: Global, keyword: &str) -> SchemaFault {
+    pub(crate) fn wrong_value(alloc: Global, keyword: &str) -> SchemaFault
+        ensures { SaysRefusal (wrong_value (step_spelled keyword.now)) result }
+    {
         SchemaFault::WrongValue(String::new(alloc)).inside(alloc, keyword)
     }
 
     // The fault as one of the schema around, in which this one is at a keyword or a key.
-    pub(crate) fn inside(self, alloc: Global, step: &str) -> SchemaFault {
+    pub(crate) fn inside(self, alloc: Global, step: &str) -> SchemaFault
+        ensures { SaysRefusal (behind (step_spelled step.now) (refusal self)) result }
+    {
         match self.moved(alloc, step) {
             Ok(fault) => fault,
             Err(_) => SchemaFault::OutOfMemory,
@@ -49,7 +62,9 @@ impl SchemaFault {
     }
 
     // The fault as one of the schema around, at a keyword or a key of it; fails if there is no memory for the path.
-    fn moved(self, alloc: Global, step: &str) -> Result<SchemaFault, AllocError> {
+    fn moved(self, alloc: Global, step: &str) -> Result<SchemaFault, AllocError>
+        ensures { IfOk result (λ fault. refusal fault ≡ behind (step_spelled step.now) (refusal self)) }
+    {
         Ok(match self {
             SchemaFault::UnknownKeyword(path) => {
                 SchemaFault::UnknownKeyword(longer(alloc, step, &path)?)
@@ -66,18 +81,28 @@ impl SchemaFault {
 }
 
 // A path with a step before it.
-fn longer(alloc: Global, step: &str, path: &str) -> Result<String, AllocError> {
+fn longer(alloc: Global, step: &str, path: &str) -> Result<String, AllocError>
+    ensures { IfOk result (λ text. string_bytes text ≡ step_spelled step.now ++ path.now) }
+{
     let mut text = String::new(alloc);
     text.push('/')?;
     for character in step.chars() {
-        match character {
-            '~' => text.push_str("~0")?,
-            '/' => text.push_str("~1")?,
-            _ => text.push(character)?,
-        }
+        push_spelled(&mut text, character)?;
     }
     text.push_str(path)?;
     Ok(text)
+}
+
+// Appends a character of a key, as a path spells it.
+fn push_spelled(text: &mut String, character: char) -> Result<(), AllocError>
+    ensures { OnOk result
+        (string_bytes text.new ≡ string_bytes text.old ++ spelled (encode_utf8 character)) }
+{
+    match character {
+        '~' => text.push_str("~0"),
+        '/' => text.push_str("~1"),
+        _ => text.push(character),
+    }
 }
 
 impl fmt::Display for SchemaFault {

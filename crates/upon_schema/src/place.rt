@@ -1,5 +1,7 @@
 // Where in a schema reading is.
-ghost use Rattle.std.specs.Prelude.{◌≡◌, ◌+◌, IfOk};
+ghost use Rattle.std.specs.Prelude.{◌≡◌, ◌⊎◌, ◌+◌, ◌<◌, IfErr, IfOk, OnOk, map};
+ghost use Rattle.upon_shape_spec.specs.Wider.{is_listed};
+ghost use Rattle.upon_schema.specs.Refusal.{refusal, too_deep, too_large};
 
 use crate::fault::SchemaFault;
 use std::alloc::Global;
@@ -13,7 +15,7 @@ pub(crate) struct Place<'a> {
     // The whole schema.
     pub root: &'a Value,
     // The references to the schemas in which it is.
-    pub open: &'a [&'a str],
+    pub references: &'a [&'a str],
     // How many schemas may still be one inside another.
     pub depth: usize,
 }
@@ -23,6 +25,10 @@ impl<'a> Place<'a> {
     pub fn inside(&self, left: &mut usize) -> Result<Place<'a>, SchemaFault>
         ensures depth { IfOk result (λ inner. self.now.depth ≡ inner.depth + 1) }
         ensures root { IfOk result (λ inner. inner.root ≡ self.now.root) }
+        ensures references { IfOk result (λ inner. inner.references ≡ self.now.references) }
+        ensures left { OnOk result (left.old ≡ left.new + 1) }
+        ensures refused { IfErr result (λ fault. ((refusal fault ≡ too_deep) × (self.now.depth ≡ 0))
+            ⊎ ((refusal fault ≡ too_large) × ((left.old ≡ 0) × (0 < self.now.depth)))) }
     {
         let Some(depth) = self.depth.checked_sub(1) else {
             return Err(SchemaFault::TooDeep);
@@ -36,9 +42,11 @@ impl<'a> Place<'a> {
 }
 
 // Whether a reference is among those that are open.
-pub(crate) fn is_open(open: &[&str], reference: &str) -> bool {
-    for known in open {
-        if *known == reference {
+pub(crate) fn is_open(references: &[&str], reference: &str) -> bool
+    ensures { result ≡ is_listed reference.now (map (λ r. r.now) references.now) }
+{
+    for known in references {
+        if reference == *known {
             return true;
         }
     }

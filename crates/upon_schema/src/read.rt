@@ -1,12 +1,15 @@
 // The shape of the values that are valid by a schema.
-ghost use Rattle.std.specs.Prelude.{◌≡◌, ℕ, List, true, false, Some, None, IfOk, OnOk};
-ghost use Rattle.upon_types.specs.Val.{Val, Entries, map_val, entry_at};
+ghost use Rattle.std.specs.Prelude.{◌≡◌, ℕ, List, ◌+◌, [], Bool, true, false, codes, Some, None, IfErr, IfOk, OnOk};
+ghost use Rattle.upon_types.specs.Val.{Val, Entries, bool_val, map_val, entry_at, key_of};
 ghost use Rattle.upon_types.specs.View.{view, vals_view};
 ghost use Rattle.upon_shape_spec.specs.Fits.{Fits, Held, MapsRise};
 ghost use Rattle.upon_shape_spec.specs.Shape.{plain};
 ghost use Rattle.upon_shape.specs.View.{shape_view, keys_view, plain_view};
 ghost use Rattle.upon_schema.specs.Covers.{Covers, CoversMaps, FitsAhead};
-ghost use Rattle.upon_schema.specs.Place.{ValidAt};
+ghost use Rattle.upon_schema.specs.Counted.{count_beside, count_entries, count_keywords, count_there, count_reference, schemas_read};
+ghost use Rattle.upon_schema.specs.Place.{IsCauseAround, IsCauseAt, ValidAt, count_at, references_at};
+ghost use Rattle.upon_schema.specs.Refusal.{IsCounted, refusal, wrong_value};
+ghost use Rattle.upon_schema.specs.Refused.{HasSchema, IsCause, IsRefusedSchema, is_bool};
 ghost use Rattle.upon_schema.specs.Valid.{Valid, ValidAtKey, KeywordsHold, ReferenceHolds, EntriesHold, PropertiesHold, RequiredHold, has_text, properties_of};
 
 use crate::fault::SchemaFault;
@@ -33,14 +36,15 @@ const MAX_SCHEMAS: usize = 65_536;
 /// is to no definition, `TooDeep` or `TooLarge` if there are too many schemas, and `OutOfMemory`. Definitions that
 /// nothing refers to are not looked at.
 pub fn shape_of_schema(alloc: Global, schema: &Value) -> Result<Shape, SchemaFault>
-    ensures { IfOk result
+    ensures fits { IfOk result
         (λ s. (v : Val) → MapsRise v → Valid (view schema.now) v → Fits (shape_view s) v) }
+    ensures refused { IfErr result (λ fault. IsRefusedSchema 128 65_536 (view schema.now) (refusal fault)) }
 {
     let open = ["#"];
     let place = Place {
         alloc,
         root: schema,
-        open: &open,
+        references: &open,
         depth: MAX_DEPTH,
     };
     let mut left = MAX_SCHEMAS;
@@ -50,18 +54,38 @@ pub fn shape_of_schema(alloc: Global, schema: &Value) -> Result<Shape, SchemaFau
 // The shape of what is valid by a schema.
 #[cycle(read)]
 fn read(place: &Place<'_>, schema: &Value, left: &mut usize) -> Result<Shape, SchemaFault>
-    ensures { IfOk result (λ s. Covers (shape_view s) (ValidAt place.now (view schema.now))) }
+    ensures covers { IfOk result (λ s. Covers (shape_view s) (ValidAt place.now (view schema.now))) }
+    ensures refused { IfErr result (λ fault. IsCauseAt place.now (view schema.now) (refusal fault)) }
+    ensures counted { IsCounted result left.old left.new (count_at place.now (view schema.now)) }
 {
     let inner = place.inside(left)?;
     match schema {
-        Value::Bool(true) => Ok(Shape::Any),
-        Value::Bool(false) => Ok(Shape::never()),
         Value::Map(_) => match entry(schema, "$ref") {
             Some(reference) => referred_shape(&inner, reference, left),
             None => keywords_shape(&inner, schema, left),
         },
-        _ => Err(SchemaFault::WrongValue(String::new(place.alloc))),
+        _ => truth_shape(place.alloc, schema),
     }
+}
+
+// The shape of what is valid by a schema that is a truth value.
+fn truth_shape(alloc: Global, schema: &Value) -> Result<Shape, SchemaFault>
+    ensures covers { IfOk result (λ s. (b : Bool) × (view schema.now ≡ bool_val b)
+        × ((v : Val) → b ≡ true → Fits (shape_view s) v)) }
+    ensures refused { IfErr result
+        (λ fault. (refusal fault ≡ wrong_value []) × (is_bool (view schema.now) ≡ false)) }
+{
+    match schema {
+        Value::Bool(truth) => Ok(all_or_none(*truth)),
+        _ => Err(SchemaFault::WrongValue(String::new(alloc))),
+    }
+}
+
+// The shape of any value, or of none.
+fn all_or_none(all: bool) -> Shape
+    ensures { (v : Val) → all ≡ true → Fits (shape_view result) v }
+{
+    if all { Shape::Any } else { Shape::never() }
 }
 
 // The shape of what is valid by the schema that a reference is to.
@@ -71,24 +95,29 @@ fn referred_shape(
     reference: &Value,
     left: &mut usize,
 ) -> Result<Shape, SchemaFault>
-    ensures { IfOk result (λ s. Covers (shape_view s) (λ v. (root : Val) → ReferenceHolds (ValidAt place.now)
+    ensures covers { IfOk result (λ s. Covers (shape_view s) (λ v. (root : Val) → ReferenceHolds (ValidAt place.now)
         (view place.now.root.now) root (Some (view reference.now)) v)) }
+    ensures refused { IfErr result (λ fault. (schema : Val) → key_of (codes "$ref") schema ≡ Some (view reference.now)
+        → IsCause (place.now.depth + 1) (view place.now.root.now) schema (refusal fault)) }
+    ensures counted { IsCounted result left.old left.new (count_reference
+        (schemas_read place.now.depth (view place.now.root.now)) (view place.now.root.now) (references_at place.now)
+        (view reference.now)) }
 {
     let alloc = place.alloc;
     let Value::String(reference) = reference else {
         return Err(SchemaFault::wrong_value(alloc, "$ref"));
     };
-    if is_open(place.open, reference) {
+    if is_open(place.references, reference) {
         return Ok(Shape::Any);
     }
     let Some(schema) = referred(place.root, reference) else {
         let fault = SchemaFault::NoDefinition(String::new(alloc));
         return Err(fault.inside(alloc, "$ref"));
     };
-    let mut open = place.open.to_vec(alloc)?;
+    let mut open = place.references.to_vec(alloc)?;
     open.push(reference.as_str())?;
     let inner = Place {
-        open: &open,
+        references: &open,
         ..*place
     };
     match read(&inner, schema, left) {
@@ -100,7 +129,9 @@ fn referred_shape(
 // The shape of what is valid by the keywords of a schema.
 #[cycle(read)]
 fn keywords_shape(place: &Place<'_>, schema: &Value, left: &mut usize) -> Result<Shape, SchemaFault>
-    ensures { IfOk result (λ s. Covers (shape_view s) (KeywordsHold (ValidAt place.now) (view schema.now))) }
+    ensures covers { IfOk result (λ s. Covers (shape_view s) (KeywordsHold (ValidAt place.now) (view schema.now))) }
+    ensures refused { IfErr result (λ fault. IsCauseAround place.now (view schema.now) (refusal fault)) }
+    ensures counted { IsCounted result left.old left.new (count_keywords (count_at place.now) (view schema.now)) }
 {
     let alloc = place.alloc;
     check_keywords(alloc, schema)?;
@@ -123,8 +154,12 @@ fn shape_at(
     keyword: &str,
     left: &mut usize,
 ) -> Result<Shape, SchemaFault>
-    ensures { IfOk result
+    ensures covers { IfOk result
         (λ s. Covers (shape_view s) (ValidAtKey (ValidAt place.now) keyword.now (view schema.now))) }
+    ensures refused { IfErr result
+        (λ fault. HasSchema keyword.now → IsCauseAround place.now (view schema.now) (refusal fault)) }
+    ensures counted { IsCounted result left.old left.new
+        (count_there (count_at place.now) (key_of keyword.now (view schema.now))) }
 {
     let Some(inner) = entry(schema, keyword) else {
         return Ok(Shape::Any);
@@ -138,8 +173,10 @@ fn shape_at(
 // The keys of the maps that are valid by a schema.
 #[cycle(read)]
 fn keys_of(place: &Place<'_>, schema: &Value, left: &mut usize) -> Result<Keys<Shape>, SchemaFault>
-    ensures { IfOk result
+    ensures covers { IfOk result
         (λ ks. CoversMaps (keys_view ks) (EntriesHold (ValidAt place.now) (view schema.now))) }
+    ensures refused { IfErr result (λ fault. IsCauseAround place.now (view schema.now) (refusal fault)) }
+    ensures counted { IsCounted result left.old left.new (count_beside (count_at place.now) (view schema.now)) }
 {
     let alloc = place.alloc;
     let required = required_keys(alloc, schema)?;
@@ -160,10 +197,13 @@ fn properties(
     required: &[Value],
     left: &mut usize,
 ) -> Result<Vec<Key<Shape>>, SchemaFault>
-    ensures { IfOk result (λ named. (es : Entries) → MapsRise (map_val es)
+    ensures ahead { IfOk result (λ named. (es : Entries) → MapsRise (map_val es)
         → PropertiesHold (ValidAt place.now) (properties_of (view schema.now)) es
         → RequiredHold (vals_view required.now) es → (key : List ℕ)
         → FitsAhead (properties_of (view schema.now)) key (entry_at key es) named.items) }
+    ensures refused { IfErr result (λ fault. IsCauseAround place.now (view schema.now) (refusal fault)) }
+    ensures counted { IsCounted result left.old left.new
+        (count_entries (count_at place.now) (properties_of (view schema.now))) }
 {
     let alloc = place.alloc;
     let mut named = Vec::new(alloc);

@@ -1,8 +1,11 @@
 // The shapes of the types that a schema names.
-ghost use Rattle.std.specs.Prelude.{IfOk, codes};
+ghost use Rattle.std.specs.Prelude.{◌≡◌, IfErr, IfOk, codes, false};
 ghost use Rattle.upon_types.specs.View.{view, vals_view};
 ghost use Rattle.upon_shape.specs.View.{shape_view};
 ghost use Rattle.upon_schema.specs.Covers.{Covers};
+ghost use Rattle.upon_shape_spec.specs.Wider.{is_listed};
+ghost use Rattle.upon_schema.specs.Refusal.{SaysWrongIf, refusal};
+ghost use Rattle.upon_schema.specs.Refused.{IsCauseHere, each_is, is_type, known_types};
 ghost use Rattle.upon_schema.specs.Valid.{IsOfType, IsOfTypes, TypeHolds};
 
 use crate::fault::SchemaFault;
@@ -13,7 +16,8 @@ use upon_types::value::look::entry;
 
 // The shape of the values of the types that the schema names, or of any value if it names none.
 pub(crate) fn types_shape(alloc: Global, schema: &Value) -> Result<Shape, SchemaFault>
-    ensures { IfOk result (λ s. Covers (shape_view s) (TypeHolds (view schema.now))) }
+    ensures covers { IfOk result (λ s. Covers (shape_view s) (TypeHolds (view schema.now))) }
+    ensures refused { IfErr result (λ fault. IsCauseHere (view schema.now) (refusal fault)) }
 {
     let Some(found) = entry(schema, "type") else {
         return Ok(Shape::Any);
@@ -27,7 +31,8 @@ pub(crate) fn types_shape(alloc: Global, schema: &Value) -> Result<Shape, Schema
 
 // The shape of the values of one of some types.
 fn joined_types(alloc: Global, names: &[Value]) -> Result<Shape, SchemaFault>
-    ensures { IfOk result (λ s. Covers (shape_view s) (IsOfTypes (vals_view names.now))) }
+    ensures covers { IfOk result (λ s. Covers (shape_view s) (IsOfTypes (vals_view names.now))) }
+    ensures refused { IfErr result (SaysWrongIf (codes "type") (each_is is_type (vals_view names.now) ≡ false)) }
 {
     let mut shape = Shape::never();
     for index in (0..names.len()).rev() {
@@ -41,7 +46,8 @@ fn joined_types(alloc: Global, names: &[Value]) -> Result<Shape, SchemaFault>
 
 // The shape of the values of a type.
 fn type_shape(alloc: Global, name: &str) -> Result<Shape, SchemaFault>
-    ensures { IfOk result (λ s. Covers (shape_view s) (IsOfType name.now)) }
+    ensures covers { IfOk result (λ s. Covers (shape_view s) (IsOfType name.now)) }
+    ensures refused { IfErr result (SaysWrongIf (codes "type") (is_listed name.now known_types ≡ false)) }
 {
     match name {
         "null" => Ok(Shape::none()),

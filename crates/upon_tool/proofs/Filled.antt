@@ -1,11 +1,10 @@
 -- What an engine holds as it is filled, and what is shown of it.
-use Rattle.std.proofs.Common.{◌≡◌, ◌<◌, ◌≤◌, ◌+◌, ◌∙◌, ◌∷◌, [], ◌++◌, ℕ, List, length, take, get_or, Bool, Bor, Option, Some, None, Result, Ok, Err, IfErr, IfOk, IsErrAnd, IsSomeAnd, OnErr, String, Global, codes, string_bytes, refl, sym, ap, subst, inl, inr, true, false}
+use Rattle.std.proofs.Common.{◌≡◌, ◌≤◌, ◌∙◌, ◌∷◌, [], ℕ, List, length, take, Bool, Bor, Option, Some, None, Result, Ok, Err, IfErr, IfOk, IsErrAnd, IsSomeAnd, OnErr, String, Global, string_bytes, refl, sym, ap, subst, inl, inr, true, false}
 use Rattle.std.specs.Io.KnownBytes.{Appends}
 use Rattle.std.specs.Str.{bytes_eq}
-use Rattle.std.proofs.lemmas.List.{take_all, take_more}
+use Rattle.std.proofs.lemmas.List.{take_all}
 use Rattle.std.proofs.lemmas.Map.{update_same}
 use Rattle.std.proofs.lemmas.Slice.Eq.{bytes_eq-Decides}
-use Rattle.upon_types.specs.Answers.{Formatter, Function, formatter, function}
 use Rattle.upon_types.specs.Error.{fault_of}
 use Rattle.upon_types.specs.Fault.{syntax}
 use Rattle.upon_types.specs.Tree.{Statements}
@@ -13,10 +12,9 @@ use Rattle.upon_types.specs.Val.{Val}
 use Rattle.upon_types.specs.declared.error.Error.{Error}
 use Rattle.upon_language_spec.specs.DefaultDelimiters.{default_delimiters}
 use Rattle.upon_language_spec.specs.Grammar.{HasTree}
-use Rattle.upon_meaning_spec.specs.DefaultFormat.{default_format}
 use Rattle.upon_meaning_spec.specs.Engine.{Table, Template}
 use Rattle.upon_vm.specs.declared.limits.Limits.{Limits}
-use Rattle.upon_engine.specs.Changes.{empty_engine, unless_refused, with_callable, with_default_formatter, with_text}
+use Rattle.upon_engine.specs.Changes.{unless_refused, with_text}
 use Rattle.upon_engine.specs.Faults.{IsSyntaxErrorOf}
 use Rattle.upon_engine.specs.Texts.{Stored, Texts}
 use Rattle.upon_engine.specs.Theorem.{IsTable}
@@ -28,12 +26,11 @@ use Rattle.upon_tool_messages.specs.Status.{tool_end_status}
 use Rattle.upon_tool_messages.specs.declared.failure.Failure.{Failure}
 use Rattle.upon_tool_messages.specs.declared.failure.Failure.TheVariants.{Fault}
 use Rattle.upon_tool_messages.specs.declared.library.Refusal.{Refusal}
-use Rattle.upon_calls.specs.Escaping.{language_format}
 use Rattle.upon_calls.specs.Filled.{escaping_engine, with_functions}
 use Rattle.upon_calls.specs.Names.{NeededBy}
+use Rattle.upon_calls.proofs.Filled.{functions_syntax}
 use Rattle.upon_calls.specs.declared.escaping.Language.{Language}
 use Rattle.upon_tool_pages.specs.Fitting.{language_for}
-use Rattle.upon_std.specs.Table.{standard_answer, standard_name}
 use Rattle.upon_std.specs.declared.table.StandardFunction.{StandardFunction}
 use Rattle.upon_tool.specs.Names.{needs_text}
 use Rattle.upon_tool_pages.specs.Rendering.{SendsPage, SendsWhole, StaysWithin}
@@ -43,7 +40,7 @@ use Rattle.upon_tool_io.specs.World.{World}
 use Rattle.upon_tool_io.specs.Written.{Log}
 use Rattle.upon_tool_pages.specs.Rendering.{ShowsPage}
 use Rattle.upon_tool_pages.specs.declared.rendering.Page.{Page}
-use Rattle.upon_tool.specs.Work.{output_name, to_standard, FilesPage, IsCheck, ListsNames, RefusesWork, SendsToFile, Works}
+use Rattle.upon_tool.specs.Work.{output_name, to_standard, FilesPage, ListsNames, RefusesWork, SendsToFile, Works}
 use Rattle.upon_tool_pages.specs.declared.sources.FolderFile.{FolderFile}
 use Rattle.upon_tool.specs.declared.work.Templates.{Templates}
 use Rattle.upon_tool.specs.declared.work.Work.{Work}
@@ -66,10 +63,6 @@ takes_syntax (file ∷ files) old new takes = takes_syntax files takes.0 new tak
 escaping_syntax : (escape : Option Language) → (escaping_engine escape).syntax ≡ default_delimiters
 escaping_syntax None = refl
 escaping_syntax (Some language) = refl
-
-functions_syntax : (functions : List StandardFunction) (e : Texts) → (with_functions functions e).syntax ≡ e.syntax
-functions_syntax [] e = refl
-functions_syntax (f ∷ fs) e = functions_syntax fs (with_callable (standard_name f) (function (standard_answer f)) e)
 
 pub begun_syntax : (escape : Option Escape) (functions : List StandardFunction) → (tool_engine escape functions).syntax ≡ default_delimiters
 begun_syntax escape functions = functions_syntax functions (escaping_engine (language_for escape)) ∙ escaping_syntax (language_for escape)
@@ -144,34 +137,8 @@ work_rendered world work page path e input status old new was now is shown filed
 pub work_kept : (world : World) (work same : Work) (e : Texts) (input : Option (List ℕ)) (status : ℕ) (old new : Option (List ℕ)) (was now : Log) → same ≡ work → Works world same e input status old new was now → Works world work e input status old new was now
 work_kept world work same e input status old new was now is works = subst (λ work. Works world work e input status old new was now) is works
 
-pub check_kept : (work same : Work) → same ≡ work → IsCheck work → IsCheck same
-check_kept work same is check = subst IsCheck (sym is) check
-
 -- ---- how an engine is filled
--- its formatters, if values are escaped
-pub with_escape : (b a e : Texts) (f g : Formatter) (escape : Option Language) (language : Language) → escape ≡ Some language → b ≡ empty_engine → a ≡ with_callable (codes "verbatim") (formatter f) b → f ≡ default_format → e ≡ with_default_formatter g a → g ≡ language_format language → e ≡ escaping_engine escape
-with_escape b a e f g escape language so before added verbatim set escapes =
-    set
-    ∙ (λ i. with_default_formatter (escapes i) ((added ∙ λ j. with_callable (codes "verbatim") (formatter (verbatim j)) (before j)) i))
-    ∙ ap escaping_engine (sym so)
-
-pub without_escape : (e : Texts) (escape : Option Language) → escape ≡ None → e ≡ empty_engine → e ≡ escaping_engine escape
-without_escape e escape so is = is ∙ ap escaping_engine (sym so)
-
--- its functions, one more
-functions_more : (functions : List StandardFunction) (f : StandardFunction) (e : Texts) → with_functions (functions ++ f ∷ []) e ≡ with_callable (standard_name f) (function (standard_answer f)) (with_functions functions e)
-functions_more [] f e = refl
-functions_more (first ∷ rest) f e = functions_more rest f (with_callable (standard_name first) (function (standard_answer first)) e)
-
-pub function_added : (functions : List StandardFunction) (i : ℕ) (d f : StandardFunction) (name : List ℕ) (answers : Function) (first old new : Texts) → i < length functions → old ≡ with_functions (take i functions) first
-    → get_or functions i d ≡ f → name ≡ standard_name f → answers ≡ standard_answer f → new ≡ with_callable name (function answers) old → new ≡ with_functions (take (i + 1) functions) first
-function_added functions i d f name answers first old new inside so_far is named answered added =
-    added
-    ∙ (λ j. with_callable (named j) (function (answered j)) (so_far j))
-    ∙ sym (functions_more (take i functions) f first)
-    ∙ ap (λ f. with_functions (take i functions ++ f ∷ []) first) (sym is)
-    ∙ ap (λ fs. with_functions fs first) (sym (take_more functions i d inside))
-
+-- its functions
 pub all_added : (functions : List StandardFunction) (i : ℕ) (escape : Option Escape) (first e : Texts) → length functions ≤ i → e ≡ with_functions (take i functions) first → first ≡ escaping_engine (language_for escape) → e ≡ tool_engine escape functions
 all_added functions i escape first e done is begun =
     is

@@ -8,7 +8,7 @@ use Rattle.upon_tool_io.specs.declared.arguments.Escape.{Escape}
 use Rattle.upon_tool_data.specs.Sources.{IsTextOf}
 use Rattle.upon_tool_pages.specs.Fitting.{FileFits}
 use Rattle.upon_tool.specs.Fitting.{EachFits, TextFits}
-use Rattle.upon_tool_pages.proofs.Kept.{first_true, second_true}
+use Rattle.upon_calls.proofs.Kept.{first_true, second_true}
 
 -- a text that was read and lent ends so
 pub text_fits : (world : World) (escape : Option Escape) (standard : Bool) (folder : List (List ℕ × List ℕ)) (s : Shape) (name lent text : List ℕ) (input : Option (List ℕ)) → lent ≡ text → IsTextOf world name input text → FileFits escape standard folder s name lent

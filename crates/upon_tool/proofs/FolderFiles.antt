@@ -13,8 +13,11 @@ use Rattle.upon_tool_messages.specs.Library.{library_names, refused_as, IsOfAdde
 use Rattle.upon_tool_messages.specs.declared.library.Library.{Library}
 use Rattle.upon_tool_messages.specs.declared.library.Refusal.{Refusal}
 use Rattle.upon_tool.specs.Filled.{with_page}
+use Rattle.upon_tool_messages.specs.declared.judge.Declared.{Declared}
 use Rattle.upon_tool_pages.specs.Missing.{EachName, HeldIsRight, LibraryIsRight}
-use Rattle.upon_tool.specs.Work.{EachFileIsRight}
+use Rattle.upon_tool.specs.Work.{EachFileIsRight, IfChecked}
+use Rattle.upon_tool.specs.declared.work.Work.{Work}
+use Rattle.upon_tool.specs.declared.work.Work.TheVariants.{Render, Check, Names, Each as EachWork, Build as BuildWork}
 use Rattle.upon_tool_pages.specs.declared.sources.FolderFile.{FolderFile}
 use Rattle.upon_tool_pages.proofs.CheckedFiles.{each_name, name_more}
 
@@ -106,11 +109,19 @@ both_so P Q [] each other = tt
 both_so P Q (name ∷ names) each other = ((each.0, other.0), both_so P Q names each.1 other.1)
 
 -- no file is refused, and what is held is right: so is each file
-pub files_right : (library : Library) (folder e : Texts) (page : Option (Bor (List ℕ) × String Global)) (all : List FolderFile) → e ≡ with_page page folder → FolderSoFar library folder [] all → LibraryIsRight e library → EachFileIsRight e all
-files_right library folder e page all is so_far right =
+files_right : (callables : Declared) (library : Library) (folder e : Texts) (page : Option (Bor (List ℕ) × String Global)) (all : List FolderFile) → e ≡ with_page page folder → FolderSoFar library folder [] all → LibraryIsRight callables e library → EachFileIsRight callables e all
+files_right callables library folder e page all is so_far right =
     let all_names : library_names library ≡ map file_name all = sym (append-nil (library_names library)) ∙ so_far.0 in
-    subst (EachName (λ name. IsSome (e.texts name) × HeldIsRight e name)) all_names
-    (each_name (λ name. ((refused_as library name ≡ None) × HeldIsRight e name) × (refused_as library name ≡ None → IsSome (folder.texts name))) (λ name. IsSome (e.texts name) × HeldIsRight e name) (λ name said. (
+    subst (EachName (λ name. IsSome (e.texts name) × HeldIsRight callables e name)) all_names
+    (each_name (λ name. ((refused_as library name ≡ None) × HeldIsRight callables e name) × (refused_as library name ≡ None → IsSome (folder.texts name))) (λ name. IsSome (e.texts name) × HeldIsRight callables e name) (λ name said. (
       subst (λ e. IsSome (e.texts name)) (sym is) (page_held page folder name (said.1 said.0.0)),
       said.0.1,
-    )) (library_names library) (both_so (λ name. (refused_as library name ≡ None) × HeldIsRight e name) (λ name. refused_as library name ≡ None → IsSome (folder.texts name)) (library_names library) right so_far.1))
+    )) (library_names library) (both_so (λ name. (refused_as library name ≡ None) × HeldIsRight callables e name) (λ name. refused_as library name ≡ None → IsSome (folder.texts name)) (library_names library) right so_far.1))
+
+-- so it is if files are to be checked
+pub folder_checked : (work : Work) (library : Library) (folder e : Texts) (page : Option (Bor (List ℕ) × String Global)) (all : List FolderFile) → e ≡ with_page page folder → FolderSoFar library folder [] all → IfChecked work (λ callables. LibraryIsRight callables e library) → IfChecked work (λ callables. EachFileIsRight callables e all)
+folder_checked (Render shown path) library folder e page all is so_far right = tt
+folder_checked (Check names callables) library folder e page all is so_far right = files_right callables library folder e page all is so_far right
+folder_checked (Names name json) library folder e page all is so_far right = tt
+folder_checked (EachWork value asked terminal) library folder e page all is so_far right = tt
+folder_checked (BuildWork value asked terminal) library folder e page all is so_far right = tt

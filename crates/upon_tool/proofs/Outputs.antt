@@ -8,7 +8,6 @@ use Rattle.upon_types.specs.View.{view}
 use Rattle.upon_language_spec.specs.Grammar.{HasTree}
 use Rattle.upon_meaning_spec.specs.Engine.{Table}
 use Rattle.upon_vm.specs.Limits.{is_limited}
-use Rattle.upon_vm.specs.Reports.{IsAnyIo, WritesReported}
 use Rattle.upon_vm.specs.declared.limits.Limits.{Limits}
 use Rattle.upon_engine.specs.Texts.{Stored, Texts}
 use Rattle.upon_engine.specs.Theorem.{IsTable, meaning}
@@ -18,6 +17,7 @@ use Rattle.upon_tool_messages.specs.declared.failure.Failure.{Failure}
 use Rattle.upon_tool_messages.specs.declared.failure.Failure.TheVariants.{Unreadable, NotText, Data, Unwritable, Fault}
 use Rattle.upon_tool_pages.specs.Rendering.{SendsIf, SendsPage, SendsWhole}
 use Rattle.upon_tool_pages.specs.declared.rendering.Page.{Page}
+use Rattle.upon_tool.specs.ByTable.{SendsBy, SendsIfBy}
 use Rattle.upon_tool.specs.Work.{FilesPage, SendsToFile}
 
 -- an output that is a file is not standard output
@@ -52,15 +52,27 @@ none_sent Sent path first last was mid now (Unreadable name error) start same ke
 none_sent Sent path first last was mid now (NotText name) start same kept sent = absurd sent
 none_sent Sent path first last was mid now (Unwritable name error) start same kept sent = absurd sent
 
--- what is sent without limits, by a table of the texts that are held
-pub sent_by : (limits : Limits) (e : Texts) (name text : List ℕ) (tree : Statements) (v : Val) (old new : Option (List ℕ)) (table : Table) (end : Result (Unit {0}) Failure) → is_limited limits ≡ false → IsTable e.texts table
-    → SendsWhole (λ r. SendsPage limits e (Some name) text tree v r old new) end → SendsWhole (λ r. WritesReported e.depth IsAnyIo r old new (meaning e table (Some name) text tree v)) end
-sent_by limits e name text tree v old new table (Ok u) unlimited is sends = subst (λ b. SendsIf b limits e (Some name) text tree v (Ok tt) old new) unlimited sends table is
-sent_by limits e name text tree v old new table (Err (Fault error)) unlimited is sends = subst (λ b. SendsIf b limits e (Some name) text tree v (Err error) old new) unlimited sends table is
-sent_by limits e name text tree v old new table (Err (Data fault)) unlimited is sends = absurd sends
-sent_by limits e name text tree v old new table (Err (Unreadable file error)) unlimited is sends = absurd sends
-sent_by limits e name text tree v old new table (Err (NotText file)) unlimited is sends = absurd sends
-sent_by limits e name text tree v old new table (Err (Unwritable file error)) unlimited is sends = absurd sends
+-- ---- what is sent, by a table of the texts that are held
+module _ (limits : Limits) (e : Texts) (name text : List ℕ) (tree : Statements) (v : Val) (table : Table) (is : IsTable e.texts table) where
+  sends_if : (limited : Bool) (r : Result (Unit {0}) Error) (old new : Option (List ℕ)) → SendsIf limited limits e (Some name) text tree v r old new → SendsIfBy limited limits e table (Some name) text tree v r old new
+  sends_if false r old new sends = sends table is
+  sends_if true r old new sends = sends table is
+
+  pub sent_by : (end : Result (Unit {0}) Failure) (old new : Option (List ℕ)) → SendsWhole (λ r. SendsPage limits e (Some name) text tree v r old new) end → SendsWhole (λ r. SendsBy limits e table (Some name) text tree v r old new) end
+  sent_by (Ok u) old new sends = sends_if (is_limited limits) (Ok tt) old new sends
+  sent_by (Err (Fault error)) old new sends = sends_if (is_limited limits) (Err error) old new sends
+  sent_by (Err (Data fault)) old new sends = absurd sends
+  sent_by (Err (Unreadable file error)) old new sends = absurd sends
+  sent_by (Err (NotText file)) old new sends = absurd sends
+  sent_by (Err (Unwritable file error)) old new sends = absurd sends
+
+  pub filed_by : (path : List ℕ) (end : Result (Unit {0}) Failure) (was now : Log) → SendsToFile (λ r first last. SendsPage limits e (Some name) text tree v r first last) path end was now → SendsToFile (λ r first last. SendsBy limits e table (Some name) text tree v r first last) path end was now
+  filed_by path (Ok u) was now (first, last, start, sent, adds) = (first, last, start, sends_if (is_limited limits) (Ok tt) first last sent, adds)
+  filed_by path (Err (Fault error)) was now (kept, first, last, start, sent) = (kept, first, last, start, sends_if (is_limited limits) (Err error) first last sent)
+  filed_by path (Err (Unwritable file error)) was now sends = sends
+  filed_by path (Err (Data fault)) was now sends = absurd sends
+  filed_by path (Err (Unreadable file error)) was now sends = absurd sends
+  filed_by path (Err (NotText file)) was now sends = absurd sends
 
 -- ---- what is written of it, if it is known what was written before
 appended : (first last : Option (List ℕ)) (bytes : List ℕ) → first ≡ Some [] → Appends first last bytes → last ≡ Some bytes
@@ -72,14 +84,18 @@ grown : (path bytes : List ℕ) (was : List Written) (now : Log) → Adds (Some 
 grown path bytes was None adds = absurd adds
 grown path bytes was (Some all) adds = ap Some adds
 
-pub filed_by : (limits : Limits) (e : Texts) (name text : List ℕ) (tree : Statements) (v : Val) (path : List ℕ) (end : Result (Unit {0}) Failure) (was : List Written) (now : Log) (table : Table) → is_limited limits ≡ false
-    → IsTable e.texts table → 0 ≡ tool_end_status end → SendsToFile (λ r first last. SendsPage limits e (Some name) text tree v r first last) path end (Some was) now
-    → now ≡ Some (was ++ (written_as path (meaning e table (Some name) text tree v).text ∷ []))
-filed_by limits e name text tree v path (Ok u) was now table unlimited is well (first, last, start, sent, adds) =
-    let (end, more) = sent_by limits e name text tree v first last table (Ok u) unlimited is sent in
+-- the whole text was received
+received : (limited : Bool) (limits : Limits) (e : Texts) (table : Table) (name : Option (List ℕ)) (text : List ℕ) (tree : Statements) (v : Val) (old new : Option (List ℕ)) → SendsIfBy limited limits e table name text tree v (Ok tt) old new → Appends old new (meaning e table name text tree v).text
+received false limits e table name text tree v old new (end, more) = more
+received true limits e table name text tree v old new (end, more, fits) = more
+
+pub written_by : (limits : Limits) (e : Texts) (name text : List ℕ) (tree : Statements) (v : Val) (table : Table) (path : List ℕ) (end : Result (Unit {0}) Failure) (was : List Written) (now : Log) → 0 ≡ tool_end_status end
+    → SendsToFile (λ r first last. SendsBy limits e table (Some name) text tree v r first last) path end (Some was) now → now ≡ Some (was ++ (written_as path (meaning e table (Some name) text tree v).text ∷ []))
+written_by limits e name text tree v table path (Ok u) was now well (first, last, start, sent, adds) =
+    let more = received (is_limited limits) limits e table (Some name) text tree v first last sent in
     grown path (meaning e table (Some name) text tree v).text was now (subst (λ last. Adds last path (Some was) now) (appended first last (meaning e table (Some name) text tree v).text start more) adds)
-filed_by limits e name text tree v path (Err (Fault error)) was now table unlimited is well sends = absurd cc
-filed_by limits e name text tree v path (Err (Unwritable file error)) was now table unlimited is well sends = absurd cc
-filed_by limits e name text tree v path (Err (Data fault)) was now table unlimited is well sends = absurd sends
-filed_by limits e name text tree v path (Err (Unreadable file error)) was now table unlimited is well sends = absurd sends
-filed_by limits e name text tree v path (Err (NotText file)) was now table unlimited is well sends = absurd sends
+written_by limits e name text tree v table path (Err (Fault error)) was now well sends = absurd cc
+written_by limits e name text tree v table path (Err (Unwritable file error)) was now well sends = absurd cc
+written_by limits e name text tree v table path (Err (Data fault)) was now well sends = absurd sends
+written_by limits e name text tree v table path (Err (Unreadable file error)) was now well sends = absurd sends
+written_by limits e name text tree v table path (Err (NotText file)) was now well sends = absurd sends

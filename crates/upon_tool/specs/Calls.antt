@@ -31,7 +31,8 @@ use Rattle.upon_tool_many.specs.declared.each.Each.{Each}
 use Rattle.upon_tool_messages.specs.Status.{tool_end_status, tool_status}
 use Rattle.upon_tool_messages.specs.declared.failure.Failure.{Failure}
 use Rattle.upon_tool.specs.Checked.{ChecksCall}
-use Rattle.upon_tool.specs.Filled.{tool_engine, standard_functions, with_page, TakesFiles}
+use Rattle.upon_calls.specs.Filled.{functions_if}
+use Rattle.upon_tool.specs.Filled.{tool_engine, with_page, TakesFiles}
 use Rattle.upon_tool.specs.Fitting.{FitsCall, WritesShape}
 use Rattle.upon_tool_pages.specs.ManyPages.{limits_set, BuildIsWell, EachIsWell}
 use Rattle.upon_tool_pages.specs.Refusals.{RefusesOrFails}
@@ -47,7 +48,7 @@ limits_asked call = record { steps = call.max_steps; output = call.max_output; v
 
 -- what the engine of a call holds before its templates
 abbrev pub engine_asked : RenderCall → Texts
-engine_asked call = tool_engine call.escape (standard_functions call.standard)
+engine_asked call = tool_engine call.escape (functions_if call.standard)
 
 -- what is rendered for each item
 abbrev pub each_asked : EachCall → Each

@@ -6,7 +6,6 @@ use Rattle.upon_types.specs.Tree.{Statements}
 use Rattle.upon_language_spec.specs.Grammar.{HasTree}
 use Rattle.upon_engine.specs.Changes.{with_text}
 use Rattle.upon_engine.specs.Texts.{Texts}
-use Rattle.upon_std.specs.declared.table.TheConstants.{ALL}
 use Rattle.upon_std.specs.declared.table.StandardFunction.{StandardFunction}
 use Rattle.upon_calls.specs.Filled.{escaping_engine, with_functions}
 use Rattle.upon_tool_io.specs.declared.files.ReadFault.{ReadFault}
@@ -14,10 +13,6 @@ use Rattle.upon_tool_io.specs.declared.arguments.Escape.{Escape}
 use Rattle.upon_tool_pages.specs.Fitting.{language_for}
 use Rattle.upon_tool_pages.specs.declared.sources.FolderFile.{FolderFile}
 use Rattle.upon_tool.specs.declared.work.Templates.{Templates}
-
--- the functions that templates may call: the standard ones if they are wanted, else none
-abbrev pub standard_functions : Bool → List StandardFunction
-standard_functions wanted = if wanted then ALL else []
 
 -- what an engine holds before its templates: formatters and functions
 abbrev pub tool_engine : Option Escape → List StandardFunction → Texts

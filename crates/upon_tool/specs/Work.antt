@@ -19,6 +19,7 @@ use Rattle.upon_tool_io.specs.declared.files.ReadFault.{ReadFault}
 use Rattle.upon_tool_data.specs.Sources.{is_standard, IsNoTextOf}
 use Rattle.upon_tool_messages.specs.Status.{tool_end_status}
 use Rattle.upon_tool_messages.specs.declared.failure.Failure.{Failure}
+use Rattle.upon_tool_messages.specs.declared.judge.Declared.{Declared}
 use Rattle.upon_tool_messages.specs.declared.failure.Failure.TheVariants.{Unreadable, NotText, Data, Unwritable, Fault}
 use Rattle.upon_calls.specs.Rendering.{EachHasTree}
 use Rattle.upon_tool.specs.Filled.{Fills}
@@ -53,18 +54,18 @@ checked_files (Names name json) = []
 checked_files (EachWork value asked terminal) = []
 checked_files (BuildWork value asked terminal) = []
 
--- files are to be checked
-abbrev pub IsCheck : Work → Type 0
-IsCheck (Render page path) = ⊥
-IsCheck (Check names callables) = Unit {0}
-IsCheck (Names name json) = ⊥
-IsCheck (EachWork value asked terminal) = ⊥
-IsCheck (BuildWork value asked terminal) = ⊥
+-- if files are to be checked, this holds of what they may call
+abbrev pub IfChecked : Work → (Declared → Type 0) → Type 0
+IfChecked (Render page path) Is = Unit {0}
+IfChecked (Check names callables) Is = Is callables
+IfChecked (Names name json) Is = Unit {0}
+IfChecked (EachWork value asked terminal) Is = Unit {0}
+IfChecked (BuildWork value asked terminal) Is = Unit {0}
 
 -- each file of a folder is held, and right
-abbrev pub EachFileIsRight : Texts → List FolderFile → Type 0
-EachFileIsRight e files =
-    EachName (λ name. IsSome (e.texts name) × HeldIsRight e name) (map (λ file. string_bytes file.name) files)
+abbrev pub EachFileIsRight : Declared → Texts → List FolderFile → Type 0
+EachFileIsRight callables e files =
+    EachName (λ name. IsSome (e.texts name) × HeldIsRight callables e name) (map (λ file. string_bytes file.name) files)
 
 -- A new file received what was sent of a text, and took the place of the one of a name; or that failed, and nothing was
 -- written. What it held at first is nothing, if it is known what was written.
@@ -94,11 +95,12 @@ output_name None = []
 output_name (Some path) = path.now
 
 module _ (world : World) where
-  -- files are checked, by what standard input had left: if the status is 0, each of their texts is right
-  abbrev pub ChecksFiles : Texts → List (Bor (List ℕ)) → Option (List ℕ) → ℕ → Type 0
-  ChecksFiles e names input status = (texts : List (List ℕ)) × (later : Option (List ℕ))
+  -- files are checked, by what they may call and what standard input had left: if the status is 0, each of their texts
+  -- is right
+  abbrev pub ChecksFiles : Declared → Texts → List (Bor (List ℕ)) → Option (List ℕ) → ℕ → Type 0
+  ChecksFiles callables e names input status = (texts : List (List ℕ)) × (later : Option (List ℕ))
       × AreTexts world names input texts later
-      × (status ≡ 0 → (table : Table) → IsTable e.texts table → EachIsRight e.syntax table names texts)
+      × (status ≡ 0 → (table : Table) → IsTable e.texts table → EachIsRight callables e.syntax table names texts)
 
   -- A piece of work ends with a status, by what standard input had left. Files are written by pages alone.
   abbrev pub Works : Work → Texts → Option (List ℕ) → ℕ → Option (List ℕ) → Option (List ℕ) → Log → Log → Type 0
@@ -106,7 +108,7 @@ module _ (world : World) where
       (to_standard path ≡ true → (now ≡ was) × ShowsPage e page.now status old new)
       × (to_standard path ≡ false → (new ≡ old) × FilesPage e page.now (output_name path) status was now)
   Works (Check names callables) e input status old new was now =
-      (new ≡ old) × (now ≡ was) × ChecksFiles e names.now input status
+      (new ≡ old) × (now ≡ was) × ChecksFiles callables e names.now input status
   Works (Names name json) e input status old new was now = (now ≡ was) × ListsNames e name.now json status old new
   Works (EachWork value asked terminal) e input status old new was now =
       (new ≡ old) × EachIsWell world e (view value) asked.now status was now
@@ -136,4 +138,4 @@ module _ (world : World) where
       → Type 0
   CarriesOut templates work input status old new was now =
       (e : Texts) × Fills templates e × EachHasTree e × Works work e input status old new was now
-      × (IsCheck work → status ≡ 0 → EachFileIsRight e templates.files.items)
+      × (status ≡ 0 → IfChecked work (λ callables. EachFileIsRight callables e templates.files.items))

@@ -1,7 +1,6 @@
 // The program: from its words to its status.
 ghost use Rattle.std.specs.Prelude.{◌≡◌, ◌≤◌, false, IfErr, IfOk, IsSomeAnd, OnErr, true};
-ghost use Rattle.upon_tool.specs.Checked.{ChecksCall};
-ghost use Rattle.upon_tool.specs.Filled.{standard_functions};
+ghost use Rattle.upon_tool.specs.Checked.{ChecksCall, MayCall};
 ghost use Rattle.upon_tool_pages.specs.ManyPages.{limits_set};
 ghost use Rattle.upon_tool_pages.specs.Sources.{IsUnread};
 ghost use Rattle.upon_tool.specs.Calls.{may_be_input, limits_asked, BuildsCall, CallEnds, IsLayout, ListsCall, RefusesCall, RendersCall, RendersEachCall, RunsCall};
@@ -14,8 +13,8 @@ use std::alloc::Global;
 use std::env::{self, Env, VarError};
 use std::io::{Read, Write};
 use std::time::Clock;
+use upon_calls::functions::standard;
 use upon_engine::within::Limits;
-use upon_std::table::{ALL, StandardFunction};
 use upon_tool_data::context::context;
 use upon_tool_data::sources::STANDARD;
 use upon_tool_data::words::{DataWords, check};
@@ -192,17 +191,6 @@ fn run_render<'a, R: Sources + Clock + AllocGlobal, T: Targets, I: Read, O: Writ
     )
 }
 
-// The functions that templates may call.
-fn standard(wanted: bool) -> &'static [StandardFunction]
-    ensures { result.now ≡ standard_functions wanted }
-{
-    if wanted {
-        ALL.as_slice()
-    } else {
-        [].as_slice()
-    }
-}
-
 /// Checks, and returns the status.
 pub(crate) fn run_check<
     'a,
@@ -244,7 +232,9 @@ pub(crate) fn run_check<
 }
 
 // What the templates that are checked may call.
-fn callables<'w>(call: &'w CheckCall<'_>) -> Declared<'w> {
+fn callables<'w>(call: &'w CheckCall<'_>) -> Declared<'w>
+    ensures { MayCall call.now result }
+{
     Declared {
         functions: standard(call.standard),
         has_verbatim: call.escape.is_some(),

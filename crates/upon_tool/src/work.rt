@@ -11,7 +11,7 @@ ghost use Rattle.upon_tool_messages.specs.Library.{library_names, refused_as};
 ghost use Rattle.upon_tool_pages.specs.Missing.{EachIsRight, EachName, IsRightTemplate, LibraryIsRight};
 ghost use Rattle.upon_tool_pages.specs.Rendering.{SendsPage, ShowsPage};
 ghost use Rattle.upon_tool_pages.specs.Sources.{AreTexts};
-ghost use Rattle.upon_tool.specs.Work.{checked_files, output_name, to_standard, CarriesOut, ChecksFiles, FilesPage, IsCheck, IsUnreadOf, ListsNames, RefusesWork, SendsToFile, Works};
+ghost use Rattle.upon_tool.specs.Work.{checked_files, output_name, to_standard, CarriesOut, ChecksFiles, FilesPage, IfChecked, IsUnreadOf, ListsNames, RefusesWork, SendsToFile, Works};
 
 use crate::names;
 use std::alloc::{AllocError, Global};
@@ -31,7 +31,6 @@ use upon_tool_io::sources::Sources;
 use upon_tool_io::targets::Targets;
 use upon_tool_many::build::Build;
 use upon_tool_many::each::Each;
-use upon_tool_messages::call_check::CallCheck;
 use upon_tool_messages::failure::Failure;
 use upon_tool_messages::judge::Declared;
 use upon_tool_messages::library::{Library, Refusal};
@@ -161,8 +160,8 @@ fn do_work<'a, R: Sources + Clock + AllocGlobal, T: Targets, I: Read, O: Write, 
         (O.contents out.new)
         (T.written targets.old)
         (T.written targets.new)) }
-    ensures folder { IfOk result (λ status. IsCheck work.entry → status ≡ 0
-        → LibraryIsRight (⟦<AnyEngine as EngineTexts>⟧.texts engine.now) library.now) }
+    ensures folder { IfOk result (λ status. status ≡ 0 → IfChecked work.entry
+        (λ callables. LibraryIsRight callables (⟦<AnyEngine as EngineTexts>⟧.texts engine.now) library.now)) }
     ensures unsent { OnErr result (O.contents out.new ≡ O.contents out.old) }
     ensures unwritten { OnErr result (T.written targets.new ≡ T.written targets.old) }
     ensures refused { IfErr result (IsUnreadOf (R.world rt.now) (checked_files work.entry)) }
@@ -172,7 +171,7 @@ fn do_work<'a, R: Sources + Clock + AllocGlobal, T: Targets, I: Read, O: Write, 
             rt, targets, engine, library, page, path, out, err,
         )),
         Work::Check(names, callables) => {
-            check_all(rt, engine, library, names, callables, input, err)
+            check_all(rt, engine, library, names, &callables, input, err)
         }
         Work::Names(name, json) => Ok(list(rt, engine, library, name, json, out, err)),
         Work::Each(value, asked, is_terminal) => {
@@ -287,31 +286,27 @@ fn check_all<'a, R: Sources + AllocGlobal, I: Read, E: Write>(
     engine: &Engine<'_>,
     library: &Library,
     names: &[&'a str],
-    callables: Declared<'_>,
+    callables: &Declared<'_>,
     input: &mut I,
     err: &mut E,
 ) -> Result<u8, Failure<'a>>
     ensures range { IfOk result (λ status. status ≤ 2) }
     ensures checks { IfOk result (λ status. ChecksFiles (R.world rt.now)
+        callables.now
         (⟦<AnyEngine as EngineTexts>⟧.texts engine.now)
         names.now
         (I.remaining input.old)
         status) }
     ensures folder { IfOk result (λ status. status ≡ 0
-        → LibraryIsRight (⟦<AnyEngine as EngineTexts>⟧.texts engine.now) library.now) }
+        → LibraryIsRight callables.now (⟦<AnyEngine as EngineTexts>⟧.texts engine.now) library.now) }
     ensures refused { IfErr result (IsUnreadOf (R.world rt.now) names.now) }
 {
     theorem::one_table(engine);
     laws_of_templates::templates_are_the_table(engine);
     let alloc = rt.alloc();
-    let mut calls = CallCheck::new(callables);
-    let is_right = check_each(rt, engine, library, names, &mut calls, input, err)?;
-    let is_whole = check_folder(alloc, engine, library, &mut calls, err)?;
-    Ok(if is_right && is_whole {
-        calls.status()
-    } else {
-        1
-    })
+    let is_right = check_each(rt, engine, library, names, callables, input, err)?;
+    let is_whole = check_folder(alloc, engine, library, callables, err)?;
+    Ok(if is_right && is_whole { 0 } else { 1 })
 }
 
 // Whether nothing is wrong with files.
@@ -320,13 +315,14 @@ fn check_each<'a, R: Sources + AllocGlobal, I: Read, E: Write>(
     engine: &Engine<'_>,
     library: &Library,
     names: &[&'a str],
-    calls: &mut CallCheck<'_>,
+    callables: &Declared<'_>,
     input: &mut I,
     err: &mut E,
 ) -> Result<bool, Failure<'a>>
     ensures right { IfOk result (λ is_right. (texts : List (List ℕ))
         × AreTexts (R.world rt.now) names.now (I.remaining input.old) texts (I.remaining input.new)
-        × ((is_right ≡ true) ↔ EachIsRight (engine_syntax engine.now) (engine_templates engine.now) names.now texts)) }
+        × ((is_right ≡ true)
+        ↔ EachIsRight callables.now (engine_syntax engine.now) (engine_templates engine.now) names.now texts)) }
     ensures refused { IfErr result (IsUnreadOf (R.world rt.now) names.now) }
 {
     let alloc = rt.alloc();
@@ -334,7 +330,7 @@ fn check_each<'a, R: Sources + AllocGlobal, I: Read, E: Write>(
     for name in names {
         let source = text_of(rt, name, input)?;
         let source = CowStr::Owned(source);
-        is_right &= check_text(alloc, engine, library, name, source, calls, err)?;
+        is_right &= check_text(alloc, engine, library, name, source, callables, err)?;
     }
     Ok(is_right)
 }
@@ -344,18 +340,19 @@ fn check_folder<E: Write>(
     alloc: Global,
     engine: &Engine<'_>,
     library: &Library,
-    calls: &mut CallCheck<'_>,
+    callables: &Declared<'_>,
     err: &mut E,
 ) -> Result<bool, AllocError>
     ensures { let table = engine_templates engine.now in
         IfOk result (λ is_right. is_right ≡ true → EachName (λ name. (refused_as library.now name ≡ None)
-        × ((t : TemplateMeant) → table name ≡ Some t → IsRightTemplate (engine_syntax engine.now) table name t.source))
+        × ((t : TemplateMeant) → table name ≡ Some t
+        → IsRightTemplate callables.now (engine_syntax engine.now) table name t.source))
         (library_names library.now)) }
 {
     let names = library.names();
     let mut is_right = true;
     for name in names {
-        is_right &= check_file(alloc, engine, library, name.as_str(), calls, err)?;
+        is_right &= check_file(alloc, engine, library, name.as_str(), callables, err)?;
     }
     Ok(is_right)
 }

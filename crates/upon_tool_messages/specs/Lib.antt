@@ -2,7 +2,6 @@ pub mod Status
 pub mod Library
 pub mod Colors
 pub mod Gone
-pub mod CallCheck
 pub mod Terminal
 pub mod Judged
 pub mod Included

@@ -6,17 +6,18 @@ use Rattle.upon_meaning_spec.specs.Engine.{Table, Template}
 use Rattle.upon_engine.specs.Texts.{Stored, Texts}
 use Rattle.upon_engine.specs.Theorem.{IsTable, IsTemplateOf}
 use Rattle.upon_tool_messages.specs.Library.{library_names, refused_as}
+use Rattle.upon_tool_messages.specs.declared.judge.Declared.{Declared}
 use Rattle.upon_tool_messages.specs.declared.library.Library.{Library}
 use Rattle.upon_tool_pages.specs.Missing.{EachName, HeldIsRight, IsRightTemplate, LibraryIsRight}
-use Rattle.upon_tool_pages.proofs.Kept.{first_true, second_true}
+use Rattle.upon_calls.proofs.Kept.{first_true, second_true}
 
 -- the template of a table under a name
 abbrev source_at : Option Template → List ℕ
 source_at None = []
 source_at (Some t) = t.source
 
-pub held_right : (d : List DelimiterText) (table : Table) (name : List ℕ) (o : Option Template) (held t : Template) (text : List ℕ) → o ≡ Some held → o ≡ Some t → text ≡ held.source → IsRightTemplate d table name text → IsRightTemplate d table name t.source
-held_right d table name o held t text is there same right = subst (IsRightTemplate d table name) (same ∙ ap source_at (sym is ∙ there)) right
+pub held_right : (callables : Declared) (d : List DelimiterText) (table : Table) (name : List ℕ) (o : Option Template) (held t : Template) (text : List ℕ) → o ≡ Some held → o ≡ Some t → text ≡ held.source → IsRightTemplate callables d table name text → IsRightTemplate callables d table name t.source
+held_right callables d table name o held t text is there same right = subst (IsRightTemplate callables d table name) (same ∙ ap source_at (sym is ∙ there)) right
 
 -- each of some names, and one more
 pub name_more : (P : List ℕ → Type 0) (names : List (List ℕ)) (name : List ℕ) → EachName P names → P name → EachName P (names ++ name ∷ [])
@@ -45,13 +46,13 @@ held_template (Some s) None held is of = absurd of
 held_template (Some s) (Some t) held is of = (t, refl, of.0 ∙ ap text_at is)
 
 -- so a library's files are right by what the engine holds
-pub library_right : (e : Texts) (library : Library) (mine : Table) → IsTable e.texts mine → (table : Table) × IsTable e.texts table × ((other : Table) → IsTable e.texts other → other ≡ table)
-    → EachName (λ name. (refused_as library name ≡ None) × ((t : Template) → mine name ≡ Some t → IsRightTemplate e.syntax mine name t.source)) (library_names library) → LibraryIsRight e library
-library_right e library mine is_mine one each =
-    each_name (λ name. (refused_as library name ≡ None) × ((t : Template) → mine name ≡ Some t → IsRightTemplate e.syntax mine name t.source)) (λ name. (refused_as library name ≡ None) × HeldIsRight e name) (λ name right. (
+pub library_right : (callables : Declared) (e : Texts) (library : Library) (mine : Table) → IsTable e.texts mine → (table : Table) × IsTable e.texts table × ((other : Table) → IsTable e.texts other → other ≡ table)
+    → EachName (λ name. (refused_as library name ≡ None) × ((t : Template) → mine name ≡ Some t → IsRightTemplate callables e.syntax mine name t.source)) (library_names library) → LibraryIsRight callables e library
+library_right callables e library mine is_mine one each =
+    each_name (λ name. (refused_as library name ≡ None) × ((t : Template) → mine name ≡ Some t → IsRightTemplate callables e.syntax mine name t.source)) (λ name. (refused_as library name ≡ None) × HeldIsRight callables e name) (λ name right. (
       right.0,
       λ held there table is.
           let found = held_template (e.texts name) (mine name) held there (is_mine name) in
           let same : mine ≡ table = one.2 mine is_mine ∙ sym (one.2 table is) in
-          subst (λ table. IsRightTemplate e.syntax table name held.text) same (subst (IsRightTemplate e.syntax mine name) found.2 (right.1 found.0 found.1)),
+          subst (λ table. IsRightTemplate callables e.syntax table name held.text) same (subst (IsRightTemplate callables e.syntax mine name) found.2 (right.1 found.0 found.1)),
     )) (library_names library) each

@@ -1,5 +1,4 @@
 pub mod CheckedFiles
-pub mod Kept
 pub mod Refusals
 pub mod Refused
 pub mod Sent

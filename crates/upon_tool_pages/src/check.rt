@@ -1,4 +1,4 @@
-// Templates that are checked: their faults, and the includes that name nothing.
+// Templates that are checked: their faults, the includes that name nothing, and the calls that fail on any values.
 ghost use Rattle.std.specs.Prelude.{◌≡◌, ◌↔◌, ℕ, List, Contains, IfOk, None, Some, true};
 ghost use Rattle.upon_meaning_spec.specs.Engine.{Template as TemplateMeant};
 ghost use Rattle.upon_meaning_spec.specs.Includes.{Includes};
@@ -15,9 +15,10 @@ use std::io;
 use upon_engine::engine::Engine;
 use upon_engine::template::Template;
 use upon_needs::template_names::includes;
-use upon_tool_messages::call_check::CallCheck;
+use upon_tool_messages::call_check::check_calls;
 use upon_tool_messages::failure::{is_memory, report_fault};
 use upon_tool_messages::includes::show_includes;
+use upon_tool_messages::judge::Declared;
 use upon_tool_messages::library::{Library, report_refusal};
 
 /// Returns the names that a template includes and that are neither its own nor of a template that the engine holds, in
@@ -50,19 +51,19 @@ fn is_missing(engine: &Engine<'_>, own: &str, name: &str) -> bool
     name != own && engine.get_template(name).is_none()
 }
 
-/// Says what is wrong with the text of a template, beside the files of a library, and returns whether nothing is but
-/// calls that fail, which `calls` keeps. It fails if there is no memory.
+/// Says what is wrong with the text of a template, beside the files of a library and by what templates may call, and
+/// returns whether nothing is. It fails if there is no memory.
 pub fn check_text<E: io::Write>(
     alloc: Global,
     engine: &Engine<'_>,
     library: &Library,
     name: &str,
     source: CowStr<'_>,
-    calls: &mut CallCheck<'_>,
+    callables: &Declared<'_>,
     err: &mut E,
 ) -> Result<bool, AllocError>
     ensures { IfOk result (λ is_right. (is_right ≡ true)
-        ↔ IsRightTemplate (engine_syntax engine.now) (engine_templates engine.now) name.now
+        ↔ IsRightTemplate callables.now (engine_syntax engine.now) (engine_templates engine.now) name.now
         (cow_str_bytes source.entry)) }
 {
     let template = match engine.compile(source) {
@@ -77,29 +78,29 @@ pub fn check_text<E: io::Write>(
             return Ok(false);
         }
     };
-    calls.check(alloc, name, &template, err)?;
+    let are_right = check_calls(alloc, callables, name, &template, err)?;
     let missing = missing(alloc, engine, name, &template)?;
     if missing.is_empty() {
-        return Ok(true);
+        return Ok(are_right);
     }
     show_includes(alloc, library, name, &template, missing.as_slice(), err)?;
     Ok(false)
 }
 
-/// Says what is wrong with the file of a name of a library, and returns whether nothing is but calls that fail, which
-/// `calls` keeps. It fails if there is no memory.
+/// Says what is wrong with the file of a name of a library, by what templates may call, and returns whether nothing is.
+/// It fails if there is no memory.
 pub fn check_file<E: io::Write>(
     alloc: Global,
     engine: &Engine<'_>,
     library: &Library,
     name: &str,
-    calls: &mut CallCheck<'_>,
+    callables: &Declared<'_>,
     err: &mut E,
 ) -> Result<bool, AllocError>
     ensures { let table = engine_templates engine.now in
         IfOk result (λ is_right. is_right ≡ true → (refused_as library.now name.now ≡ None)
         × ((t : TemplateMeant) → table name.now ≡ Some t
-        → IsRightTemplate (engine_syntax engine.now) table name.now t.source)) }
+        → IsRightTemplate callables.now (engine_syntax engine.now) table name.now t.source)) }
 {
     if let Some(refusal) = library.refusal(name) {
         report_refusal(alloc, name, refusal, err);
@@ -112,7 +113,7 @@ pub fn check_file<E: io::Write>(
             library,
             name,
             CowStr::Borrowed(template.source()),
-            calls,
+            callables,
             err,
         ),
         None => Ok(true),

@@ -1,5 +1,5 @@
 -- What a value weighs, about the bytes that it takes with all that is in it; and what a step makes, by that measure.
-use Rattle.std.specs.Prelude.{ℕ, ◌+◌, ◌-◌, ◌^◌, List, [], ◌∷◌, length, min, Bool, true, if◌then◌else◌, Option, Some, slice_get}
+use Rattle.std.specs.Prelude.{ℕ, ◌+◌, ◌-◌, ◌^◌, List, [], ◌∷◌, length, min, Bool, true, false, if◌then◌else◌, Option, Some, slice_get}
 use Rattle.upon_types.specs.Val.{Val, none_val, bool_val, int_val, text_val, list_val, map_val, Vals, no_vals, val_then, Entries, no_entries, entry_then}
 use Rattle.upon_meaning_spec.specs.Evaluation.{Operand}
 use Rattle.upon_machine_spec.specs.Instr.{Instr, expr_start_var, expr_list_push, expr_map_insert, apply}
@@ -42,10 +42,11 @@ put_in copied (Some expr_list_push) ops = 32 + copy_weight copied ops
 put_in copied (Some (expr_map_insert key)) ops = (32 + length key.text) + copy_weight copied ops
 put_in copied instr ops = 0
 
--- the bytes that an instruction left on top, if it starts a variable or applies a callable, and this is a copy
+-- the bytes that an instruction left on top: what a path leads to, if it starts a variable with a copy of that; what a
+-- function gave, if it applies a callable, since that is owned always
 abbrev pub started : Bool → Option Instr → List Operand → ℕ
 started copied (Some (expr_start_var first rest)) ops = copy_weight copied ops
-started copied (Some (apply name n span)) ops = copy_weight copied ops
+started copied (Some (apply name n span)) ops = copy_weight true ops
 started copied instr ops = 0
 
 -- the most bytes of values that a step makes from one state to the next: each value that may be lent is copied
@@ -58,3 +59,32 @@ abbrev pub most_of_next : {V T : Type 0} → State V T → Next V T → ℕ
 most_of_next s (goes text next) = most_made s next
 most_of_next s (stops text end q) = 0
 most_of_next s stuck = 0
+
+-- what the value weighs that an instruction's path led to, which is on top then; 0 of an instruction that starts no
+-- variable
+abbrev pub found_by : Option Instr → List Operand → ℕ
+found_by (Some (expr_start_var first rest)) ops = copy_weight true ops
+found_by instr ops = 0
+
+-- The fewest bytes that an instruction puts into a list or a map, if the step before found so many: the place of an
+-- item, or of an entry with its key; and what was found, which was copied then or is copied now.
+abbrev pub least_put_in : ℕ → Option Instr → ℕ
+least_put_in found (Some expr_list_push) = 32 + found
+least_put_in found (Some (expr_map_insert key)) = (32 + length key.text) + found
+least_put_in found instr = 0
+
+-- the fewest bytes of values that a step makes from one state to the next, if the step before found so many: no other
+-- value that may be lent is copied
+abbrev pub least_made : {V T : Type 0} → ℕ → State V T → State V T → ℕ
+least_made found s next =
+    let instr = slice_get s.active.code s.position in least_put_in found instr + started false instr next.operands
+
+-- the same of a step, whatever it does: one that ends the run makes none
+abbrev pub least_of_next : {V T : Type 0} → ℕ → State V T → Next V T → ℕ
+least_of_next found s (goes text next) = least_made found s next
+least_of_next found s (stops text end q) = 0
+least_of_next found s stuck = 0
+
+-- what the value weighs that a step's path led to, or 0 if it started no variable
+abbrev pub found_next : {V T : Type 0} → State V T → State V T → ℕ
+found_next s next = found_by (slice_get s.active.code s.position) next.operands

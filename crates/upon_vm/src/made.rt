@@ -1,10 +1,9 @@
 // What a step makes, in bytes of values: each value is counted once, when it is made. Nothing is weighed if no limit of
 // values is set.
-ghost use Rattle.std.specs.Prelude.{◌≡◌, ◌≤◌, Bool, true, IsSome, None, option_map, slice_get};
-ghost use Rattle.upon_types.specs.Cow.{cow_view};
+ghost use Rattle.std.specs.Prelude.{◌≡◌, ◌≤◌, true, not, IsSome, None, slice_get};
 ghost use Rattle.upon_compiler.specs.Program.{program_view};
 ghost use Rattle.upon_vm_steps.specs.Machine.{active_of};
-ghost use Rattle.upon_vm_steps.specs.Operands.{operands_of};
+ghost use Rattle.upon_vm_steps.specs.Operands.{is_lent_on_top, operands_of};
 ghost use Rattle.upon_vm.specs.Weight.{as_count, copy_weight, put_in, started};
 
 use crate::weight::{PLACE, weight};
@@ -22,9 +21,9 @@ pub(crate) fn bytes_put_in<'r, V: ValueSource, T: ProgramSource<'r>>(
     limit: Option<usize>,
     machine: &Machine<'r, V, T>,
 ) -> usize
-    // If a limit is set, the operand on top is copied, or it is not.
-    ensures puts { IsSome limit → (copied : Bool) × (result ≡ as_count (put_in copied
-        (slice_get (active_of machine.now.running).code machine.now.position) (operands_of machine.now.operands))) }
+    // If a limit is set, the operand on top is copied exactly if it is lent.
+    ensures puts { IsSome limit → result ≡ as_count (put_in (is_lent_on_top machine.now.operands)
+        (slice_get (active_of machine.now.running).code machine.now.position) (operands_of machine.now.operands)) }
     ensures none { limit ≡ None → result ≡ 0 }
     ensures most { result ≤ put_in true (slice_get (active_of machine.now.running).code machine.now.position)
         (operands_of machine.now.operands) }
@@ -49,9 +48,9 @@ pub(crate) fn bytes_started<'r>(
     position: usize,
     operands: &Operands<'r>,
 ) -> usize
-    // If a limit is set, what is on top is a copy, or it is not.
-    ensures starts { IsSome limit → (copied : Bool) × (result ≡ as_count (started copied
-        (slice_get (program_view program.entry.instrs.now) position) (operands_of operands.now))) }
+    // If a limit is set, what a path leads to is a copy exactly if it is owned; what a function gave counts.
+    ensures starts { IsSome limit → result ≡ as_count (started (not (is_lent_on_top operands.now))
+        (slice_get (program_view program.entry.instrs.now) position) (operands_of operands.now)) }
     ensures none { limit ≡ None → result ≡ 0 }
     ensures most { result ≤ started true (slice_get (program_view program.entry.instrs.now) position)
         (operands_of operands.now) }
@@ -60,16 +59,17 @@ pub(crate) fn bytes_started<'r>(
         return 0;
     }
     match fetch(program, position) {
-        Some(Instr::ExprStartVar(_)) | Some(Instr::Apply(_, _, _)) => weight_owned(operands),
+        Some(Instr::ExprStartVar(_)) => weight_owned(operands),
+        Some(Instr::Apply(_, _, _)) => weight_on_top(operands),
         _ => 0,
     }
 }
 
 // What the operand on top weighs if it is lent, or 0.
 fn weight_lent(operands: &Operands<'_>) -> usize
-    ensures { (copied : Bool) × (result ≡ as_count (copy_weight copied (operands_of operands.now))) }
+    ensures { result ≡ as_count (copy_weight (is_lent_on_top operands.now) (operands_of operands.now)) }
 {
-    match top(operands) {
+    match operands.on_top() {
         Some(ValueCow::Borrowed(value)) => weight(value),
         _ => 0,
     }
@@ -77,19 +77,20 @@ fn weight_lent(operands: &Operands<'_>) -> usize
 
 // What the operand on top weighs if it is owned, or 0.
 fn weight_owned(operands: &Operands<'_>) -> usize
-    ensures { (copied : Bool) × (result ≡ as_count (copy_weight copied (operands_of operands.now))) }
+    ensures { result ≡ as_count (copy_weight (not (is_lent_on_top operands.now)) (operands_of operands.now)) }
 {
-    match top(operands) {
+    match operands.on_top() {
         Some(ValueCow::Owned(value)) => weight(value),
         _ => 0,
     }
 }
 
-// The operand on top.
-fn top<'o, 'r>(operands: &'o Operands<'r>) -> Option<&'o ValueCow<'r>>
-    ensures { option_map (λ v. cow_view v.now) result
-        ≡ option_map (λ o. o.value) (slice_get (operands_of operands.now) 0) }
+// What the operand on top weighs, lent or owned, or 0 if there is none.
+fn weight_on_top(operands: &Operands<'_>) -> usize
+    ensures { result ≡ as_count (copy_weight true (operands_of operands.now)) }
 {
-    let (values, _) = operands.top(1)?;
-    values.first()
+    match operands.on_top() {
+        Some(value) => weight(value),
+        None => 0,
+    }
 }

@@ -23,14 +23,14 @@ pub struct Operands<'a> {
 }
 
 impl<'a> Operands<'a> {
-    ghost use Rattle.std.specs.Prelude.{◌≡◌, ◌==◌, ◌∷◌, [], IfOk, IfSome, OnOk, MatchOption, Some, None, List, length};
+    ghost use Rattle.std.specs.Prelude.{◌≡◌, ◌==◌, ◌∷◌, [], IfOk, IfSome, OnOk, MatchOption, Some, None, List, length, option_map, slice_get};
     ghost use Rattle.upon_types.specs.AstPath.{string_of};
     ghost use Rattle.upon_types.specs.Cow.{cow_view};
     ghost use Rattle.upon_meaning_spec.specs.Evaluation.{Operand, operand};
     ghost use Rattle.upon_machine_spec.specs.Operands.{taken};
     ghost use Rattle.upon_types.specs.View.{view};
     ghost use Rattle.upon_vm_steps.specs.Items.{with_item, with_operand_pair};
-    ghost use Rattle.upon_vm_steps.specs.Operands.{IsOnlyEntry, row, operands_of};
+    ghost use Rattle.upon_vm_steps.specs.Operands.{IsOnlyEntry, row, operands_of, value_on_top};
 
     /// No operand.
     pub fn new(alloc: Global) -> Operands<'a>
@@ -100,8 +100,17 @@ impl<'a> Operands<'a> {
         }
     }
 
+    /// Returns the value on top, or `None` if there is no operand.
+    pub fn on_top(&self) -> Option<&ValueCow<'a>>
+        ensures held { option_map (λ v. v.now) result ≡ value_on_top self.now }
+        ensures means { option_map (λ v. cow_view v.now) result
+            ≡ option_map (λ o. o.value) (slice_get (operands_of self.now) 0) }
+    {
+        self.values.last()
+    }
+
     /// So many from the top, in the order in which they were left; `None` if there are fewer.
-    pub fn top(&self, count: usize) -> Option<(&[ValueCow<'a>], &[Span])>
+    pub(crate) fn top(&self, count: usize) -> Option<(&[ValueCow<'a>], &[Span])>
         ensures { MatchOption
             result
             (taken count (operands_of self.now) ≡ None)

@@ -29,19 +29,19 @@ fn the_last_is_on_top(rt: HostRuntime) -> Result<(), Fail> {
 }
 
 #[test]
-fn so_many_from_the_top(rt: HostRuntime) -> Result<(), Fail> {
+fn the_value_on_top(rt: HostRuntime) -> Result<(), Fail> {
+    let lent = Value::Integer(3);
     let mut operands = Operands::new(rt.alloc());
+    assert!(rt; operands.on_top().is_none());
     operands.push(ValueCow::Owned(Value::Integer(1)), at(1))?;
     operands.push(ValueCow::Owned(Value::Integer(2)), at(2))?;
-    operands.push(ValueCow::Owned(Value::Integer(3)), at(3))?;
-    assert!(rt; operands.top(4).is_none());
-    let (values, spans) = operands.top(2).ok_or("none")?;
-    assert_eq!(rt; values.len(), 2);
-    assert!(rt; *values[0] == Value::Integer(2));
-    assert_eq!(rt; spans, [at(2), at(3)].as_slice());
+    operands.push(ValueCow::Borrowed(&lent), at(3))?;
+    assert!(rt; matches!(operands.on_top(), Some(ValueCow::Borrowed(Value::Integer(3)))));
     operands.drop_top(2);
-    let (value, _) = operands.pop().ok_or("none")?;
+    assert!(rt; matches!(operands.on_top(), Some(ValueCow::Owned(Value::Integer(1)))));
+    let (value, span) = operands.pop().ok_or("none")?;
     assert!(rt; *value == Value::Integer(1));
+    assert_eq!(rt; span, at(1));
     Ok(())
 }
 

@@ -8,16 +8,14 @@ use upon::Engine;
 use upon_std::table::ALL;
 use upon_tool_pages::check::check_text;
 use upon_tool_messages::judge::Declared;
-use upon_tool_messages::call_check::CallCheck;
 
 // What is said of the calls of a text, by their places and reasons.
 fn said(alloc: Global, source: &str, callables: Declared<'_>) -> Result<String, AllocError> {
     let mut engine = Engine::new(alloc);
     let library = library(alloc, &mut engine, [].as_slice())?;
-    let mut calls = CallCheck::new(callables);
     let mut err = Vec::new(alloc);
     let source = CowStr::Borrowed(source);
-    check_text(alloc, &engine, &library, "page", source, &mut calls, &mut err)?;
+    let is_right = check_text(alloc, &engine, &library, "page", source, &callables, &mut err)?;
     let mut said = String::new(alloc);
     for line in String::from_utf8_lossy(alloc, err.as_slice())?.as_str().lines() {
         for mark in ["  --> page:", "   = reason: "] {
@@ -27,7 +25,7 @@ fn said(alloc: Global, source: &str, callables: Declared<'_>) -> Result<String, 
             }
         }
     }
-    if calls.is_right() != said.is_empty() {
+    if is_right != said.is_empty() {
         said.push_str("and not so")?;
     }
     Ok(said)
@@ -118,10 +116,9 @@ fn many(rt: HostRuntime) -> Result<(), Fail> {
     for _ in 0..103 {
         source.push_str("{{ f() }}")?;
     }
-    let mut calls = CallCheck::new(all_known());
     let mut err = Vec::new(alloc);
     let source = CowStr::Borrowed(source.as_str());
-    let is_right = check_text(alloc, &engine, &library, "page", source, &mut calls, &mut err)?;
+    let is_right = check_text(alloc, &engine, &library, "page", source, &all_known(), &mut err)?;
     let said = String::from_utf8_lossy(alloc, err.as_slice())?;
     let mut pictures = 0usize;
     let mut lines = 0usize;
@@ -133,7 +130,7 @@ fn many(rt: HostRuntime) -> Result<(), Fail> {
             lines += 1;
         }
     }
-    assert!(&rt; is_right && !calls.is_right(), "only the calls are wrong");
+    assert!(&rt; !is_right, "the calls are wrong");
     assert_eq!(&rt; pictures, 100);
     assert_eq!(&rt; lines, 3);
     Ok(())

@@ -7,7 +7,6 @@ use upon::Engine;
 use upon_std::table::ALL;
 use upon_tool_pages::check::{check_file, check_text};
 use upon_tool_messages::judge::Declared;
-use upon_tool_messages::call_check::CallCheck;
 use upon_tool_messages::library::Library;
 
 // The places and the files that are said to be wrong, in their order.
@@ -39,9 +38,8 @@ fn said_of_text(
     source: &str,
 ) -> Result<String, AllocError> {
     let mut err = Vec::new(alloc);
-    let mut calls = CallCheck::new(all_known());
     let source = CowStr::Borrowed(source);
-    if check_text(alloc, engine, library, "own", source, &mut calls, &mut err)? {
+    if check_text(alloc, engine, library, "own", source, &all_known(), &mut err)? {
         return String::from_str(alloc, "right");
     }
     places(alloc, String::from_utf8_lossy(alloc, err.as_slice())?.as_str())
@@ -55,8 +53,7 @@ fn said_of_file(
     name: &str,
 ) -> Result<String, AllocError> {
     let mut err = Vec::new(alloc);
-    let mut calls = CallCheck::new(all_known());
-    if check_file(alloc, engine, library, name, &mut calls, &mut err)? {
+    if check_file(alloc, engine, library, name, &all_known(), &mut err)? {
         return String::from_str(alloc, "right");
     }
     places(alloc, String::from_utf8_lossy(alloc, err.as_slice())?.as_str())

@@ -6,16 +6,14 @@ use std::borrow::CowStr;
 use std::test::Fail;
 use upon::Engine;
 use upon_tool_pages::check::check_text;
-use upon_tool_messages::call_check::CallCheck;
 
 // The hint for a text, or nothing.
 fn hint(alloc: Global, source: &str) -> Result<String, AllocError> {
     let mut engine = Engine::new(alloc);
     let library = library(alloc, &mut engine, [].as_slice())?;
     let mut err = Vec::new(alloc);
-    let mut calls = CallCheck::new(all_known());
     let source = CowStr::Borrowed(source);
-    check_text(alloc, &engine, &library, "page", source, &mut calls, &mut err)?;
+    check_text(alloc, &engine, &library, "page", source, &all_known(), &mut err)?;
     let said = String::from_utf8_lossy(alloc, err.as_slice())?;
     match said.as_str().rsplit_once("\n   = hint: ") {
         Some((_, hint)) => String::from_str(alloc, hint.trim_end()),

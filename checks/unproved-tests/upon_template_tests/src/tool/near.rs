@@ -12,7 +12,6 @@ use upon_std::table::{ALL, StandardFunction};
 use upon_tool_pages::check::check_text;
 use upon_tool_pages::rendering::{Page, show};
 use upon_tool_messages::judge::Declared;
-use upon_tool_messages::call_check::CallCheck;
 use upon_tool_messages::library::Library;
 
 #[test]
@@ -253,9 +252,8 @@ fn checked_files(rt: HostRuntime) -> Result<(), Fail> {
         ("{% include \"foot.html\" %}", ""),
     ] {
         let mut err = Vec::new(alloc);
-        let mut calls = CallCheck::new(all_known());
         let source = CowStr::Borrowed(source);
-        check_text(alloc, &engine, &library, "own", source, &mut calls, &mut err)?;
+        check_text(alloc, &engine, &library, "own", source, &all_known(), &mut err)?;
         let hint = hint_in(alloc, err.as_slice())?;
         assert_eq!(&rt; hint.as_str(), wanted, "of {wanted}");
     }

@@ -6,4 +6,4 @@ pub returns : goal.returns
 returns c = λ templates context name options text r.
     let (each, held, tree, there, has, means) = r.means in
     let (table, is_table) = has_table (filled r.asked r.sources) each in
-    (table, held, tree, is_table, there, (means table is_table).1)
+    (table, held, tree, is_table, there, has, means table is_table)

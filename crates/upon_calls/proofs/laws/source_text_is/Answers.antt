@@ -6,4 +6,4 @@ pub returns : goal.returns
 returns c = λ source context options text r.
     let (tree, has, means) = r.means in
     let (table, is_table) = has_table (engine_for r.asked) (no_text_has_tree r.asked) in
-    (table, tree, is_table, has, (means table is_table).1)
+    (table, tree, is_table, has, means table is_table)

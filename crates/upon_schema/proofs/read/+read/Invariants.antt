@@ -1,6 +1,9 @@
-use Rattle.std.proofs.Common.{◌+◌, ◌*◌}
+use Rattle.std.proofs.Common.{◌≡◌, ℕ, List, ◌+◌, ◌*◌}
+use Rattle.upon_types.specs.Val.{Val}
+use Rattle.upon_schema.specs.Counted.{count_entries}
+use Rattle.upon_schema.specs.Refused.{HasEntry}
 use Rattle.upon_types.specs.View.{view, vals_view, entries_view}
-use Rattle.upon_schema.specs.Place.{ValidAt}
+use Rattle.upon_schema.specs.Place.{ValidAt, count_at}
 use Rattle.upon_schema.specs.Valid.{properties_of}
 use Rattle.upon_schema.proofs.KeySteps.{ReadsAhead}
 use Rattle.upon_schema.proofs.read.+read.Given as goal
@@ -23,7 +26,10 @@ decreases-keys_of l = 4 * l.place.now.depth + 2
 abbrev pub decreases-properties : goal.decreases-properties
 decreases-properties l = 4 * l.place.now.depth + 1
 
--- the keys so far lead to what is said of the properties to come
+-- the keys so far lead to what is said of the properties to come; each of those is a property
 abbrev pub invariant-properties-loop-name : goal.invariant-properties-loop-name
-invariant-properties-loop-name l =
-    ReadsAhead (ValidAt l.place) (properties_of (view l.schema)) (vals_view l.required) (entries_view l.name-iterator) l.named.items
+invariant-properties-loop-name l = record {
+  reads : ReadsAhead (ValidAt l.place) (properties_of (view l.schema)) (vals_view l.required) (entries_view l.name-iterator) l.named.items;
+  among : (key : List ℕ) (v : Val) → HasEntry key v (entries_view l.name-iterator) → HasEntry key v (properties_of (view l.schema));
+  counted : l.initial.left + count_entries (count_at l.place) (entries_view l.name-iterator) ≡ l.left + count_entries (count_at l.place) (properties_of (view l.schema));
+}

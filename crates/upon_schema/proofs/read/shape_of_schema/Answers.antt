@@ -8,8 +8,8 @@ use Rattle.upon_schema.specs.Valid.{Valid, ValidWithin}
 use Rattle.upon_schema.proofs.Fitting.{ok_more}
 use Rattle.upon_schema.proofs.read.shape_of_schema.Goals as goal
 
-pub returns : goal.returns
-returns c =
+pub returns-clause-fits : goal.returns-clause-fits
+returns-clause-fits c =
     let schema = view c.args.schema.now in
     ok_more c.read.result (λ (s : Shape). Covers (shape_view s) (ValidWithin 128 schema schema)) (λ (s : Shape). (v : Val) → MapsRise v → Valid schema v → Fits (shape_view s) v)
-    (λ s f v rise h. f v rise (h 128)) c.read.ensures
+    (λ s f v rise h. f v rise (h 128)) c.read.ensures.covers

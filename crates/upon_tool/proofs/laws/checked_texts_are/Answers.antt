@@ -7,4 +7,4 @@ pub returns : goal.returns
 returns g c = λ call input r.
     let (table, is_table) = has_table r.folder r.trees in
     let (texts, later, are, right) = r.checked in
-    (table, texts, later, is_table, are, right refl table is_table, each_by r.folder table is_table (map (λ file. string_bytes file.name) r.files) (r.folder_checked refl))
+    (table, texts, later, is_table, are, right refl table is_table, r.may_call, each_by r.callables r.folder table is_table (map (λ file. string_bytes file.name) r.files) (r.folder_checked refl))

@@ -2,10 +2,9 @@ use Rattle.std.proofs.Common.{List, ℕ, [], ◌∷◌, ◌++◌, get_or, ap, sy
 use Rattle.upon_engine.specs.Texts.{Stored}
 use Rattle.upon_calls.specs.Filled.{engine_for, filled, with_sources}
 use Rattle.upon_calls.proofs.Filled.{sources_more}
-use Rattle.upon_calls.proofs.Tables.{has_table}
+use Rattle.upon_calls.proofs.Tables.{added, ends_by, has_table}
 use Rattle.upon_tool_pages.specs.Fitting.{asked_of}
 use Rattle.upon_tool.specs.Fitting.{texts_read}
-use Rattle.upon_tool.proofs.OneTable.{added, ends_by}
 use Rattle.upon_tool.proofs.laws.fitting_files_end.Goals as goal
 
 pub returns : goal.returns

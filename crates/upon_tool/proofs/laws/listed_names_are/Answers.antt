@@ -1,7 +1,6 @@
 use Rattle.std.proofs.Common.{refl}
 use Rattle.upon_engine.specs.Changes.{with_text}
-use Rattle.upon_calls.proofs.Tables.{has_table}
-use Rattle.upon_tool.proofs.OneTable.{added, of_held}
+use Rattle.upon_calls.proofs.Tables.{added, has_table, of_held}
 use Rattle.upon_tool.proofs.laws.listed_names_are.Goals as goal
 
 pub returns : goal.returns

@@ -1,22 +1,22 @@
-use Rattle.std.proofs.Common.{◌≡◌, ◌∙◌, None, Some, ap, refl, inl, inr}
-use Rattle.std.specs.Prelude.{if◌then◌else◌}
+use Rattle.std.proofs.Common.{◌∙◌, inl, inr, refl}
 use Rattle.upon_engine.specs.Changes.{with_text}
 use Rattle.upon_tool_many.specs.Each.{DoesItem, NamesItem}
-use Rattle.upon_calls.proofs.Tables.{has_table}
-use Rattle.upon_tool.specs.ByTable.{PutsItem}
-use Rattle.upon_tool.specs.Calls.{each_asked, limits_asked}
-use Rattle.upon_tool.specs.Filled.{standard_functions}
+use Rattle.upon_calls.proofs.Tables.{added, has_table}
+use Rattle.upon_tool.specs.ByTable.{EndsItem, PutsItem}
+use Rattle.upon_tool.specs.Calls.{each_asked}
+use Rattle.upon_calls.specs.Filled.{functions_if}
 use Rattle.upon_tool.proofs.Filled.{begun_syntax, takes_syntax}
-use Rattle.upon_tool.proofs.OneTable.{added, in_order}
-use Rattle.upon_tool.proofs.PagesByTable.{item_done}
+use Rattle.upon_tool.proofs.OneTable.{done_of, in_order}
+use Rattle.upon_tool.proofs.PagesByTable.{item_ends, item_put}
 use Rattle.upon_tool.proofs.laws.pages_of_items_are.Goals as goal
 
 pub returns : goal.returns
-returns g c = λ call input was now r utf8 unlimited.
+returns g c = λ call input was now r utf8.
+    let world = g.R.Sources.world c.args.sources.now in
     let e = with_text call.render.file.now r.text r.folder in
+    let asked = each_asked call in
     let (table, is_table) = has_table e r.trees in
-    let syntax = takes_syntax r.files _ r.folder r.taken ∙ begun_syntax call.render.escape (standard_functions call.render.standard) in
-    let none : (each_asked call).limits ≡ None = ap (λ b. if b then Some (limits_asked call.render) else None) unlimited in
+    let syntax = takes_syntax r.files _ r.folder r.taken ∙ begun_syntax call.render.escape (functions_if call.render.standard) in
     elim r.rendered [
       | inl (done, does, well) ↦ (
         table,
@@ -24,8 +24,8 @@ returns g c = λ call input was now r utf8 unlimited.
         does.items,
         is_table,
         does.listed,
-        in_order call.keep_going (DoesItem (g.R.Sources.world c.args.sources.now) e (each_asked call) does.others) (NamesItem e (each_asked call) does.others) (PutsItem (g.R.Sources.world c.args.sources.now) e table (each_asked call) does.others)
-            (item_done (g.R.Sources.world c.args.sources.now) e table is_table syntax (each_asked call) does.others _ none utf8 (added call.render.file.now r.text r.folder)) does.items does.pages done was now does.named (well refl) does.done_in_order,
+        in_order call.keep_going (EndsItem world e table asked does.others) (PutsItem world e table asked does.others) (item_put world e table asked does.others) does.items done was now (well refl)
+            (done_of call.keep_going (DoesItem world e asked does.others) (NamesItem e asked does.others) (EndsItem world e table asked does.others) (item_ends world e table is_table syntax asked does.others _ utf8 (added call.render.file.now r.text r.folder)) does.items does.pages done was now does.named does.done_in_order),
       )
       | inr (not, kept) ↦ absurd (not refl)
     ]

@@ -24,8 +24,10 @@ returns-clause-ends g c = IfOk-weaker c.carry_out.result _ _ (λ status said. re
   listed = c.in_ok-files.ensures.files;
   taken = subst (λ functions. TakesFiles c.in_ok-files.files.items (tool_engine None functions) said.1.0) c.as_slice.ensures said.1.1;
   trees = subst EachHasTree said.1.2 said.2;
-  checked = subst (λ names. ChecksFiles (g.R.Sources.world c.args.rt.now) said.1.0 names (g.I.Read.remaining c.args.input.now) status) c.as_slice-2.ensures.value (subst (λ e. ChecksFiles (g.R.Sources.world c.args.rt.now) e c.as_slice-2.result.now (g.I.Read.remaining c.args.input.now) status) said.1.2 said.3.2);
-  folder_checked = λ zero. subst (λ e. EachFileIsRight e c.in_ok-files.files.items) said.1.2 (said.4 tt zero);
+  callables = c.callables.result;
+  may_call = c.callables.ensures;
+  checked = subst (λ names. ChecksFiles (g.R.Sources.world c.args.rt.now) c.callables.result said.1.0 names (g.I.Read.remaining c.args.input.now) status) c.as_slice-2.ensures.value (subst (λ e. ChecksFiles (g.R.Sources.world c.args.rt.now) c.callables.result e c.as_slice-2.result.now (g.I.Read.remaining c.args.input.now) status) said.1.2 said.3.2);
+  folder_checked = λ zero. subst (λ e. EachFileIsRight c.callables.result e c.in_ok-files.files.items) said.1.2 (said.4 zero);
 }) c.carry_out.ensures.ends
 
 pub returns-clause-refused : goal.returns-clause-refused

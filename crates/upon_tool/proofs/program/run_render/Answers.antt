@@ -2,7 +2,8 @@ use Rattle.std.proofs.Common.{string_bytes, subst}
 use Rattle.std.proofs.lemmas.Result.{IfOk-weaker}
 use Rattle.upon_types.specs.View.{view}
 use Rattle.upon_tool.specs.Calls.{limits_asked}
-use Rattle.upon_tool.specs.Filled.{tool_engine, standard_functions, TakesFiles}
+use Rattle.upon_calls.specs.Filled.{functions_if}
+use Rattle.upon_tool.specs.Filled.{tool_engine, TakesFiles}
 use Rattle.upon_tool.specs.Work.{output_name}
 use Rattle.upon_tool.proofs.Calls.{context_read, data_refused, no_context, unread_file, unread_parts, wrong_words}
 use Rattle.upon_tool.proofs.Filled.{page_filed, page_shown}
@@ -43,12 +44,12 @@ returns-clause-ends g c = IfOk-weaker c.carry_out.result _ _ (λ status said. re
   trees = subst EachHasTree said.1.2 said.2;
   shown = λ standard. (
     (said.3.0 standard).0,
-    page_shown c.args.call.now.escape (standard_functions c.args.call.now.standard) c.in_ok-files.files.items said.1.0 said.0 c.args.call.now.file.now (view c.in_ok-value.value) c.limits_of.result (limits_asked c.args.call.now) (string_bytes c.in_ok-source.source) status (g.O.Write.contents c.args.out.now) (g.O.Write.contents c.carry_out.new.out)
+    page_shown c.args.call.now.escape (functions_if c.args.call.now.standard) c.in_ok-files.files.items said.1.0 said.0 c.args.call.now.file.now (view c.in_ok-value.value) c.limits_of.result (limits_asked c.args.call.now) (string_bytes c.in_ok-source.source) status (g.O.Write.contents c.args.out.now) (g.O.Write.contents c.carry_out.new.out)
         (subst (λ functions. TakesFiles c.in_ok-files.files.items (tool_engine c.args.call.now.escape functions) said.1.0) c.standard.ensures said.1.1) said.1.2 said.2 c.limits_of.ensures (said.3.0 standard).1,
   );
   filed = λ file. (
     (said.3.1 file).0,
-    page_filed c.args.call.now.escape (standard_functions c.args.call.now.standard) c.in_ok-files.files.items said.1.0 said.0 c.args.call.now.file.now (view c.in_ok-value.value) c.limits_of.result (limits_asked c.args.call.now) (string_bytes c.in_ok-source.source) (output_name c.args.call.now.out) status (g.T.Targets.written c.args.targets.now) (g.T.Targets.written c.carry_out.new.targets)
+    page_filed c.args.call.now.escape (functions_if c.args.call.now.standard) c.in_ok-files.files.items said.1.0 said.0 c.args.call.now.file.now (view c.in_ok-value.value) c.limits_of.result (limits_asked c.args.call.now) (string_bytes c.in_ok-source.source) (output_name c.args.call.now.out) status (g.T.Targets.written c.args.targets.now) (g.T.Targets.written c.carry_out.new.targets)
         (subst (λ functions. TakesFiles c.in_ok-files.files.items (tool_engine c.args.call.now.escape functions) said.1.0) c.standard.ensures said.1.1) said.1.2 said.2 c.limits_of.ensures (said.3.1 file).1,
   );
 }) c.carry_out.ensures.ends

@@ -9,10 +9,12 @@ use Rattle.upon_calls.specs.Escaping.{language_format}
 use Rattle.upon_calls.specs.Filled.{escaping_engine}
 use Rattle.upon_tool_pages.specs.Fitting.{language_for}
 use Rattle.upon_tool.specs.Filled.{tool_engine, with_page, TakesFiles, TakesRead}
-use Rattle.upon_tool.specs.Work.{checked_files, IsUnreadOf}
+use Rattle.upon_tool_pages.specs.Missing.{LibraryIsRight}
+use Rattle.upon_tool.specs.Work.{checked_files, IfChecked, IsUnreadOf}
 use Rattle.upon_tool.proofs.Calls.{work_out_of_memory, work_refused}
-use Rattle.upon_tool.proofs.Filled.{all_added, check_kept, file_taken, function_added, if_both, no_page, none_taken, page_put, page_refused, read_passed, read_taken, taken_from, with_escape, without_escape, work_kept}
-use Rattle.upon_tool.proofs.FolderFiles.{folder_begun, folder_ended, folder_more, files_right, took_text, Took}
+use Rattle.upon_calls.proofs.Filled.{function_added, with_language, without_language}
+use Rattle.upon_tool.proofs.Filled.{all_added, file_taken, if_both, no_page, none_taken, page_put, page_refused, read_passed, read_taken, taken_from, work_kept}
+use Rattle.upon_tool.proofs.FolderFiles.{folder_begun, folder_checked, folder_ended, folder_more, took_text, Took}
 use Rattle.upon_tool.proofs.work.carry_out.OwnLists.{own-1, own-2, at-1-1, at-1-2, at-2-1}
 use Rattle.upon_tool.proofs.work.carry_out.Goals.{in-Some+in_ok-new+in_ok-add_formatter+in_ok-new-2, in_default, in-Ok+in_ok-refusal-in-Ok, in-Err+in_ok-of_read-in-Err, in-Some-page+in_ok-add_template, in_default-page}
 use Rattle.upon_tool.proofs.work.carry_out.Goals as goal
@@ -51,8 +53,8 @@ returns-in_err-add-clause-refused g c = work_out_of_memory (g.R.Sources.world c.
 pub returns-in_err-add_template-clause-refused : goal.returns-in_err-add_template-clause-refused
 returns-in_err-add_template-clause-refused g c =
     let start : texts_of (λ f. (own-1.entry f.vtable).1.formats f.value) (λ f. (own-2.entry f.vtable).1.answers f.value) c.match-language_for.engine ≡ escaping_engine (language_for c.args.templates.escape) = elim c.match-language_for.branch [
-      | in-Some+in_ok-new+in_ok-add_formatter+in_ok-new-2 w ↦ ap (λ x. texts_of (λ f. (own-1.entry f.vtable).1.formats f.value) (λ f. (own-2.entry f.vtable).1.answers f.value) x) w.engine-is ∙ with_escape _ _ _ _ _ (language_for c.args.templates.escape) w.in-Some.language (sym c.language_for.ensures ∙ w.in-Some.is) c.new-engine.ensures w.in_ok-add_formatter.ensures.engine (boxed_reads own-1 at-1-1 _ (λ j v. j.1.formats v) _ _ _ w.into_dyn_box.ensures.1) w.set_default_formatter.ensures (boxed_reads own-1 at-1-2 _ (λ j v. j.1.formats v) _ _ _ w.into_dyn_box-in_ok-new-2.ensures.1 ∙ ap (λ e. language_format e.language) w.in_ok-new-2.ensures.ok)
-      | in_default w ↦ ap (λ x. texts_of (λ f. (own-1.entry f.vtable).1.formats f.value) (λ f. (own-2.entry f.vtable).1.answers f.value) x) w.engine-is ∙ without_escape _ (language_for c.args.templates.escape) (sym c.language_for.ensures ∙ w.in_default.is) c.new-engine.ensures
+      | in-Some+in_ok-new+in_ok-add_formatter+in_ok-new-2 w ↦ ap (λ x. texts_of (λ f. (own-1.entry f.vtable).1.formats f.value) (λ f. (own-2.entry f.vtable).1.answers f.value) x) w.engine-is ∙ with_language _ _ _ _ _ (language_for c.args.templates.escape) w.in-Some.language (sym c.language_for.ensures ∙ w.in-Some.is) c.new-engine.ensures w.in_ok-add_formatter.ensures.engine (boxed_reads own-1 at-1-1 _ (λ j v. j.1.formats v) _ _ _ w.into_dyn_box.ensures.1) w.set_default_formatter.ensures (boxed_reads own-1 at-1-2 _ (λ j v. j.1.formats v) _ _ _ w.into_dyn_box-in_ok-new-2.ensures.1 ∙ ap (λ e. language_format e.language) w.in_ok-new-2.ensures.ok)
+      | in_default w ↦ ap (λ x. texts_of (λ f. (own-1.entry f.vtable).1.formats f.value) (λ f. (own-2.entry f.vtable).1.answers f.value) x) w.engine-is ∙ without_language _ (language_for c.args.templates.escape) (sym c.language_for.ensures ∙ w.in_default.is) c.new-engine.ensures
     ] in
     let begun : texts_of (λ f. (own-1.entry f.vtable).1.formats f.value) (λ f. (own-2.entry f.vtable).1.answers f.value) c.loop-function.engine ≡ tool_engine c.args.templates.escape c.args.templates.functions.now = all_added c.args.templates.functions.now c.loop-function.function-index c.args.templates.escape _ _ c.loop-function-test.false c.loop-function.invariant.1 start in
     let folder : Texts = texts_of (λ f. (own-1.entry f.vtable).1.formats f.value) (λ f. (own-2.entry f.vtable).1.answers f.value) c.loop-file.engine in
@@ -62,8 +64,8 @@ returns-in_err-add_template-clause-refused g c =
 pub returns-clause-ends : goal.returns-clause-ends
 returns-clause-ends g c =
     let start : texts_of (λ f. (own-1.entry f.vtable).1.formats f.value) (λ f. (own-2.entry f.vtable).1.answers f.value) c.match-language_for.engine ≡ escaping_engine (language_for c.args.templates.escape) = elim c.match-language_for.branch [
-      | in-Some+in_ok-new+in_ok-add_formatter+in_ok-new-2 w ↦ ap (λ x. texts_of (λ f. (own-1.entry f.vtable).1.formats f.value) (λ f. (own-2.entry f.vtable).1.answers f.value) x) w.engine-is ∙ with_escape _ _ _ _ _ (language_for c.args.templates.escape) w.in-Some.language (sym c.language_for.ensures ∙ w.in-Some.is) c.new-engine.ensures w.in_ok-add_formatter.ensures.engine (boxed_reads own-1 at-1-1 _ (λ j v. j.1.formats v) _ _ _ w.into_dyn_box.ensures.1) w.set_default_formatter.ensures (boxed_reads own-1 at-1-2 _ (λ j v. j.1.formats v) _ _ _ w.into_dyn_box-in_ok-new-2.ensures.1 ∙ ap (λ e. language_format e.language) w.in_ok-new-2.ensures.ok)
-      | in_default w ↦ ap (λ x. texts_of (λ f. (own-1.entry f.vtable).1.formats f.value) (λ f. (own-2.entry f.vtable).1.answers f.value) x) w.engine-is ∙ without_escape _ (language_for c.args.templates.escape) (sym c.language_for.ensures ∙ w.in_default.is) c.new-engine.ensures
+      | in-Some+in_ok-new+in_ok-add_formatter+in_ok-new-2 w ↦ ap (λ x. texts_of (λ f. (own-1.entry f.vtable).1.formats f.value) (λ f. (own-2.entry f.vtable).1.answers f.value) x) w.engine-is ∙ with_language _ _ _ _ _ (language_for c.args.templates.escape) w.in-Some.language (sym c.language_for.ensures ∙ w.in-Some.is) c.new-engine.ensures w.in_ok-add_formatter.ensures.engine (boxed_reads own-1 at-1-1 _ (λ j v. j.1.formats v) _ _ _ w.into_dyn_box.ensures.1) w.set_default_formatter.ensures (boxed_reads own-1 at-1-2 _ (λ j v. j.1.formats v) _ _ _ w.into_dyn_box-in_ok-new-2.ensures.1 ∙ ap (λ e. language_format e.language) w.in_ok-new-2.ensures.ok)
+      | in_default w ↦ ap (λ x. texts_of (λ f. (own-1.entry f.vtable).1.formats f.value) (λ f. (own-2.entry f.vtable).1.answers f.value) x) w.engine-is ∙ without_language _ (language_for c.args.templates.escape) (sym c.language_for.ensures ∙ w.in_default.is) c.new-engine.ensures
     ] in
     let begun : texts_of (λ f. (own-1.entry f.vtable).1.formats f.value) (λ f. (own-2.entry f.vtable).1.answers f.value) c.loop-function.engine ≡ tool_engine c.args.templates.escape c.args.templates.functions.now = all_added c.args.templates.functions.now c.loop-function.function-index c.args.templates.escape _ _ c.loop-function-test.false c.loop-function.invariant.1 start in
     let folder : Texts = texts_of (λ f. (own-1.entry f.vtable).1.formats f.value) (λ f. (own-2.entry f.vtable).1.answers f.value) c.loop-file.engine in
@@ -75,7 +77,7 @@ returns-clause-ends g c =
     ] in
     let so_far = folder_ended c.loop-file.library folder _ _ c.args.templates.files.items (nil_from_length (into_iter_items c.loop-file.file-iterator) (sym c.loop-file.file-iterator.rest.ok.0 ∙ c.in-None.ensures.steps.0)) c.into_iter-file-iterator.ensures.into_iter_gives.0 c.loop-file.invariant.2 in
     let same = c.loop-file.invariant.3 ∙ c.loop-function.invariant.2 in
-    IfOk-weaker c.do_work.result _ _ (λ status said. (whole, (folder, filled, put), c.held_has_tree.ensures, work_kept (g.R.Sources.world c.args.rt.now) c.args.work _ whole (g.I.Read.remaining c.args.input.now) status (g.O.Write.contents c.args.out.now) (g.O.Write.contents c.do_work.new.out) (g.T.Targets.written c.args.targets.now) (g.T.Targets.written c.do_work.new.targets) same said.0, λ check zero. files_right c.loop-file.library folder whole c.args.templates.page c.args.templates.files.items put so_far (said.1 (check_kept c.args.work _ same check) zero))) (if_both _ _ c.do_work.result c.do_work.ensures.ends c.do_work.ensures.folder)
+    IfOk-weaker c.do_work.result _ _ (λ status said. (whole, (folder, filled, put), c.held_has_tree.ensures, work_kept (g.R.Sources.world c.args.rt.now) c.args.work _ whole (g.I.Read.remaining c.args.input.now) status (g.O.Write.contents c.args.out.now) (g.O.Write.contents c.do_work.new.out) (g.T.Targets.written c.args.targets.now) (g.T.Targets.written c.do_work.new.targets) same said.0, λ zero. folder_checked c.args.work c.loop-file.library folder whole c.args.templates.page c.args.templates.files.items put so_far (subst (λ work. IfChecked work (λ callables. LibraryIsRight callables whole c.loop-file.library)) same (said.1 zero)))) (if_both _ _ c.do_work.result c.do_work.ensures.ends c.do_work.ensures.folder)
 
 pub returns-clause-refused : goal.returns-clause-refused
 returns-clause-refused g c =

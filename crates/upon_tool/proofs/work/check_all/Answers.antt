@@ -12,7 +12,7 @@ returns-clause-checks g c =
       | then-is_right+then-is_whole w ↦ λ is. w.if-is_right.true
       | else-is_right w ↦ λ is. absurd (one_no_success c.if-is_right.result w.result-is is)
     ] in
-    checked_by (g.R.Sources.world c.args.rt.now) (texts_of (λ f. (g.dyn-1.0.entry f.vtable).1.formats f.value) (λ f. (g.dyn-2.0.entry f.vtable).1.answers f.value) c.args.engine.now) c.args.names.now _ _ c.if-is_right.result c.in_ok-is_right.is_right _ c.templates_are_the_table.ensures c.one_table.ensures c.in_ok-is_right.ensures.right zero
+    checked_by c.args.callables.now (g.R.Sources.world c.args.rt.now) (texts_of (λ f. (g.dyn-1.0.entry f.vtable).1.formats f.value) (λ f. (g.dyn-2.0.entry f.vtable).1.answers f.value) c.args.engine.now) c.args.names.now _ _ c.if-is_right.result c.in_ok-is_right.is_right _ c.templates_are_the_table.ensures c.one_table.ensures c.in_ok-is_right.ensures.right zero
 
 pub returns-clause-folder : goal.returns-clause-folder
 returns-clause-folder g c =
@@ -20,4 +20,4 @@ returns-clause-folder g c =
       | then-is_right+then-is_whole w ↦ λ is. w.if-is_whole.true
       | else-is_right w ↦ λ is. absurd (one_no_success c.if-is_right.result w.result-is is)
     ] in
-    λ is. library_right (texts_of (λ f. (g.dyn-1.0.entry f.vtable).1.formats f.value) (λ f. (g.dyn-2.0.entry f.vtable).1.answers f.value) c.args.engine.now) c.args.library.now _ c.templates_are_the_table.ensures c.one_table.ensures (c.in_ok-is_whole.ensures (zero is))
+    λ is. library_right c.args.callables.now (texts_of (λ f. (g.dyn-1.0.entry f.vtable).1.formats f.value) (λ f. (g.dyn-2.0.entry f.vtable).1.answers f.value) c.args.engine.now) c.args.library.now _ c.templates_are_the_table.ensures c.one_table.ensures (c.in_ok-is_whole.ensures (zero is))

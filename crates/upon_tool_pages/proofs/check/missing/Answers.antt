@@ -5,7 +5,7 @@ use Rattle.upon_meaning_spec.specs.Includes.{Includes}
 use Rattle.upon_needs.specs.Names.{texts}
 use Rattle.upon_engine.specs.Template.{template_of, template_tree}
 use Rattle.upon_tool_pages.specs.Missing.{is_nowhere}
-use Rattle.upon_tool_pages.proofs.Kept.{kept, kept_one, kept_past, kept_contains}
+use Rattle.upon_calls.proofs.Kept.{kept, kept_one, kept_past, kept_contains}
 use Rattle.upon_tool_pages.proofs.check.missing.Goals.{then-is_missing+in_ok-push, else-is_missing}
 use Rattle.upon_tool_pages.proofs.check.missing.Goals as goal
 

@@ -6,5 +6,5 @@ returns-in-Ok g c = record {
   schema = view c.in_ok-schema.schema;
   later = g.I.Read.remaining c.read_value.new.input;
   read = c.in_ok-schema.ensures.read;
-  fit = c.in-Ok.ensures;
+  fit = c.in-Ok.ensures.fits;
 }

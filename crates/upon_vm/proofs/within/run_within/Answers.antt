@@ -8,6 +8,7 @@ use Rattle.upon_vm_steps.specs.Acts.{calls_on, stop_or_memory}
 use Rattle.upon_vm_steps.specs.Machine.{state_of}
 use Rattle.upon_vm.proofs.Fewer.{fewer}
 use Rattle.upon_vm_steps.proofs.Keeps.{kept_on}
+use Rattle.upon_vm.proofs.Turns.{leaves_most}
 use Rattle.upon_vm.proofs.WithinWay.{leaves_all}
 use Rattle.upon_vm.proofs.WithinTurns.{grown_on, grown_so, grown_within, within_asks, within_ended, within_failed, within_first, within_frames, within_nearer, within_not_stuck, within_on, within_room, within_steps, within_stop, within_values}
 use Rattle.upon_vm.proofs.within.run_within.Goals as goal
@@ -127,8 +128,8 @@ returns-in_default-spend-clause-ran g c known starts =
     let h = c.turns.invariant.going known starts in
     let did = c.in-Went.ensures.did known.values known.ask (within_asks h) in
     let next = state_of g.V.ValueSource.value_state g.T.ProgramSource.template_state known.values c.take_turn.new.machine in
-    within_values h c.in-Went.flow c.in-Some.fewer c.in-Went.rest (stop_or_memory c.take_turn.new.stop) (g.W.Output.given c.take_turn.new.out) c.take_turn.new.machine
-    c.saturating_add-made.result c.at_limit-in_default-spend.result next.asked (sym c.end_of.ensures ∙ c.in_default-end_of.is) c.in-Some.ensures (omega (arith, c.bytes_put_in-put_in.ensures.most, c.bytes_started-started.ensures.most)) did c.in-Went.ensures.kept
+    within_values h c.in-Went.flow c.in-Went.rest (stop_or_memory c.take_turn.new.stop) (g.W.Output.given c.take_turn.new.out) c.take_turn.new.machine
+    c.saturating_add-made.result c.at_limit-in_default-spend.result next.asked (sym c.end_of.ensures ∙ c.in_default-end_of.is) (omega (arith, c.bytes_put_in-put_in.ensures.most, c.bytes_started-started.ensures.most)) did
     c.in_default-spend.ensures c.at_limit-in_default-spend.ensures
 
 pub turns-preserved : goal.turns-preserved
@@ -143,7 +144,9 @@ turns-preserved g c = record {
       let h = c.turns.invariant.going known starts in
       let did = c.in-Went.ensures.did known.values known.ask (within_asks h) in
       within_on h c.in-Went.flow c.in-Some.fewer c.in-Went.rest c.saturating_add-made.result (stop_or_memory c.take_turn.new.stop) (g.W.Output.given c.take_turn.new.out) c.take_turn.new.machine
-      (sym c.end_of.ensures ∙ c.in_default-end_of.is) c.in-Some.ensures (omega (arith, c.bytes_put_in-put_in.ensures.most, c.bytes_started-started.ensures.most)) did c.in-Went.ensures.kept;
+      (sym c.end_of.ensures ∙ c.in_default-end_of.is) c.in-Some.ensures (omega (arith, c.bytes_put_in-put_in.ensures.most, c.bytes_started-started.ensures.most))
+      (λ set. let put = c.bytes_put_in-put_in.ensures.puts set in let on_top = c.bytes_started-started.ensures.starts set in omega (arith, put, on_top))
+      (leaves_most c.args.limits.values c.in-Some-spend.field-0 c.saturating_add-made.result c.in-Some-spend.ensures) did c.in-Went.ensures.kept;
   enough =
       let before = c.turns.invariant.enough in
       let h = c.turns.invariant.going before.0 before.1 in

@@ -3,7 +3,7 @@ use Rattle.std.specs.List.{list_any}
 use Rattle.std.proofs.lemmas.List.{drop_more}
 use Rattle.upon_needs.specs.Names.{texts}
 use Rattle.upon_needs.proofs.SetsOfNames.{insert_step}
-use Rattle.upon_calls.proofs.includes.set_of.Goals as goal
+use Rattle.upon_needs.proofs.places.set_of.Goals as goal
 
 pub loop-name-preserved : goal.loop-name-preserved
 loop-name-preserved c = λ name.

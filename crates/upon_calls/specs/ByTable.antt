@@ -1,0 +1,31 @@
+-- What renderings and checks give by one table of the trees of the texts that an engine holds.
+use Rattle.std.specs.Prelude.{◌≡◌, ◌⊎◌, ℕ, List, Some, None}
+use Rattle.upon_types.specs.Fault.{Fault}
+use Rattle.upon_types.specs.Tree.{Statements}
+use Rattle.upon_types.specs.Val.{Val}
+use Rattle.upon_language_spec.specs.Grammar.{HasTree}
+use Rattle.upon_meaning_spec.specs.Alone.{fault_of_end}
+use Rattle.upon_meaning_spec.specs.CallFaults.{depth_reached}
+use Rattle.upon_meaning_spec.specs.Engine.{Table, Template}
+use Rattle.upon_shape_spec.specs.Fits.{Fits}
+use Rattle.upon_shape_spec.specs.Shape.{Shape}
+use Rattle.upon_vm.specs.declared.limits.Limits.{Limits}
+use Rattle.upon_engine.specs.Texts.{Stored, Texts}
+use Rattle.upon_engine.specs.Theorem.{meaning}
+use Rattle.upon_calls.specs.Rendering.{EndsWithBy, IsFirstFaultOf}
+
+-- the rendering of the template of a name on a value ends with a fault
+abbrev pub FailsNamedBy : Limits → Texts → Table → List ℕ → Val → Fault → Type 0
+FailsNamedBy limits e table name v fault = (held : Stored) × (tree : Statements) × (e.texts name ≡ Some held)
+    × ∥ HasTree held.syntax held.text tree ∥₁ × EndsWithBy limits e table (Some name) held.text tree v fault
+
+-- a text has a first fault, or its rendering on a value ends with one
+abbrev pub FailsTextBy : Limits → Texts → Table → List ℕ → Val → Fault → Type 0
+FailsTextBy limits e table source v fault = IsFirstFaultOf e.syntax source fault
+    ⊎ ((tree : Statements) × HasTree e.syntax source tree × EndsWithBy limits e table None source tree v fault)
+
+-- what the template that a table has of a name means on each value of a shape ends without a fault, but that includes
+-- may be too deep one inside another
+abbrev pub NamedEnds : Texts → Table → List ℕ → Shape → Type 0
+NamedEnds e table name s = (t : Template) × (table name ≡ Some t) × ((v : Val) (f : Fault) → Fits s v
+    → fault_of_end e.depth (meaning e table (Some name) t.source t.tree v).end ≡ Some f → f ≡ depth_reached e.depth)
