@@ -1,5 +1,5 @@
 -- Pages that are checked: their names, and that they end on each context.
-use Rattle.std.proofs.Common.{◌≡◌, ◌<◌, ◌≤◌, ◌+◌, ◌∙◌, ◌∷◌, ◌++◌, [], ℕ, List, true, false, Bor, Option, Some, None, Contains, Result, Ok, Err, IfOk, String, Global, string_bytes, arith, length, take, get_or, map, refl, sym, ap, subst}
+use Rattle.std.proofs.Common.{◌≡◌, ◌<◌, ◌≤◌, ◌+◌, ◌∙◌, ◌∷◌, ◌++◌, [], ℕ, List, Bor, Option, Some, Result, Ok, Err, IfOk, String, Global, string_bytes, arith, length, take, get_or, map, refl, sym, ap, subst}
 use Rattle.std.specs.Prelude.{All}
 use Rattle.std.proofs.lemmas.List.{take_all, take_more}
 use Rattle.std.proofs.lemmas.List.Elements.{All-push, All-same}
@@ -16,7 +16,10 @@ use Rattle.upon_calls.specs.Check.{AreRight}
 use Rattle.upon_calls.specs.Contexts.{checked_pages, AreThere, Contexts, EndsOnEach, PagesEndIf}
 use Rattle.upon_calls.specs.Filled.{filled}
 use Rattle.upon_calls.specs.Templates.{lent_pairs}
+use Rattle.upon_calls.specs.Rendering.{EachHasTree}
+use Rattle.upon_calls.specs.Work.{IsOneUnsure, PagesFit, TellsOfPages}
 use Rattle.upon_calls.specs.declared.failure.Failure.{Failure}
+use Rattle.upon_calls.specs.declared.work.Pages.{Pages}
 use Rattle.upon_calls.proofs.Each.{texts_pushed}
 
 -- ---- the names of all templates
@@ -69,7 +72,8 @@ right_on (Ok text) asked given s pages templates sources names is right there na
 }
 right_on (Err f) asked given s pages templates sources names is right there named ends = tt
 
--- each text that is held has a tree where pages end
-pub with_trees : (P Q : Type 0) (r : Result (String Global) Failure) → P → IfOk r (λ text. string_bytes text ≡ [] → Q) → IfOk r (λ text. string_bytes text ≡ [] → P × Q)
-with_trees P Q (Ok text) trees said = λ empty. (trees, said empty)
-with_trees P Q (Err f) trees said = tt
+-- what a text tells of pages, where each text that is held has a tree
+pub tells_of : (e : Texts) (pages : Pages) (r : Result (String Global) Failure) → EachHasTree e → IfOk r (λ text. string_bytes text ≡ [] → PagesFit e pages)
+    → IfOk r (λ text. (string_bytes text ≡ [] → ⊥) → IsOneUnsure e pages) → IfOk r (λ text. TellsOfPages e pages (string_bytes text))
+tells_of e pages (Ok text) trees fits unsure = record { trees = trees; fits = fits; unsure = unsure }
+tells_of e pages (Err f) trees fits unsure = tt

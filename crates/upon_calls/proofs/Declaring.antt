@@ -1,5 +1,6 @@
 -- What is declared of callables and of how values are written, which an engine keeps.
-use Rattle.std.proofs.Common.{◌≡◌, ◌∙◌, ℕ, List, [], ◌∷◌, Bool, true, false, cond, Option, Some, None, Result, Ok, Err, IfOk, codes, bytes_eq, refl, sym, ap, subst}
+use Rattle.std.proofs.Common.{◌≡◌, ◌∙◌, ℕ, List, [], ◌∷◌, Bool, true, false, cond, Option, Some, None, codes, bytes_eq, refl, sym, ap, subst}
+use mathlib.Core.Path.{fun_ext}
 use Rattle.std.specs.Map.{update}
 use Rattle.upon_types.specs.Answers.{Callable, formatter, function, well}
 use Rattle.upon_types.specs.Val.{Val, none_val, bool_val, int_val, text_val, list_val, map_val}
@@ -7,13 +8,11 @@ use Rattle.upon_meaning_spec.specs.DefaultFormat.{default_format, formatter_or_d
 use Rattle.upon_shape_spec.specs.Declared.{CallableKeeps, Declared, DeclaredCallable, FormatsEach, KeepsDeclared, formats}
 use Rattle.upon_shape_spec.specs.Fits.{Fits}
 use Rattle.upon_shape_spec.specs.Shape.{Shape, plain, plain_shape, shown_values}
-use Rattle.upon_shape_check.specs.Callables.{declared_view}
-use Rattle.upon_shape_check.specs.declared.declared.Declared.{Declared as DeclaredCode}
 use Rattle.upon_engine.specs.Changes.{with_callable, with_depth, with_syntax, with_text}
 use Rattle.upon_engine.specs.Texts.{Texts}
 use Rattle.upon_std.specs.Table.{standard_answer, standard_name}
 use Rattle.upon_std.specs.declared.table.StandardFunction.{StandardFunction}
-use Rattle.upon_std_shapes.specs.Tables.{with_all_added, with_all_declared}
+use Rattle.upon_std_shapes.specs.Tables.{Declarations, with_all_added, with_all_declared}
 use Rattle.upon_std_shapes.proofs.Added.{all_added_kept}
 use Rattle.upon_quote.specs.Shell.{shell_escape_of}
 use Rattle.upon_quote.specs.Tokens.{one_shell_word, shell_format, word_once}
@@ -22,6 +21,7 @@ use Rattle.upon_quote.proofs.ShellLemmas.{shell_leaves}
 use Rattle.upon_calls.specs.Asked.{Asked}
 use Rattle.upon_calls.specs.Escaping.{written_shape}
 use Rattle.upon_calls.specs.Filled.{engine_for, escaping_engine, filled, functions_if, with_functions, with_sources}
+use Rattle.upon_calls.specs.Unsure.{declared_as, declared_before}
 use Rattle.upon_calls.specs.declared.escaping.Language.{Language}
 use Rattle.upon_calls.specs.declared.escaping.Language.TheVariants.{Html, Json, Shell, Yaml}
 
@@ -59,17 +59,36 @@ one_keeps : (b : Bool) (d : Option DeclaredCallable) (c : Option Callable) → C
 one_keeps true d c keeps = shown_well
 one_keeps false d c keeps = keeps
 
--- and then of `verbatim`
-verbatim_added : (old new : List ℕ → Option DeclaredCallable) (name : List ℕ) (s : Shape) → ((other : List ℕ) → old other ≡ None) → name ≡ codes "verbatim" → s ≡ shown_values
-    → ((other : List ℕ) → new other ≡ update bytes_eq old name (Some (formats s)) other) → (language : Language) (other : List ℕ) → CallableKeeps (new other) ((escaping_engine (Some language)).callables other)
-verbatim_added old new name s none named is added language other =
-    subst (λ d. CallableKeeps d ((escaping_engine (Some language)).callables other)) (sym (added other ∙ (λ i. update bytes_eq old (named i) (Some (formats (is i))) other)))
-    (one_keeps (bytes_eq (codes "verbatim") other) (old other) None (subst (λ d. CallableKeeps d None) (sym (none other)) tt))
+-- and of what is declared before functions
+before_keeps : (escape : Option Language) (name : List ℕ) → CallableKeeps (declared_before escape name) ((escaping_engine escape).callables name)
+before_keeps None name = tt
+before_keeps (Some language) name = one_keeps (bytes_eq (codes "verbatim") name) None None tt
 
-pub verbatim_keeps : (old new : List ℕ → Option DeclaredCallable) (name : List ℕ) (s : Shape) → ((other : List ℕ) → old other ≡ None) → name ≡ codes "verbatim" → s ≡ shown_values
-    → ((other : List ℕ) → new other ≡ update bytes_eq old name (Some (formats s)) other) → (escape : Option Language) → (escape ≡ None → ⊥) → (other : List ℕ) → CallableKeeps (new other) ((escaping_engine escape).callables other)
-verbatim_keeps old new name s none named is added None some = absurd (some refl)
-verbatim_keeps old new name s none named is added (Some language) some = verbatim_added old new name s none named is added language
+-- what is declared before is known by its names
+verbatim_added : (old new : Declarations) (name : List ℕ) (s : Shape) → ((other : List ℕ) → old other ≡ None) → name ≡ codes "verbatim" → s ≡ shown_values
+    → ((other : List ℕ) → new other ≡ update bytes_eq old name (Some (formats s)) other) → (language : Language) (other : List ℕ) → new other ≡ declared_before (Some language) other
+verbatim_added old new name s none named is added language other =
+    added other ∙ (λ i. update bytes_eq (nothing i) (named i) (Some (formats (is i))) other)
+  where
+    nothing : old ≡ (λ other. None)
+    nothing = fun_ext none
+
+pub verbatim_is : (old new : Declarations) (name : List ℕ) (s : Shape) → ((other : List ℕ) → old other ≡ None) → name ≡ codes "verbatim" → s ≡ shown_values
+    → ((other : List ℕ) → new other ≡ update bytes_eq old name (Some (formats s)) other) → (escape : Option Language) → (escape ≡ None → ⊥) → (other : List ℕ) → new other ≡ declared_before escape other
+verbatim_is old new name s none named is added None some = absurd (some refl)
+verbatim_is old new name s none named is added (Some language) some = verbatim_added old new name s none named is added language
+
+abbrev made : Declarations → Shape → Declared
+made callables written = record { callables = callables; default_formats = written }
+
+-- all that is declared
+pub all_declared : (old new : Declared) (asked : Asked) → ((name : List ℕ) → old.callables name ≡ declared_before asked.escape name) → old.default_formats ≡ written_shape asked.escape
+    → ((name : List ℕ) → new.callables name ≡ with_all_declared (functions_if asked.functions) old.callables name) → new.default_formats ≡ old.default_formats
+    → new ≡ declared_as asked
+all_declared old new asked first written is same =
+    let callables : new.callables ≡ with_all_declared (functions_if asked.functions) (declared_before asked.escape) =
+    fun_ext is ∙ ap (with_all_declared (functions_if asked.functions)) (fun_ext first) in
+    λ i. made (callables i) ((same ∙ written) i)
 
 -- ---- an engine, as a call fills it
 functions_default : (functions : List StandardFunction) (e : Texts) → (with_functions functions e).default_formatter ≡ e.default_formatter
@@ -96,11 +115,11 @@ functions_called [] e = refl
 functions_called (f ∷ fs) e = functions_called fs (with_callable (standard_name f) (function (standard_answer f)) e)
 
 -- and declared, so that all that is declared is kept
-pub all_keep : (old new : Declared) (asked : Asked) → ((name : List ℕ) → CallableKeeps (old.callables name) ((escaping_engine asked.escape).callables name)) → old.default_formats ≡ written_shape asked.escape
+pub all_keep : (old new : Declared) (asked : Asked) → ((name : List ℕ) → old.callables name ≡ declared_before asked.escape name) → old.default_formats ≡ written_shape asked.escape
     → ((name : List ℕ) → new.callables name ≡ with_all_declared (functions_if asked.functions) old.callables name) → new.default_formats ≡ old.default_formats
     → KeepsDeclared new (engine_for asked).callables (formatter_or_default (engine_for asked).default_formatter)
-all_keep old new asked keeps is declared same =
+all_keep old new asked first is declared same =
     subst (λ callables. KeepsDeclared new callables (formatter_or_default (engine_for asked).default_formatter))
     (sym (functions_called (functions_if asked.functions) (with_depth asked.depth (with_syntax asked.delimiters (escaping_engine asked.escape)))))
     (all_added_kept (functions_if asked.functions) old new (escaping_engine asked.escape).callables (formatter_or_default (engine_for asked).default_formatter) declared same
-    (record { each = keeps; default_formatter = begun_formats old asked is }))
+    (record { each = λ name. subst (λ d. CallableKeeps d ((escaping_engine asked.escape).callables name)) (sym (first name)) (before_keeps asked.escape name); default_formatter = begun_formats old asked is }))

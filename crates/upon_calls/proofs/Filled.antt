@@ -1,5 +1,5 @@
 -- How an engine is filled.
-use Rattle.std.proofs.Common.{◌≡◌, ◌<◌, ◌≤◌, ◌+◌, ◌∙◌, ◌∷◌, [], ◌++◌, ℕ, zero, suc, List, Contains, arith, length, take, get_or, Bor, Option, Some, None, codes, map, refl, sym, ap}
+use Rattle.std.proofs.Common.{◌≡◌, ◌<◌, ◌≤◌, ◌+◌, ◌∙◌, ◌∷◌, [], ◌++◌, ℕ, zero, suc, List, Contains, arith, length, take, get_or, Bor, Option, Some, None, codes, refl, sym, ap}
 use Rattle.std.proofs.lemmas.List.{map-append, take_all, take_more}
 use Rattle.upon_types.specs.Answers.{Formatter, Function, formatter, function}
 use Rattle.upon_language_spec.specs.Search.{DelimiterText}

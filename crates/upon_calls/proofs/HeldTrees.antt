@@ -96,6 +96,10 @@ page_held : (pages : Option (List (List ℕ))) (v : Val) (sources : List (List �
 page_held None v sources e are there k d inside = source_held sources e k d inside
 page_held (Some names) v sources e are there k d inside = name_held v sources e (get_or names k d) are (there k d inside)
 
+-- where all of a check's pages are held
+pub pages_held : (pages : Option (List (List ℕ))) (v : Val) (sources : List (List ℕ × List ℕ)) (e : Texts) → sources_in v ≡ Some sources → AreThere pages v → All (λ name. is_some ((with_sources sources e).texts name) ≡ true) (checked_pages pages sources)
+pages_held pages v sources e are there = λ k d inside. page_held pages v sources e are there k d inside
+
 held_of : (o : Option Stored) → is_some o ≡ true → (held : Stored) × (o ≡ Some held)
 held_of None some = absurd cc
 held_of (Some held) some = (held, refl)

@@ -20,3 +20,4 @@ pub mod Shown
 pub mod OneShown
 pub mod Calls
 pub mod Ended
+pub mod Unsure

@@ -1,5 +1,5 @@
 -- What a template needs, by what an engine holds.
-use Rattle.std.proofs.Common.{◌≡◌, ◌∙◌, ◌↔◌, ℕ, List, Contains, Bool, true, false, is_some, Option, Some, None, IfOk, IsNone, IsOkAnd, IsSomeAnd, Result, Ok, Err, String, Global, string_bytes, refl, sym, ap, subst}
+use Rattle.std.proofs.Common.{◌≡◌, ◌∙◌, ◌↔◌, ℕ, List, Contains, true, false, is_some, Option, Some, None, IfOk, IsNone, IsOkAnd, Result, Ok, Err, String, Global, string_bytes, refl, sym, ap, subst}
 use Rattle.std.specs.declared.alloc.AllocError.{AllocError}
 use Rattle.serde_json.specs.Written.{compact_text}
 use Rattle.upon_meaning_spec.specs.Engine.{Table, Template}

@@ -1,5 +1,5 @@
 -- What renderings answer, as texts and faults.
-use Rattle.std.proofs.Common.{◌≡◌, ◌⊎◌, ◌↔◌, ◌<◌, ◌||◌, ◌∙◌, ◌∷◌, ℕ, List, Bool, true, false, Bor, Contains, Option, Some, None, is_some, IsNone, IsSomeAnd, Result, Ok, Err, IfErr, IsErrAnd, String, Global, get_or, length, string_bytes, refl, sym, ap, subst, inl, inr}
+use Rattle.std.proofs.Common.{◌≡◌, ◌⊎◌, ◌↔◌, ◌||◌, ◌∙◌, ℕ, List, Bool, true, false, Contains, Option, Some, None, is_some, IsNone, IsSomeAnd, Result, Ok, Err, IfErr, String, Global, string_bytes, refl, sym, ap, subst, inl, inr}
 use Rattle.upon_types.specs.Error.{fault_of}
 use Rattle.upon_types.specs.Fault.{Fault, out_of_memory}
 use Rattle.upon_types.specs.Tree.{Statements}
@@ -19,7 +19,7 @@ use Rattle.upon_engine.specs.Within.{runs}
 use Rattle.std.specs.Prelude.{⊤}
 use Rattle.upon_calls.specs.Failure.{is_memory_kind, IsFaultReport, RefusedIf}
 use Rattle.upon_vm.specs.Limits.{is_limited}
-use Rattle.upon_calls.specs.Rendering.{AnswersIf, EndsWith, FailsNamed, FailsText, IsFirstFaultOf, IsFirstNamed, IsFirstOfOne, IsMeaning, MeansNamed, MeansText}
+use Rattle.upon_calls.specs.Rendering.{AnswersIf, EndsWith, FailsNamed, FailsText, IsFirstNamed, IsFirstOfOne, IsMeaning, MeansNamed, MeansText}
 use Rattle.upon_calls.specs.Work.{WorkFails}
 use Rattle.upon_calls.specs.declared.failure.Argument.TheVariants.{Name}
 use Rattle.upon_calls.specs.declared.failure.Failure.{Failure}

@@ -18,7 +18,6 @@ use Rattle.upon_std.specs.declared.table.StandardFunction.{StandardFunction}
 use Rattle.upon_calls.specs.Asked.{Asked}
 use Rattle.upon_calls.specs.ByTable.{FailsNamedBy, FailsTextBy, NamedEnds}
 use Rattle.upon_calls.specs.Contexts.{EndsOnEach}
-use Rattle.upon_calls.specs.Escaping.{language_format}
 use Rattle.upon_calls.specs.Filled.{engine_for, escaping_engine, functions_if, with_functions}
 use Rattle.upon_calls.specs.Rendering.{EachHasTree, FailsNamed, FailsText}
 use Rattle.upon_calls.specs.declared.escaping.Language.{Language}

@@ -1,5 +1,6 @@
 -- What renderings and checks give by one table of the trees of the texts that an engine holds.
 use Rattle.std.specs.Prelude.{◌≡◌, ◌⊎◌, ℕ, List, Some, None}
+use Rattle.upon_types.specs.declared.types.Span.{Span}
 use Rattle.upon_types.specs.Fault.{Fault}
 use Rattle.upon_types.specs.Tree.{Statements}
 use Rattle.upon_types.specs.Val.{Val}
@@ -7,11 +8,17 @@ use Rattle.upon_language_spec.specs.Grammar.{HasTree}
 use Rattle.upon_meaning_spec.specs.Alone.{fault_of_end}
 use Rattle.upon_meaning_spec.specs.CallFaults.{depth_reached}
 use Rattle.upon_meaning_spec.specs.Engine.{Table, Template}
+use Rattle.upon_shape_spec.specs.Accepted.{Planned}
+use Rattle.upon_shape_spec.specs.Declared.{Declared}
+use Rattle.upon_shape_spec.specs.Doubted.{planned, AreDoubted, IsReached, PlaceInDoubt}
 use Rattle.upon_shape_spec.specs.Fits.{Fits}
+use Rattle.upon_shape_spec.specs.Scope.{scope_over}
 use Rattle.upon_shape_spec.specs.Shape.{Shape}
 use Rattle.upon_vm.specs.declared.limits.Limits.{Limits}
 use Rattle.upon_engine.specs.Texts.{Stored, Texts}
 use Rattle.upon_engine.specs.Theorem.{meaning}
+use Rattle.upon_shape_check.specs.Verdict.{IsDeepAt}
+use Rattle.upon_shape_check.specs.declared.plan.TheConstants.{MOST_PLANNED}
 use Rattle.upon_calls.specs.Rendering.{EndsWithBy, IsFirstFaultOf}
 
 -- the rendering of the template of a name on a value ends with a fault
@@ -29,3 +36,12 @@ FailsTextBy limits e table source v fault = IsFirstFaultOf e.syntax source fault
 abbrev pub NamedEnds : Texts → Table → List ℕ → Shape → Type 0
 NamedEnds e table name s = (t : Template) × (table name ≡ Some t) × ((v : Val) (f : Fault) → Fits s v
     → fault_of_end e.depth (meaning e table (Some name) t.source t.tree v).end ≡ Some f → f ≡ depth_reached e.depth)
+
+-- by what is declared of what templates call, it is in doubt whether what the template that a table has of a name means
+-- ends well on each value of a shape: places are in doubt in it or in those that it reaches; or something is put into a
+-- literal there that is too deep for a check
+abbrev pub NamedUnsure : Declared → Table → List ℕ → Shape → Type 0
+NamedUnsure declared table name s =
+    ((ms : List PlaceInDoubt) × AreDoubted declared table (planned name (scope_over s)) MOST_PLANNED ms)
+    ⊎ ((p : Planned) × (place : Span) × IsReached declared table (planned name (scope_over s)) p
+    × IsDeepAt declared table p place)

@@ -1,17 +1,18 @@
 -- What each call gives, from the bytes of its arguments to the bytes of its text.
-use Rattle.std.specs.Prelude.{◌≡◌, ◌⊎◌, ℕ, List, [], Option, Some, None, is_some, true, string_bytes}
+use Rattle.std.specs.Prelude.{◌≡◌, ◌⊎◌, ℕ, List, [], Option, Some, None, IsSomeAnd, string_bytes}
 use Rattle.std.specs.Str.{IsUtf8}
 use Rattle.upon_types.specs.Val.{Val}
 use Rattle.upon_calls.specs.Arguments.{HasNoArgumentValue, IsArgumentValue}
 use Rattle.upon_calls.specs.Asked.{Asked, IsAsked, IsUnasked}
 use Rattle.upon_calls.specs.Check.{AreRight}
-use Rattle.upon_calls.specs.Contexts.{Contexts, IsCheckAsked, IsCheckUnasked, LacksPage, PagesEndIf}
+use Rattle.upon_calls.specs.Contexts.{AreThere, checked_pages, Contexts, IsCheckAsked, IsCheckUnasked, LacksPage, PagesEndIf}
 use Rattle.upon_calls.specs.Failure.{IsPicture}
 use Rattle.upon_calls.specs.Filled.{engine_for, filled}
 use Rattle.upon_calls.specs.Names.{ListsNamed}
 use Rattle.upon_calls.specs.Pictures.{ShowsWrong}
 use Rattle.upon_calls.specs.Rendering.{FailsNamed, FailsText, IsFirstOfOne, MeansNamed, MeansText}
 use Rattle.upon_calls.specs.Templates.{AreNone, AreTemplates, sources_in}
+use Rattle.upon_calls.specs.Unsure.{IsPageUnsure}
 use Rattle.upon_calls.specs.declared.failure.Argument.{Argument}
 use Rattle.upon_calls.specs.declared.failure.Argument.TheVariants.{Templates, Source, Context, Name, Options}
 use Rattle.upon_calls.specs.declared.failure.Failure.{Failure}
@@ -122,12 +123,13 @@ pub record AreRightOn (asked : Asked) (contexts : Option Contexts) (value : Val)
   pub right : AreRight asked.delimiters value sources
   pub pages : PagesEndIf contexts (filled asked sources) value sources
 
--- Each template is right, but contexts are given, and it isn't known whether each page ends well on each of them. A
--- text shows where one may not: it is not empty.
+-- Each template is right, but contexts are given, and of one page it is in doubt whether it ends well on each of them.
+-- A text shows where one may not: it is not empty.
 pub record ShowsDoubt (asked : Asked) (contexts : Option Contexts) (value : Val) (sources : List (List ℕ × List ℕ))
     (text : List ℕ) : Type 0 where
-  pub given : is_some contexts ≡ true
   pub right : AreRight asked.delimiters value sources
+  pub there : IsSomeAnd contexts (λ given. AreThere given.pages value)
+  pub unsure : IsSomeAnd contexts (λ given. IsPageUnsure asked sources given.shape (checked_pages given.pages sources))
   pub some : text ≡ [] → ⊥
 
 -- a text is the pictures of what is wrong with templates; or they are right, and it shows where a page may fail
@@ -150,7 +152,7 @@ pub record ChecksRight (templates options text : List ℕ) : Type 0 where
   pub empty : text ≡ []
 
 -- A template is not right, and the text is the pictures of all that is wrong with the templates. Or each is, contexts
--- are given, and it isn't known whether each page ends well on each of them; then the text is not empty.
+-- are given, and of a page it is in doubt whether it ends well on each of them; then the text is not empty.
 pub record ChecksWrong (templates options text : List ℕ) : Type 0 where
   pub asked : Asked
   pub contexts : Option Contexts

@@ -2,7 +2,7 @@
 use Rattle.std.specs.Prelude.{◌≡◌, ◌⊎◌, ℕ, List, [], ◌∷◌, All, Contains, map, true, false, Option, Some, None, IsSomeAnd, option_map, option_and_then, codes}
 use Rattle.upon_types.specs.Tree.{Statements}
 use Rattle.upon_types.specs.Fault.{Fault}
-use Rattle.upon_types.specs.Val.{Val, text_val, list_val, map_val, key_of, Vals, no_vals, val_then}
+use Rattle.upon_types.specs.Val.{Val, list_val, map_val, key_of, Vals, no_vals, val_then}
 use Rattle.upon_language_spec.specs.Grammar.{HasTree}
 use Rattle.upon_meaning_spec.specs.Alone.{fault_of_end}
 use Rattle.upon_meaning_spec.specs.CallFaults.{depth_reached}

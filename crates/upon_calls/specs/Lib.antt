@@ -11,5 +11,6 @@ pub mod Names
 pub mod Check
 pub mod Pictures
 pub mod Contexts
+pub mod Unsure
 pub mod Work
 pub mod Calls

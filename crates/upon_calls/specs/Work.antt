@@ -1,5 +1,5 @@
 -- What is done with an engine that holds a call's templates.
-use Rattle.std.specs.Prelude.{◌≡◌, ◌⊎◌, ℕ, List, [], All, None, string_bytes}
+use Rattle.std.specs.Prelude.{◌≡◌, ◌⊎◌, ℕ, List, [], All, Contains, None, string_bytes}
 use Rattle.upon_types.specs.Fault.{Fault}
 use Rattle.upon_types.specs.View.{view}
 use Rattle.upon_vm.specs.declared.limits.Limits.{Limits}
@@ -7,6 +7,7 @@ use Rattle.upon_shape.specs.View.{shape_view}
 use Rattle.upon_shape_check.specs.Callables.{declared_view}
 use Rattle.upon_needs.specs.Names.{texts}
 use Rattle.upon_engine.specs.Texts.{Texts}
+use Rattle.upon_shape_check.specs.Doubted.{IsUnsureOn}
 use Rattle.upon_shape_check.specs.EndsOn.{EndsOn}
 use Rattle.upon_calls.specs.Asked.{Asked}
 use Rattle.upon_calls.specs.Failure.{IsPicture}
@@ -26,12 +27,24 @@ abbrev pub PagesFit : Texts → Pages → Type 0
 PagesFit e pages =
     All (λ name. EndsOn e (declared_view pages.declared.now) name (shape_view pages.shape.now)) (texts pages.names.now)
 
+-- of one of the pages it isn't known, by what is declared, whether it ends well on each value of the shape
+abbrev pub IsOneUnsure : Texts → Pages → Type 0
+IsOneUnsure e pages = (name : List ℕ) × Contains (texts pages.names.now) name
+    × IsUnsureOn e (declared_view pages.declared.now) name (shape_view pages.shape.now)
+
+-- A text that is empty says that the pages end, and another one that this isn't known of one of them. Each text that is
+-- held has a tree.
+pub record TellsOfPages (e : Texts) (pages : Pages) (text : List ℕ) : Type 0 where
+  pub trees : EachHasTree e
+  pub fits : text ≡ [] → PagesFit e pages
+  pub unsure : (text ≡ [] → ⊥) → IsOneUnsure e pages
+
 -- a piece of work gives a text, by what an engine holds
 abbrev pub WorkGives : Limits → Texts → Work → List ℕ → Type 0
 WorkGives limits e (Render name value) text = MeansNamed limits e name.now (view value.now) text
 WorkGives limits e (RenderText source value) text = MeansText limits e source.now (view value.now) text
 WorkGives limits e (Names name) text = ListsNamed e name.now text
-WorkGives limits e (Fit pages) text = text ≡ [] → EachHasTree e × PagesFit e pages
+WorkGives limits e (Fit pages) text = TellsOfPages e pages text
 
 -- it ends with a fault
 abbrev pub WorkFaults : Limits → Texts → Work → Fault → Type 0

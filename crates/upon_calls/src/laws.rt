@@ -1,6 +1,6 @@
 // What each call gives is one text, or the picture of one fault: there is a table of the trees of the templates that it
 // is given.
-ghost use Rattle.std.specs.Prelude.{◌≡◌, ◌⊎◌, ℕ, List, All, IfSome, None, Some, false};
+ghost use Rattle.std.specs.Prelude.{◌≡◌, ◌⊎◌, ℕ, List, All, Contains, IfSome, IsSomeAnd, None, Some, false};
 ghost use Rattle.serde_json.specs.Written.{compact_text};
 ghost use Rattle.upon_types.specs.Fault.{Fault};
 ghost use Rattle.upon_types.specs.Pretty.{pretty};
@@ -12,14 +12,15 @@ ghost use Rattle.upon_meaning_spec.specs.Engine.{Table, Template};
 ghost use Rattle.upon_needs.specs.declared.needs.Needs.{Needs};
 ghost use Rattle.upon_engine.specs.Texts.{Stored};
 ghost use Rattle.upon_engine.specs.Theorem.{IsTable};
-ghost use Rattle.upon_calls.specs.ByTable.{FailsNamedBy, FailsTextBy, NamedEnds};
-ghost use Rattle.upon_calls.specs.Calls.{ChecksRight, ListsNeeds, RenderFaults, Renders, RendersText, TextFaults};
+ghost use Rattle.upon_calls.specs.ByTable.{FailsNamedBy, FailsTextBy, NamedEnds, NamedUnsure};
+ghost use Rattle.upon_calls.specs.Calls.{ChecksRight, ChecksWrong, ListsNeeds, RenderFaults, Renders, RendersText, TextFaults};
 ghost use Rattle.upon_calls.specs.Contexts.{checked_pages};
 ghost use Rattle.upon_calls.specs.Failure.{is_memory_kind};
 ghost use Rattle.upon_calls.specs.Filled.{engine_for, filled};
 ghost use Rattle.upon_calls.specs.Names.{NeededBy, needs_data};
 ghost use Rattle.upon_calls.specs.Pictures.{ShowsWrong};
 ghost use Rattle.upon_calls.specs.Rendering.{IsFirstOfOne, IsMeaningBy};
+ghost use Rattle.upon_calls.specs.Unsure.{declared_as};
 
 /// States that what a rendering of a template gives is the text of a meaning, by a table of the templates that it is
 /// given: so it is no other text.
@@ -75,6 +76,17 @@ pub fn fitting_pages_end()
         × IfSome r.contexts (λ contexts. All
         (λ name. NamedEnds (filled r.asked r.sources) table name contexts.shape)
         (checked_pages contexts.pages r.sources)) }
+{}
+
+/// States that where a check on contexts found templates right, but not each page, a page that it checks is in doubt by
+/// a table of the templates that it is given and by what is declared of what they call: places are in doubt in it or in
+/// those that it reaches, one at least; or something is put into a literal there that is too deep for a check.
+pub fn unsure_page_is()
+    ensures { (templates options text : List ℕ) (r : ChecksWrong templates options text)
+        → ShowsWrong r.asked.delimiters r.value r.sources text
+        ⊎ ((table : Table) × IsTable (filled r.asked r.sources).texts table
+        × IsSomeAnd r.contexts (λ given. (name : List ℕ) × Contains (checked_pages given.pages r.sources) name
+        × NamedUnsure (declared_as r.asked) table name given.shape)) }
 {}
 
 /// States that what is wrong with templates is shown by one text, where each delimiter has a byte.

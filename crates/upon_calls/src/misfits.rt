@@ -1,9 +1,10 @@
 // Whether pages are accepted on a shape, and the pictures of where they may fail.
-ghost use Rattle.std.specs.Prelude.{◌≡◌, [], IfErr, IfOk, OnOk, string_bytes};
+ghost use Rattle.std.specs.Prelude.{◌≡◌, ◌⊎◌, [], IfErr, IfOk, OnOk, string_bytes};
 ghost use Rattle.upon_shape.specs.View.{shape_view};
 ghost use Rattle.upon_shape_check.specs.Callables.{declared_view};
+ghost use Rattle.upon_shape_check.specs.Doubted.{IsUnsureOn};
 ghost use Rattle.upon_shape_check.specs.EndsOn.{EndsOn};
-ghost use Rattle.upon_calls.specs.Work.{PagesFit};
+ghost use Rattle.upon_calls.specs.Work.{IsOneUnsure, PagesFit};
 ghost use Rattle.upon_calls.specs.declared.failure.Failure.TheVariants.{OutOfMemory};
 
 use crate::failure::Failure;
@@ -25,6 +26,8 @@ pub(crate) fn misfits<'w>(
 ) -> Result<String, Failure>
     ensures fits { IfOk result
         (λ text. string_bytes text ≡ [] → PagesFit (⟦<AnyEngine as EngineTexts>⟧.texts engine.now) pages.entry) }
+    ensures unsure { let texts = ⟦<AnyEngine as EngineTexts>⟧.texts engine.now in
+        IfOk result (λ text. (string_bytes text ≡ [] → ⊥) → IsOneUnsure texts pages.entry) }
     ensures memory { IfErr result (λ f. f ≡ OutOfMemory) }
 {
     let Pages {
@@ -48,9 +51,12 @@ fn show_page(
     shape: &Shape,
     pictures: &mut Pictures,
 ) -> Result<(), AllocError>
-    ensures { OnOk result (string_bytes pictures.new.text ≡ [] → (string_bytes pictures.old.text ≡ [])
+    ensures ends { OnOk result (string_bytes pictures.new.text ≡ [] → (string_bytes pictures.old.text ≡ [])
         × EndsOn (⟦<AnyEngine as EngineTexts>⟧.texts known.now.engine.now) (declared_view known.now.declared.now)
         name.now (shape_view shape.now)) }
+    ensures unsure { let texts = ⟦<AnyEngine as EngineTexts>⟧.texts known.now.engine.now in OnOk result
+        ((string_bytes pictures.new.text ≡ [] → ⊥) → (string_bytes pictures.old.text ≡ [] → ⊥)
+        ⊎ IsUnsureOn texts (declared_view known.now.declared.now) name.now (shape_view shape.now)) }
 {
     match accepts(alloc, known.engine, known.declared, name, shape) {
         Ok(_) => Ok(()),

@@ -1,5 +1,5 @@
 // The pages of a check: which they are, and whether they end without a fault on contexts.
-ghost use Rattle.std.specs.Prelude.{◌≡◌, ⊤, None, Some, ℕ, List, [], All, Contains, IfErr, IfOk, IfSome, IsNone, IsSome, map, option_map, string_bytes, true, false};
+ghost use Rattle.std.specs.Prelude.{◌≡◌, ◌⊎◌, ⊤, None, Some, ℕ, List, [], All, Contains, IfErr, IfOk, IfSome, IsNone, IsSome, map, option_map, string_bytes, true, false};
 ghost use Rattle.upon_types.specs.View.{view};
 ghost use Rattle.upon_shape.specs.View.{shape_view};
 ghost use Rattle.upon_needs.specs.Names.{texts};
@@ -10,6 +10,7 @@ ghost use Rattle.upon_calls.specs.Failure.{FaultyIf, RefusedIf};
 ghost use Rattle.upon_calls.specs.Filled.{filled};
 ghost use Rattle.upon_calls.specs.Rendering.{EachHasTree};
 ghost use Rattle.upon_calls.specs.Templates.{lent_pairs};
+ghost use Rattle.upon_calls.specs.Unsure.{HasFault, IsPageUnsure};
 ghost use Rattle.upon_calls.specs.declared.failure.Argument.TheVariants.{Options as OptionsRefused};
 
 use crate::arguments::refused;
@@ -89,8 +90,10 @@ pub fn check_pages(
     ensures ends { IfOk result (λ text. All
         (λ name. EndsOnEach (filled (asked_by options) (lent_pairs sources.now)) name (shape_view shape.now))
         (texts names.now)) }
-    // The pictures are of something.
-    ensures fails { IfErr result (FaultyIf (λ pictures. pictures ≡ [] → ⊥) ⊥) }
+    // The pictures are of something: of one page it is in doubt whether it ends so, or a text has a fault.
+    ensures fails { let asked = asked_by options in IfErr result (FaultyIf (λ pictures. (pictures ≡ [] → ⊥)
+        × (IsPageUnsure asked (lent_pairs sources.now) (shape_view shape.now) (texts names.now)
+        ⊎ HasFault asked (lent_pairs sources.now))) ⊥) }
 {
     let declared = declared_for(alloc, &options)?;
     let pages = Pages {

@@ -149,10 +149,10 @@ named d inc at old mid next o word s e is b =
     after_pop d inc at old mid next o (with_start word) [] e (refl, b ∙ ap (λ t. binds_shapes (name_shape word.text (value_of t) ∷ []) mid.operands mid) is)
 
 pub is_included_so : (d : Declared) (inc : List ℕ → Scope → Bool) (word : Ident) (scope : Scope) (b : Bool) → b ≡ inc word.text scope → b ≡ true → [] ≡ include_doubts d inc word scope
-is_included_so d inc word scope b is holds = sym (ap (λ c. unless c (doubt word.span (is_included scope))) (sym is ∙ holds))
+is_included_so d inc word scope b is holds = sym (ap (λ c. unless c (doubt word.span (is_included word.text scope))) (sym is ∙ holds))
 
-pub not_included_so : (d : Declared) (inc : List ℕ → Scope → Bool) (word : Ident) (scope : Scope) (b : Bool) (ds : List Doubt) → b ≡ inc word.text scope → b ≡ false → ds ≡ doubt word.span (is_included scope) → ds ≡ include_doubts d inc word scope
-not_included_so d inc word scope b ds is fails e = e ∙ sym (ap (λ c. unless c (doubt word.span (is_included scope))) (sym is ∙ fails))
+pub not_included_so : (d : Declared) (inc : List ℕ → Scope → Bool) (word : Ident) (scope : Scope) (b : Bool) (ds : List Doubt) → b ≡ inc word.text scope → b ≡ false → ds ≡ doubt word.span (is_included word.text scope) → ds ≡ include_doubts d inc word scope
+not_included_so d inc word scope b ds is fails e = e ∙ sym (ap (λ c. unless c (doubt word.span (is_included word.text scope))) (sym is ∙ fails))
 
 -- ---- of what a call gives, if it does
 pub if_ok_map : {A E : Type 0} {P Q : A → Type 0} (r : Result A E) → ((a : A) → P a → Q a) → IfOk r P → IfOk r Q

@@ -11,5 +11,9 @@ mod Putting
 mod Along
 mod Undoubted
 mod Deep
+mod DeepLiterals
 mod Ends
 mod Plans
+mod MakingPlans
+mod Reaching
+mod Refusing

@@ -38,6 +38,21 @@ in_either (p ∷ xs) ys name scope h =
       ]
     ]
 
+-- what the first part of a plan has, the plan has
+pub planned_first : (xs ys : List Planned) (name : List ℕ) (scope : Scope) → is_planned xs name scope ≡ true → is_planned (xs ++ ys) name scope ≡ true
+planned_first [] ys name scope h = absurd (cc)
+planned_first (p ∷ xs) ys name scope h =
+    let here = bytes_eq name p.name && scope_wider p.scope scope in
+    elim (one_of_two here (is_planned xs name scope) h) [
+      | inl x ↦ first_holds here (is_planned (xs ++ ys) name scope) x
+      | inr x ↦ second_holds here (is_planned (xs ++ ys) name scope) (planned_first xs ys name scope x)
+    ]
+
+-- what the second part has, the plan has
+pub planned_second : (xs ys : List Planned) (name : List ℕ) (scope : Scope) → is_planned ys name scope ≡ true → is_planned (xs ++ ys) name scope ≡ true
+planned_second [] ys name scope h = h
+planned_second (p ∷ xs) ys name scope h = second_holds (bytes_eq name p.name && scope_wider p.scope scope) (is_planned (xs ++ ys) name scope) (planned_second xs ys name scope h)
+
 -- an empty plan has none
 pub in_none : (plan : List Planned) (name : List ℕ) (scope : Scope) → plan ≡ [] → is_planned plan name scope ≡ true → ⊥
 in_none plan name scope none h =

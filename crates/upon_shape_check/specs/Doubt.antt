@@ -7,14 +7,14 @@ use Rattle.upon_shape_check.specs.declared.doubt.Doubt.{Doubt}
 use Rattle.upon_shape_check.specs.declared.doubt.Unsure.{Unsure}
 use Rattle.upon_shape_check.specs.declared.doubt.Unsure.TheVariants.{HasMember, LoopHasMember, TakesValues, HasText, HasItems, IsIncluded}
 
--- what is not sure; which template is included is known by the place
+-- what is not sure
 abbrev pub unsure_view : Unsure → spec.Unsure
 unsure_view (HasMember shape) = spec.has_member (shape_view shape)
 unsure_view LoopHasMember = spec.loop_has_member
 unsure_view (TakesValues shapes) = spec.takes_values (map shape_view shapes.items)
 unsure_view (HasText shape) = spec.has_text (shape_view shape)
 unsure_view (HasItems shape) = spec.has_items (shape_view shape)
-unsure_view (IsIncluded name scope) = spec.is_included (scope_view scope)
+unsure_view (IsIncluded name scope) = spec.is_included name.now (scope_view scope)
 
 -- a doubt
 abbrev pub doubt_view : Doubt → spec.Doubt

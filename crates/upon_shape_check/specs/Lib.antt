@@ -4,6 +4,7 @@ pub mod Scope
 pub mod Undo
 pub mod Loops
 pub mod Depth
+pub mod DeepLiterals
 pub mod Doubt
 pub mod Found
 pub mod Plan
@@ -12,4 +13,6 @@ pub mod Puts
 pub mod Steps
 pub mod EndsOn
 pub mod Verdict
+pub mod Doubted
+pub mod Planning
 pub mod Levels

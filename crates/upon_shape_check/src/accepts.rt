@@ -1,12 +1,13 @@
 // Whether a template of an engine is accepted on a shape.
-ghost use Rattle.std.specs.Prelude.{◌≡◌, [], IfOk};
+ghost use Rattle.std.specs.Prelude.{◌≡◌, ◌++◌, ◌∷◌, [], IfErr, IfOk};
 ghost use Rattle.upon_shape_spec.specs.Accepted.{IsClosed};
 ghost use Rattle.upon_shape.specs.View.{shape_view};
 ghost use Rattle.upon_shape_check.specs.Callables.{declared_view};
+ghost use Rattle.upon_shape_check.specs.Doubted.{DoubtedOn, IsMissing, each_misfits, misfits_view, template_misfits};
 ghost use Rattle.upon_shape_check.specs.Plan.{plan_view, planned_view};
 ghost use Rattle.upon_engine.specs.Engine.{engine_templates};
 ghost use Rattle.upon_shape_check.specs.EndsOn.{EndsOn, EndsAs};
-ghost use Rattle.upon_shape_check.specs.Verdict.{IsAcceptedBy};
+ghost use Rattle.upon_shape_check.specs.Verdict.{IsAcceptedBy, IsUntoldAmong};
 
 use crate::accepted::Accepted;
 use crate::declared::Declared;
@@ -37,6 +38,12 @@ pub fn accepts<'t>(
     // They are not too deep where the engine has the depth that is said, or a greater one.
     ensures within { IfOk result (EndsAs (⟦<AnyEngine as EngineTexts>⟧.texts engine.now)
         (declared_view declared.now) name.now (shape_view shape.now)) }
+    // There is a misfit if that is why, and each is really in doubt in a template that is reached; or a literal of one
+    // that is reached is too deep for a check.
+    ensures doubted { IfErr result (DoubtedOn (⟦<AnyEngine as EngineTexts>⟧.texts engine.now)
+        (declared_view declared.now) name.now (shape_view shape.now)) }
+    // There is no such template only if none is held.
+    ensures missing { IfErr result (IsMissing (⟦<AnyEngine as EngineTexts>⟧.texts engine.now) name.now) }
 {
     let scope = Scope::over(alloc, shape.try_clone(alloc)?);
     let asked = Planned { name, scope };
@@ -62,6 +69,13 @@ fn misfits_of<'t>(
         (engine_templates engine.now) (plan_view plan.now) (planned_view asked.now)) }
     ensures closed { IfOk result (λ misfits. misfits.items ≡ []
         → IsClosed (declared_view declared.now) (engine_templates engine.now) (plan_view plan.now)) }
+    ensures told { IfOk result (λ misfits. misfits_view misfits.items
+        ≡ template_misfits (declared_view declared.now) (plan_view plan.now) (planned_view asked.now)
+        (engine_templates engine.now asked.now.name.now)
+        ++ each_misfits (declared_view declared.now) (engine_templates engine.now) (plan_view plan.now)
+        (plan_view plan.now)) }
+    ensures untold { IfErr result (IsUntoldAmong (declared_view declared.now) (engine_templates engine.now)
+        (planned_view asked.now ∷ plan_view plan.now)) }
 {
     let mut misfits = Vec::new(alloc);
     let doubts = doubts_in(alloc, engine, declared, plan, asked)?;

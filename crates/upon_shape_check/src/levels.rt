@@ -1,11 +1,12 @@
 // How deep templates include each other. They are settled level by level: those that include none, then those that
 // include settled ones alone. Templates of a ring never are.
-ghost use Rattle.std.specs.Prelude.{◌≡◌, ◌++◌, IfOk, OnOk, IsTrue};
+ghost use Rattle.std.specs.Prelude.{◌≡◌, ◌++◌, ◌∷◌, IfErr, IfOk, IsTrue, OnOk};
 ghost use Rattle.upon_shape_check.specs.Callables.{declared_view};
 ghost use Rattle.upon_shape_check.specs.Plan.{plan_view, planned_view};
+ghost use Rattle.upon_shape_check.specs.Planning.{AreAmong};
 ghost use Rattle.upon_engine.specs.Engine.{engine_templates};
 ghost use Rattle.upon_shape_check.specs.Levels.{AddsAccepted, IsAcceptedAs};
-ghost use Rattle.upon_shape_check.specs.Verdict.{IsAcceptedBy};
+ghost use Rattle.upon_shape_check.specs.Verdict.{IsAcceptedBy, IsUntold, IsUntoldAmong};
 
 use crate::accepted::{Accepted, MOST_DEEP};
 use crate::declared::Declared;
@@ -24,8 +25,10 @@ pub(crate) fn how_it_ends<'t>(
     plan: Plan<'t>,
     asked: &Planned<'t>,
 ) -> Result<Accepted, Refusal<'t>>
-    ensures { IfOk result (IsAcceptedAs (declared_view declared.now) (engine_templates engine.now)
+    ensures ends { IfOk result (IsAcceptedAs (declared_view declared.now) (engine_templates engine.now)
         (planned_view asked.now)) }
+    ensures untold { IfErr result (IsUntoldAmong (declared_view declared.now) (engine_templates engine.now)
+        (planned_view asked.now ∷ plan_view plan.entry)) }
 {
     let mut settled = Plan::new(alloc);
     let mut left = plan;
@@ -50,8 +53,11 @@ fn settle<'t>(
     settled: &mut Plan<'t>,
     left: Plan<'t>,
 ) -> Result<Plan<'t>, Refusal<'t>>
-    ensures { OnOk result (AddsAccepted (declared_view declared.now) (engine_templates engine.now)
+    ensures added { OnOk result (AddsAccepted (declared_view declared.now) (engine_templates engine.now)
         (plan_view settled.old) (plan_view settled.new)) }
+    ensures others { IfOk result (λ others. AreAmong (plan_view others) (plan_view left.entry)) }
+    ensures untold { IfErr result (IsUntoldAmong (declared_view declared.now) (engine_templates engine.now)
+        (plan_view left.entry)) }
 {
     let mut added = Plan::new(alloc);
     let mut others = Plan::new(alloc);
@@ -74,8 +80,10 @@ fn is_accepted<'t>(
     plan: &Plan<'t>,
     planned: &Planned<'t>,
 ) -> Result<bool, Refusal<'t>>
-    ensures { IfOk result (λ accepted. IsTrue accepted → IsAcceptedBy (declared_view declared.now)
+    ensures accepted { IfOk result (λ accepted. IsTrue accepted → IsAcceptedBy (declared_view declared.now)
         (engine_templates engine.now) (plan_view plan.now) (planned_view planned.now)) }
+    ensures untold { IfErr result (IsUntold (declared_view declared.now) (engine_templates engine.now)
+        (planned_view planned.now)) }
 {
     let doubts = doubts_in(alloc, engine, declared, plan, planned)?;
     Ok(doubts.is_empty())

@@ -1,6 +1,7 @@
 // The pictures of places where templates may fail.
-ghost use Rattle.std.specs.Prelude.{◌≡◌, [], OnOk, string_bytes, true};
+ghost use Rattle.std.specs.Prelude.{◌≡◌, [], IsErr, OnOk, string_bytes, true};
 ghost use Rattle.upon_types.specs.Span.{LiesIn};
+ghost use Rattle.upon_shape_check.specs.Doubted.{IsNoMemory};
 
 use crate::hints::{hint_of, with_hint};
 use crate::reasons::{Known, TOO_DEEP, reason_of};
@@ -55,7 +56,8 @@ pub fn show_refusal(
     refusal: Refusal<'_>,
     pictures: &mut Pictures,
 ) -> Result<(), AllocError>
-    ensures { OnOk result (string_bytes pictures.new.text ≡ [] → ⊥) }
+    ensures shown { OnOk result (string_bytes pictures.new.text ≡ [] → ⊥) }
+    ensures memory { IsNoMemory refusal.entry → IsErr result }
 {
     match refusal {
         Refusal::NoTemplate => {}

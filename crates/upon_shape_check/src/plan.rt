@@ -16,6 +16,9 @@ pub struct Planned<'t> {
     pub scope: Scope<'t>,
 }
 
+/// How many templates a plan has at most, each as often as what is known there differs.
+pub const MOST_PLANNED: usize = 16384;
+
 /// Templates with what is known where they are included.
 #[derive(Drop)]
 pub struct Plan<'t> {

@@ -1,17 +1,23 @@
-// A plan for a template: which templates it includes, also by others, and what is known where they are. What a plan
-// lacks is in doubt where it is included, so nothing is to be shown of how it is made.
+// A plan for a template: which templates it includes, also by others, and what is known where they are. Each is
+// reached from it, and looked into; what a plan lacks is in doubt where it is included.
+ghost use Rattle.std.specs.Prelude.{◌≡◌, IfErr, IfOk, OnOk, option_map};
+ghost use Rattle.upon_shape_spec.specs.Doubted.{planned};
+ghost use Rattle.upon_shape_check.specs.Callables.{declared_view};
+ghost use Rattle.upon_shape_check.specs.Doubt.{doubts_view, unsure_view};
+ghost use Rattle.upon_shape_check.specs.Plan.{plan_view, planned_view};
+ghost use Rattle.upon_shape_check.specs.Planning.{AddsIncluded, AddsOne, IsPlanFor, include_of};
+ghost use Rattle.upon_shape_check.specs.Scope.{scope_view};
+ghost use Rattle.upon_shape_check.specs.Verdict.{IsUntoldFrom};
+ghost use Rattle.upon_engine.specs.Engine.{engine_templates};
 
 use crate::declared::Declared;
 use crate::doubt::{Doubt, Unsure};
-use crate::plan::{Plan, Planned};
+use crate::plan::{MOST_PLANNED, Plan, Planned};
 use crate::refusal::Refusal;
 use crate::scope::Scope;
 use crate::verdict::doubts_in;
-use std::alloc::Global;
+use std::alloc::{AllocError, Global};
 use upon_engine::engine::Engine;
-
-// How many templates a plan has at most, each as often as what is known there differs.
-const MOST: usize = 16384;
 
 /// Returns a plan for a template.
 pub(crate) fn plan_for<'t>(
@@ -19,11 +25,16 @@ pub(crate) fn plan_for<'t>(
     engine: &'t Engine<'_>,
     declared: &Declared,
     asked: &Planned<'t>,
-) -> Result<Plan<'t>, Refusal<'t>> {
+) -> Result<Plan<'t>, Refusal<'t>>
+    ensures made { IfOk result (λ plan. IsPlanFor (declared_view declared.now) (engine_templates engine.now)
+        (planned_view asked.now) (plan_view plan)) }
+    ensures untold { IfErr result (IsUntoldFrom (declared_view declared.now) (engine_templates engine.now)
+        (planned_view asked.now)) }
+{
     let mut plan = Plan::new(alloc);
     let doubts = doubts_in(alloc, engine, declared, &plan, asked)?;
     add_included(engine, &mut plan, doubts)?;
-    for at in 0..MOST {
+    for at in 0..MOST_PLANNED {
         let Some(planned) = plan.entries.get(at) else {
             break;
         };
@@ -38,17 +49,23 @@ fn add_included<'t>(
     engine: &Engine<'_>,
     plan: &mut Plan<'t>,
     doubts: Vec<Doubt<'t>>,
-) -> Result<(), Refusal<'t>> {
+) -> Result<(), AllocError>
+    ensures { OnOk result (AddsIncluded (engine_templates engine.now) (doubts_view doubts.entry.items)
+        (plan_view plan.old) (plan_view plan.new)) }
+{
     for doubt in doubts {
-        if let Some((name, scope)) = included(doubt.unsure) {
-            add_one(engine, plan, name, scope)?;
+        match included(doubt.unsure) {
+            Some((name, scope)) => add_one(engine, plan, name, scope)?,
+            None => {}
         }
     }
     Ok(())
 }
 
 // The include that is in doubt, if it is one.
-fn included(unsure: Unsure<'_>) -> Option<(&str, Scope<'_>)> {
+fn included(unsure: Unsure<'_>) -> Option<(&str, Scope<'_>)>
+    ensures { option_map (λ it. planned it.0.now (scope_view it.1)) result ≡ include_of (unsure_view unsure.entry) }
+{
     match unsure {
         Unsure::IsIncluded(name, scope) => Some((name, scope)),
         Unsure::HasMember(_shape) | Unsure::HasText(_shape) | Unsure::HasItems(_shape) => None,
@@ -63,11 +80,17 @@ fn add_one<'t>(
     plan: &mut Plan<'t>,
     name: &'t str,
     scope: Scope<'t>,
-) -> Result<(), Refusal<'t>> {
-    if engine.get_template(name).is_none() || plan.is_planned(name, &scope) {
+) -> Result<(), AllocError>
+    ensures { OnOk result (AddsOne (engine_templates engine.now) (planned name.now (scope_view scope.entry))
+        (plan_view plan.old) (plan_view plan.new)) }
+{
+    let Some(_) = engine.get_template(name) else {
+        return Ok(());
+    };
+    if plan.is_planned(name, &scope) {
         return Ok(());
     }
-    if plan.entries.len() < MOST {
+    if plan.entries.len() < MOST_PLANNED {
         plan.add(name, scope)?;
     }
     Ok(())

@@ -1,7 +1,8 @@
 // Steps of a walk inside literals of lists and maps.
-ghost use Rattle.std.specs.Prelude.{◌≡◌, ℕ, false, IfOk, MatchResult, option_map};
+ghost use Rattle.std.specs.Prelude.{◌≡◌, ℕ, false, IfErr, IfOk, MatchResult, option_map};
 ghost use Rattle.upon_shape_spec.specs.Known.{both_shapes, with_operand};
 ghost use Rattle.upon_shape.specs.View.{shape_view};
+ghost use Rattle.upon_shape_check.specs.DeepLiterals.{EndsAtOne, put_too_deep};
 ghost use Rattle.upon_shape_check.specs.Depth.{RefusesLiteral, is_too_deep};
 ghost use Rattle.upon_shape_check.specs.Doubt.{maybe_doubt};
 ghost use Rattle.upon_shape_check.specs.Known.{known_view, operand_view};
@@ -35,8 +36,9 @@ pub(crate) fn puts<'t>(
     known: &mut Known<'t>,
     part: Part<'_>,
 ) -> Result<Option<Doubt<'t>>, Unchecked>
-    ensures { IfOk result (λ d. (number : ℕ) → AlwaysSteps
+    ensures steps { IfOk result (λ d. (number : ℕ) → AlwaysSteps
         number (known_view known.old) (part_instr part.entry) (maybe_doubt d) (known_view known.new)) }
+    ensures deep { IfErr result (EndsAtOne (put_too_deep (known_view known.old))) }
 {
     match known.pop() {
         None => Ok(None),
@@ -51,9 +53,11 @@ fn put_into<'t>(
     part: Part<'_>,
     added: Operand<'t>,
 ) -> Result<Option<Doubt<'t>>, Unchecked>
-    ensures { IfOk result (λ d. (number : ℕ) → AlwaysSteps
+    ensures steps { IfOk result (λ d. (number : ℕ) → AlwaysSteps
         number (with_operand (operand_view added.entry) (known_view known.old)) (part_instr part.entry) (maybe_doubt d)
         (known_view known.new)) }
+    ensures deep { IfErr result
+        (EndsAtOne (put_too_deep (with_operand (operand_view added.entry) (known_view known.old)))) }
 {
     match known.pop() {
         None => {

@@ -27,6 +27,11 @@ pub enum Refusal<'t> {
 }
 
 impl<'t> From<AllocError> for Refusal<'t> {
+    ghost use Rattle.std.specs.Prelude.{◌≡◌};
+    ghost use Rattle.upon_shape_check.specs.declared.refusal.Refusal.TheVariants.{Memory};
+
+    ghost from_gives = { λ given refusal. refusal ≡ Memory given };
+
     fn from(error: AllocError) -> Refusal<'t> {
         Refusal::Memory(error)
     }

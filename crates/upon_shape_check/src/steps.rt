@@ -198,7 +198,8 @@ pub(crate) fn includes<'t>(
 // Returns the doubt that a template does not fail where this is known.
 fn not_included<'t>(name: &'t Quoted, scope: Scope<'t>) -> Doubt<'t>
     ensures { maybe_doubt (Some result)
-        ≡ doubts.doubt (string_of name.now).span (doubts.is_included (scope_view scope.entry)) }
+        ≡ doubts.doubt (string_of name.now).span
+        (doubts.is_included (string_of name.now).text (scope_view scope.entry)) }
 {
     Doubt {
         place: name.span,

@@ -1,10 +1,11 @@
 // A walk along the instructions of a compiled template, with what is known at each of them.
-ghost use Rattle.std.specs.Prelude.{◌≡◌, ◌++◌, IfOk, OnOk};
+ghost use Rattle.std.specs.Prelude.{◌≡◌, ◌++◌, IfErr, IfOk, OnOk};
 ghost use Rattle.upon_shape_spec.specs.Accepted.{is_planned};
 ghost use Rattle.upon_compiler.specs.Program.{instr_of, program_view};
 ghost use Rattle.upon_shape_spec.specs.Known as spec;
 ghost use Rattle.upon_shape_spec.specs.ProgramDoubts as walks;
 ghost use Rattle.upon_shape_check.specs.Callables.{declared_view};
+ghost use Rattle.upon_shape_check.specs.DeepLiterals.{EndsAtOne, instr_too_deep, program_too_deep};
 ghost use Rattle.upon_shape_check.specs.Doubt.{doubts_view, maybe_doubt};
 ghost use Rattle.upon_shape_check.specs.Known.{known_view};
 ghost use Rattle.upon_shape_check.specs.Plan.{plan_view};
@@ -32,9 +33,12 @@ pub fn doubts_of<'t>(
     scope: Scope<'t>,
     instrs: &'t [Instr],
 ) -> Result<Vec<Doubt<'t>>, Unchecked>
-    ensures { IfOk result (λ ds. doubts_view ds.items
+    ensures doubts { IfOk result (λ ds. doubts_view ds.items
         ≡ walks.program_doubts (declared_view declared.now) (is_planned (plan_view plan.now)) 0
         (spec.known_at_begin (scope_view scope.entry)) (program_view instrs.now)) }
+    ensures deep { IfErr result (EndsAtOne
+        (program_too_deep (declared_view declared.now) (is_planned (plan_view plan.now)) 0
+        (spec.known_at_begin (scope_view scope.entry)) (program_view instrs.now))) }
 {
     let mut doubts = Vec::new(alloc);
     let mut known = Known::at_begin(alloc, scope);
@@ -65,8 +69,9 @@ fn step<'t>(
     number: usize,
     instr: &'t Instr,
 ) -> Result<Option<Doubt<'t>>, Unchecked>
-    ensures { IfOk result (λ d. Steps (declared_view declared.now) (is_planned (plan_view plan.now)) number
+    ensures steps { IfOk result (λ d. Steps (declared_view declared.now) (is_planned (plan_view plan.now)) number
         (known_view known.old) (instr_of instr.now) (maybe_doubt d) (known_view known.new)) }
+    ensures deep { IfErr result (EndsAtOne (instr_too_deep (known_view known.old) (instr_of instr.now))) }
 {
     match instr {
         Instr::Jump(to) => Ok(steps::jumps(alloc, known, number, *to)?),

@@ -15,6 +15,9 @@ pub mod BranchesFit
 pub mod TemplatesFit
 pub mod IncludesFit
 pub mod NoDoubts
+pub mod Among
+pub mod FewerDoubts
+pub mod IncludesInDoubt
 pub mod Written
 pub mod Examples
 pub mod Blocks

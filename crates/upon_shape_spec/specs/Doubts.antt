@@ -14,15 +14,15 @@ use Rattle.upon_shape_spec.specs.Shape.{Shape, never}
 use Rattle.upon_shape_spec.specs.Wider.{wider}
 
 -- what is not sure: that a value of this shape, or a loop's key or state, has the member; that a callable takes values
--- of these shapes; that a value of this shape has a text, or items for these names; that the template does not fail
--- here
+-- of these shapes; that a value of this shape has a text, or items for these names; that the template of this name does
+-- not fail here
 pub data Unsure : Type 0 where
   has_member : Shape → Unsure
   loop_has_member : Unsure
   takes_values : List Shape → Unsure
   has_text : Shape → Unsure
   has_items : Shape → Unsure
-  is_included : Scope → Unsure
+  is_included : List ℕ → Scope → Unsure
 
 -- what is not sure, and where
 pub record Doubt : Type 0 where
@@ -189,11 +189,12 @@ module _ (declared : Declared) (included : List ℕ → Scope → Bool) where
     pub statement_doubts : Scope → Statement → List Doubt
     statement_doubts scope (raw span) = []
     statement_doubts scope (inline_expr e span) = shown_doubts declared scope e
-    statement_doubts scope (include word None) = unless (included word.text scope) (doubt word.span (is_included scope))
+    statement_doubts scope (include word None) =
+        unless (included word.text scope) (doubt word.span (is_included word.text scope))
     statement_doubts scope (include word (Some e)) =
         expression_doubts declared scope e
         ++ if_some (expression_shape declared scope e)
-        (λ s. unless (included word.text (scope_over s)) (doubt word.span (is_included (scope_over s))))
+        (λ s. unless (included word.text (scope_over s)) (doubt word.span (is_included word.text (scope_over s))))
     statement_doubts scope (block opening e body other) =
         let s : Shape = or_never (expression_shape declared scope e) in
         let b : Branches = branches opening e scope in

@@ -13,5 +13,6 @@ pub mod Narrowed
 pub mod Ends
 pub mod Accepted
 pub mod Doubts
+pub mod Doubted
 pub mod Known
 pub mod ProgramDoubts

@@ -56,7 +56,7 @@ puts put k =
 module _ (declared : Declared) (included : List ℕ → Scope → Bool) where
   -- that an include does not fail on a scope
   abbrev pub include_doubts : Ident → Scope → List Doubt
-  include_doubts word scope = unless (included word.text scope) (doubt word.span (is_included scope))
+  include_doubts word scope = unless (included word.text scope) (doubt word.span (is_included word.text scope))
 
   -- what is in doubt at an instruction
   abbrev pub instr_doubts : Known → Instr → List Doubt

@@ -1,20 +1,29 @@
-use Rattle.std.proofs.Common.{ℕ, List}
+use Rattle.std.proofs.Common.{inl, inr}
 use Rattle.upon_shape.specs.View.{shape_view}
 use Rattle.upon_shape_check.specs.Callables.{declared_view}
 use Rattle.upon_engine.specs.Texts.{texts_of}
 use Rattle.upon_shape_check.specs.EndsOn.{EndsOn}
 use Rattle.upon_calls.proofs.CheckedPages.{each_name_holds, name_holds, no_name_yet}
+use Rattle.upon_calls.proofs.Unsure.{a_name}
 use Rattle.upon_calls.proofs.misfits.misfits.Goals as goal
 
 pub loop-name-init : goal.loop-name-init
-loop-name-init g c = λ empty.
-    no_name_yet (λ name. EndsOn (texts_of (λ f. (g.dyn-1.0.entry f.vtable).1.formats f.value) (λ f. (g.dyn-2.0.entry f.vtable).1.answers f.value) c.args.engine.now) (declared_view c.args.pages.declared.now) name (shape_view c.args.pages.shape.now)) c.args.pages.names.now
+loop-name-init g c = record {
+  ends = λ empty. no_name_yet (λ name. EndsOn (texts_of (λ f. (g.dyn-1.0.entry f.vtable).1.formats f.value) (λ f. (g.dyn-2.0.entry f.vtable).1.answers f.value) c.args.engine.now) (declared_view c.args.pages.declared.now) name (shape_view c.args.pages.shape.now)) c.args.pages.names.now;
+  unsure = λ some. absurd (some c.new-pictures.ensures);
+}
 
 pub loop-name-preserved : goal.loop-name-preserved
-loop-name-preserved g c = λ empty.
-    let both = c.in_ok-show_page.ensures empty in
-    name_holds (λ name. EndsOn (texts_of (λ f. (g.dyn-1.0.entry f.vtable).1.formats f.value) (λ f. (g.dyn-2.0.entry f.vtable).1.answers f.value) c.args.engine.now) (declared_view c.args.pages.declared.now) name (shape_view c.args.pages.shape.now)) c.args.pages.names.now c.loop-name.name-index _ c.loop-name-test.true (c.loop-name.invariant both.0) both.1
+loop-name-preserved g c = record {
+  ends = λ empty.
+      let both = c.in_ok-show_page.ensures.ends empty in
+      name_holds (λ name. EndsOn (texts_of (λ f. (g.dyn-1.0.entry f.vtable).1.formats f.value) (λ f. (g.dyn-2.0.entry f.vtable).1.answers f.value) c.args.engine.now) (declared_view c.args.pages.declared.now) name (shape_view c.args.pages.shape.now)) c.args.pages.names.now c.loop-name.name-index _ c.loop-name-test.true (c.loop-name.invariant.ends both.0) both.1;
+  unsure = λ some. elim (c.in_ok-show_page.ensures.unsure some) [
+    | inl before ↦ c.loop-name.invariant.unsure before
+    | inr here ↦ (_, a_name c.args.pages.names.now c.loop-name.name-index _ c.loop-name-test.true, here)
+  ];
+}
 
 pub returns-clause-fits : goal.returns-clause-fits
 returns-clause-fits g c = λ empty.
-    each_name_holds (λ name. EndsOn (texts_of (λ f. (g.dyn-1.0.entry f.vtable).1.formats f.value) (λ f. (g.dyn-2.0.entry f.vtable).1.answers f.value) c.args.engine.now) (declared_view c.args.pages.declared.now) name (shape_view c.args.pages.shape.now)) c.args.pages.names.now c.loop-name.name-index c.loop-name-test.false (c.loop-name.invariant empty)
+    each_name_holds (λ name. EndsOn (texts_of (λ f. (g.dyn-1.0.entry f.vtable).1.formats f.value) (λ f. (g.dyn-2.0.entry f.vtable).1.answers f.value) c.args.engine.now) (declared_view c.args.pages.declared.now) name (shape_view c.args.pages.shape.now)) c.args.pages.names.now c.loop-name.name-index c.loop-name-test.false (c.loop-name.invariant.ends empty)

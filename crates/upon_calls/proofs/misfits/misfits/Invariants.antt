@@ -5,8 +5,12 @@ use Rattle.upon_shape_check.specs.Callables.{declared_view}
 use Rattle.upon_needs.specs.Names.{texts}
 use Rattle.upon_engine.specs.Texts.{texts_of}
 use Rattle.upon_shape_check.specs.EndsOn.{EndsOn}
+use Rattle.upon_calls.specs.Work.{IsOneUnsure}
 use Rattle.upon_calls.proofs.misfits.misfits.Given as goal
 
--- if there is no picture, each page so far ends
+-- if there is no picture, each page so far ends; if there is one, this isn't known of one of the pages
 abbrev pub invariant-loop-name : goal.invariant-loop-name
-invariant-loop-name g l = string_bytes l.pictures.text ≡ [] → All (λ name. EndsOn (texts_of (λ f. (g.dyn-1.0.entry f.vtable).1.formats f.value) (λ f. (g.dyn-2.0.entry f.vtable).1.answers f.value) l.fn.engine) (declared_view l.fn.pages.declared.now) name (shape_view l.fn.pages.shape.now)) (texts (take l.name-index l.fn.pages.names.now))
+invariant-loop-name g l = record {
+  ends : string_bytes l.pictures.text ≡ [] → All (λ name. EndsOn (texts_of (λ f. (g.dyn-1.0.entry f.vtable).1.formats f.value) (λ f. (g.dyn-2.0.entry f.vtable).1.answers f.value) l.fn.engine) (declared_view l.fn.pages.declared.now) name (shape_view l.fn.pages.shape.now)) (texts (take l.name-index l.fn.pages.names.now));
+  unsure : (string_bytes l.pictures.text ≡ [] → ⊥) → IsOneUnsure (texts_of (λ f. (g.dyn-1.0.entry f.vtable).1.formats f.value) (λ f. (g.dyn-2.0.entry f.vtable).1.answers f.value) l.fn.engine) l.fn.pages;
+}

@@ -1,4 +1,4 @@
-use Rattle.std.proofs.Common.{IfErr, refl}
+use Rattle.std.proofs.Common.{refl}
 use Rattle.upon_engine.specs.Engine.{engine_templates}
 use Rattle.upon_engine.specs.Texts.{texts_of}
 use Rattle.upon_calls.proofs.Needs.{named_lists, none_held}

@@ -1,11 +1,10 @@
-use Rattle.std.proofs.Common.{None, true, false, refl, sym, ap, subst, ◌∙◌}
+use Rattle.std.proofs.Common.{None, true, false, refl, sym, ◌∙◌}
 use Rattle.upon_types.specs.View.{view}
 use Rattle.upon_engine.specs.Answers.{AnswersText}
 use Rattle.upon_engine.specs.Template.{template_of}
 use Rattle.upon_engine.proofs.Renderings.{on_value}
 use Rattle.upon_engine.proofs.Tables.{answers_by}
 use Rattle.upon_vm.specs.Limits.{is_limited}
-use Rattle.upon_calls.specs.Rendering.{AnswersIf}
 use Rattle.upon_calls.proofs.Rendering.{answered_if}
 use Rattle.upon_calls.proofs.work.answer_text.Goals as goal
 

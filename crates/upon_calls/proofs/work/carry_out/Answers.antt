@@ -1,4 +1,4 @@
-use Rattle.std.proofs.Common.{◌≡◌, ◌∙◌, IfErr, IfOk, refl, sym, ap, subst, string_bytes, take, inl}
+use Rattle.std.proofs.Common.{◌≡◌, ◌∙◌, IfErr, IfOk, refl, ap, subst, string_bytes, take, inl}
 use Rattle.upon_types.specs.Error.{fault_of}
 use Rattle.upon_delimiters.specs.Syntax.{syntax_delimiters}
 use Rattle.upon_engine.specs.Texts.{texts_of}

@@ -1,7 +1,7 @@
 use Rattle.std.proofs.Common.{IfErr, IfOk, string_bytes, subst, sym}
 use Rattle.upon_engine.specs.Texts.{texts_of}
 use Rattle.upon_calls.specs.Work.{IsAbsent, WorkFails, WorkFaults, WorkGives}
-use Rattle.upon_calls.proofs.CheckedPages.{with_trees}
+use Rattle.upon_calls.proofs.CheckedPages.{tells_of}
 use Rattle.upon_calls.proofs.work.do_work.Goals as goal
 
 pub returns-in-Render-clause-gives : goal.returns-in-Render-clause-gives
@@ -23,4 +23,4 @@ returns-in-RenderText-clause-fails g c =
 pub returns-in-Fit-clause-gives : goal.returns-in-Fit-clause-gives
 returns-in-Fit-clause-gives g c =
     subst (λ w. IfOk c.misfits.result (λ text. WorkGives c.args.limits.now (texts_of (λ f. (g.dyn-1.0.entry f.vtable).1.formats f.value) (λ f. (g.dyn-2.0.entry f.vtable).1.answers f.value) c.args.engine.now) w (string_bytes text))) (sym c.in-Fit.is)
-    (with_trees _ _ c.misfits.result c.requires c.misfits.ensures.fits)
+    (tells_of _ _ c.misfits.result c.requires c.misfits.ensures.fits c.misfits.ensures.unsure)

@@ -6,15 +6,15 @@ use Rattle.upon_shape_check.proofs.Acting.{put_alone, put_so}
 use Rattle.upon_shape_check.proofs.Putting.{put_both, put_one}
 use Rattle.upon_shape_check.proofs.puts.put_into.Goals as goal
 
-pub returns-in_ok-push-in-None : goal.returns-in_ok-push-in-None
-returns-in_ok-push-in-None c = λ number d inc.
+pub returns-in_ok-push-in-None-clause-steps : goal.returns-in_ok-push-in-None-clause-steps
+returns-in_ok-push-in-None-clause-steps c = λ number d inc.
     let o = operand_view c.args.added in
     let mid = known_view c.args.known.now in
     put_alone d inc number (part_instr c.args.part) (with_operand o mid) mid (known_view c.pop.new.self) (known_view c.push.new.self) o refl c.in-None.ensures.0 c.in-None.ensures.1 c.in_ok-push-in-None.ensures
     (put_one d inc number c.args.part mid o)
 
-pub returns-in_ok-push-in-Some : goal.returns-in_ok-push-in-Some
-returns-in_ok-push-in-Some c = λ number d inc.
+pub returns-in_ok-push-in-Some-clause-steps : goal.returns-in_ok-push-in-Some-clause-steps
+returns-in_ok-push-in-Some-clause-steps c = λ number d inc.
     let o = operand_view c.args.added in
     let into = operand_view c.in-Some.into in
     let mid = known_view c.args.known.now in

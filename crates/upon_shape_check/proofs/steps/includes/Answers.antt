@@ -14,6 +14,6 @@ returns-then-is_planned c = λ d number.
 pub returns : goal.returns
 returns c = λ d number. (
   not_included_so d (is_planned (plan_view c.args.plan.now)) (string_of c.args.name.now) (scope_view c.args.known.now.scope) c.is_planned.result _ (c.is_planned.ensures ∙ ap (λ t. is_planned (plan_view c.args.plan.now) t (scope_view c.args.known.now.scope)) c.deref.ensures) c.if-is_planned.false
-      (c.not_included.ensures ∙ ap (λ s. doubts.doubt (string_of c.args.name.now).span (doubts.is_included s)) c.in_ok-try_clone.ensures),
+      (c.not_included.ensures ∙ ap (λ s. doubts.doubt (string_of c.args.name.now).span (doubts.is_included (string_of c.args.name.now).text s)) c.in_ok-try_clone.ensures),
   refl,
 )
