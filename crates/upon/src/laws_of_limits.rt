@@ -8,9 +8,10 @@ ghost use Rattle.upon_types.specs.Tree.{Statements};
 ghost use Rattle.upon_types.specs.Val.{Val};
 ghost use Rattle.upon_types.specs.declared.error.Error.{Error};
 ghost use Rattle.upon_meaning_spec.specs.Engine.{Table};
+ghost use Rattle.upon_vm.specs.declared.limits.Limit.{Limit};
 ghost use Rattle.upon_vm.specs.declared.limits.Limits.{Limits};
 ghost use Rattle.upon_engine.specs.Theorem.{AnswersTree, IsTable, Sends, meaning};
-ghost use Rattle.upon_engine.specs.Within.{AnswersWithin, AreNoLess, EndsWithin, NamesALimit, SendsWithin, StopsSending, SurelyFits, SurelyMakesMore, runs};
+ghost use Rattle.upon_engine.specs.Within.{AnswersWithin, AreNoLess, EndsWithin, RenderingFits, RenderingGoesBeyond, NamesALimit, SendsWithin, StopsSending, runs};
 
 use upon_engine::engine::Engine;
 use upon_engine::texts::{AnyEngine, EngineTexts};
@@ -50,35 +51,34 @@ pub fn greater_limits(engine: &Engine<'_>)
         → NamesALimit engine name source tree v result ⊎ AnswersTree engine name source tree v result }
 {}
 
-/// States that a rendering that fits its limits, even with each value that may be lent counted as a copy, is as one
-/// without limits.
+/// States that a rendering that fits its limits is as one without limits.
 pub fn what_fits(engine: &Engine<'_>)
     ensures answered { let engine = ⟦<AnyEngine as EngineTexts>⟧.texts engine.now in
         (limits : Limits) (name : Option (List ℕ)) (source : List ℕ) (tree : Statements) (v : Val)
-        (result : Result (String Global) Error) → SurelyFits engine limits name source tree v
+        (result : Result (String Global) Error) → RenderingFits engine limits name source tree v
         → AnswersWithin engine limits name source tree v result
         → AnswersTree engine name source tree v result }
     ensures sent { let engine = ⟦<AnyEngine as EngineTexts>⟧.texts engine.now in
         (limits : Limits) (name : Option (List ℕ)) (source : List ℕ) (tree : Statements) (v : Val)
-        (result : Result (Unit {0}) Error) (old new : Option (List ℕ)) → SurelyFits engine limits name source tree v
+        (result : Result (Unit {0}) Error) (old new : Option (List ℕ)) → RenderingFits engine limits name source tree v
         → SendsWithin engine limits name source tree v result old new
         → Sends engine name source tree v result old new }
 {}
 
-/// States that a rendering is stopped that makes more bytes of values than their limit, counted as few as they may be.
-pub fn what_makes_more(engine: &Engine<'_>)
+/// States that a rendering is stopped that goes beyond a limit: it does not end within so many steps, its text has more
+/// bytes, or it makes more bytes of values.
+pub fn what_goes_beyond(engine: &Engine<'_>)
     // The answer names a limit, or memory is out.
     ensures answered { let engine = ⟦<AnyEngine as EngineTexts>⟧.texts engine.now in
-        (limits : Limits) (n : ℕ) (name : Option (List ℕ)) (source : List ℕ) (tree : Statements) (v : Val)
-        (result : Result (String Global) Error) → limits.values ≡ Some n
-        → SurelyMakesMore engine n name source tree v
+        (limits : Limits) (limit : Limit) (n : ℕ) (name : Option (List ℕ)) (source : List ℕ) (tree : Statements)
+        (v : Val) (result : Result (String Global) Error) → RenderingGoesBeyond engine limits limit n name source tree v
         → AnswersWithin engine limits name source tree v result
         → NamesALimit engine name source tree v result ⊎ IsErrAnd result (λ e. fault_of e ≡ out_of_memory) }
     // So it is of what is written, but that a failed write may be told of.
     ensures sent { let engine = ⟦<AnyEngine as EngineTexts>⟧.texts engine.now in
-        (limits : Limits) (n : ℕ) (name : Option (List ℕ)) (source : List ℕ) (tree : Statements) (v : Val)
-        (result : Result (Unit {0}) Error) (old new : Option (List ℕ)) → limits.values ≡ Some n
-        → SurelyMakesMore engine n name source tree v
+        (limits : Limits) (limit : Limit) (n : ℕ) (name : Option (List ℕ)) (source : List ℕ) (tree : Statements)
+        (v : Val) (result : Result (Unit {0}) Error) (old new : Option (List ℕ))
+        → RenderingGoesBeyond engine limits limit n name source tree v
         → SendsWithin engine limits name source tree v result old new
         → (table : Table) → IsTable engine.texts table
         → StopsSending limits (runs engine table name source tree v) (meaning engine table name source tree v) result }

@@ -29,7 +29,7 @@ use Rattle.upon_vm.specs.Course.{Course, course}
 use Rattle.upon_vm.specs.Limits.{AtMost}
 use Rattle.upon_vm_steps.specs.Machine.{source_state}
 use Rattle.upon_vm.specs.Reports.{IsAnyIo, IsTakenError, WritesReported}
-use Rattle.upon_vm.specs.Within.{EndsSo, FitsLimits, FitsWithCopies, GoesBeyond, IsOfLimit, IsReportWithin, MustMakeMore, RanWithin, ReportMarksWithin, TextWithin, WritesWithin}
+use Rattle.upon_vm.specs.Within.{EndsSo, FitsLimits, GoesBeyond, IsOfLimit, IsReportWithin, RanWithin, ReportMarksWithin, TextWithin, WritesWithin}
 use Rattle.upon_vm.specs.Weight.{as_count}
 use Rattle.upon_vm.specs.declared.limits.Limit.{Limit}
 use Rattle.upon_vm.specs.declared.limits.Limit.TheVariants.{Steps, Output, Values}
@@ -40,7 +40,7 @@ use Rattle.upon_engine.specs.Answers.{AnswersText}
 use Rattle.upon_engine.specs.Engine.{engine_templates}
 use Rattle.upon_engine.specs.Texts.{Texts, texts_of}
 use Rattle.upon_engine.specs.Theorem.{AnswersTree, IsTable, Sends, meaning, rendering}
-use Rattle.upon_engine.specs.Within.{AnswersWithin, AreNoLess, EndsWithin, IsNoLess, NamesALimit, SendsWithin, StopsSending, SurelyFits, SurelyMakesMore, runs}
+use Rattle.upon_engine.specs.Within.{AnswersWithin, AreNoLess, EndsWithin, RenderingFits, RenderingGoesBeyond, IsNoLess, NamesALimit, SendsWithin, StopsSending, runs}
 use Rattle.upon_engine.specs.declared.engine.Engine.{Engine as Held}
 use Rattle.upon_engine.proofs.Tables.{is_table, made, only_table, table_held}
 
@@ -192,7 +192,7 @@ module _ {Q : Type 0} (course : Course Q) (o : Outcome Q) (on : (m n : ℕ) → 
   fits_greater one other le fits = record {
     steps = ends_greater one.steps other.steps le.steps fits.steps;
     output = most_greater one.output other.output (length o.text) le.output fits.output;
-    values = λ count point there. most_greater one.values other.values (as_count point.least) le.values (fits.values count point there);
+    values = λ count point there. most_greater one.values other.values (as_count (point.made + point.makes)) le.values (fits.values count point there);
   }
 
   text_greater : (depth : ℕ) (one other : Limits) (result : Result (String Global) Error) → AreNoLess one other → TextWithin depth one course o result → NamesAt course result ⊎ TextWithin depth other course o result
@@ -214,7 +214,7 @@ abbrev SaysMemory : Result (String Global) Error → Type 0
 SaysMemory result = IsErrAnd result (λ e. fault_of e ≡ out_of_memory)
 
 module _ {Q : Type 0} (depth : ℕ) (limits : Limits) (course : Course Q) (o : Outcome Q) where
-  never_beyond : (limit : Limit) (n : ℕ) → FitsWithCopies limits course o → GoesBeyond limits course o limit n → ⊥
+  never_beyond : (limit : Limit) (n : ℕ) → FitsLimits limits course o → GoesBeyond limits course o limit n → ⊥
   never_beyond Steps n fits beyond = none-some o (sym beyond.1 ∙ subst (λ l. EndsSo l course.out o) beyond.0 fits.steps)
   never_beyond Output n fits beyond =
       let most : length o.text ≤ n = subst (λ l. AtMost l (length o.text)) beyond.0 fits.output in
@@ -222,39 +222,33 @@ module _ {Q : Type 0} (depth : ℕ) (limits : Limits) (course : Course Q) (o : O
       omega (arith, most, more)
   never_beyond Values n fits beyond =
       let at = beyond.1 in
-      let most : at.1.made ≤ n = subst (λ l. AtMost l at.1.made) beyond.0 (fits.values at.0 at.1 at.2) in
+      let most : as_count (at.1.made + at.1.makes) ≤ n = subst (λ l. AtMost l (as_count (at.1.made + at.1.makes))) beyond.0 (fits.values at.0 at.1 at.2) in
       let more = at.3 in
       omega (arith, most, more)
 
-  text_fits : (result : Result (String Global) Error) → FitsWithCopies limits course o → TextWithin depth limits course o result → AnswersText depth o result
+  text_fits : (result : Result (String Global) Error) → FitsLimits limits course o → TextWithin depth limits course o result → AnswersText depth o result
   text_fits (Ok text) fits h = (h.0, h.1)
   text_fits (Err e) fits (inl h) = inl h.0
   text_fits (Err e) fits (inr (inl memory)) = inr memory
   text_fits (Err e) fits (inr (inr names)) = absurd (never_beyond names.0 names.1 fits names.2)
 
-  never_fits : (n : ℕ) → limits.values ≡ Some n → MustMakeMore n course → FitsLimits limits course o → ⊥
-  never_fits n is at fits =
-      let most : as_count at.1.least ≤ n = subst (λ l. AtMost l (as_count at.1.least)) is (fits.values at.0 at.1 at.2) in
-      let more = at.3 in
-      omega (arith, most, more)
+  text_beyond : (result : Result (String Global) Error) (limit : Limit) (n : ℕ) → GoesBeyond limits course o limit n → TextWithin depth limits course o result → NamesAt course result ⊎ SaysMemory result
+  text_beyond (Ok text) limit n more h = absurd (never_beyond limit n h.2 more)
+  text_beyond (Err e) limit n more (inl h) = absurd (never_beyond limit n h.1 more)
+  text_beyond (Err e) limit n more (inr (inl memory)) = inr memory
+  text_beyond (Err e) limit n more (inr (inr names)) = inl (names.0, names.1, names.3)
 
-  text_beyond : (result : Result (String Global) Error) (n : ℕ) → limits.values ≡ Some n → MustMakeMore n course → TextWithin depth limits course o result → NamesAt course result ⊎ SaysMemory result
-  text_beyond (Ok text) n is more h = absurd (never_fits n is more h.2)
-  text_beyond (Err e) n is more (inl h) = absurd (never_fits n is more h.1)
-  text_beyond (Err e) n is more (inr (inl memory)) = inr memory
-  text_beyond (Err e) n is more (inr (inr names)) = inl (names.0, names.1, names.3)
-
-  writes_fit : (result : Result (Unit {0}) Error) (old new : Option (List ℕ)) → FitsWithCopies limits course o → WritesWithin depth IsAnyIo limits course result old new o → WritesReported depth IsAnyIo result old new o
+  writes_fit : (result : Result (Unit {0}) Error) (old new : Option (List ℕ)) → FitsLimits limits course o → WritesWithin depth IsAnyIo limits course result old new o → WritesReported depth IsAnyIo result old new o
   writes_fit (Ok u) old new fits h = (h.0, h.1)
   writes_fit (Err e) old new fits (inl h) = inl (h.0, h.1)
   writes_fit (Err e) old new fits (inr (inl memory, part)) = inr (inl memory, part)
   writes_fit (Err e) old new fits (inr (inr (inl own), part)) = inr (inr own, part)
   writes_fit (Err e) old new fits (inr (inr (inr names), part)) = absurd (never_beyond names.0 names.1 fits names.2)
 
-  writes_beyond : (result : Result (Unit {0}) Error) (old new : Option (List ℕ)) (n : ℕ) → limits.values ≡ Some n → MustMakeMore n course → WritesWithin depth IsAnyIo limits course result old new o → StopsSending limits course o result
-  writes_beyond (Ok u) old new n is more h = absurd (never_fits n is more h.2)
-  writes_beyond (Err e) old new n is more (inl h) = absurd (never_fits n is more h.2)
-  writes_beyond (Err e) old new n is more (inr h) = h.0
+  writes_beyond : (result : Result (Unit {0}) Error) (old new : Option (List ℕ)) (limit : Limit) (n : ℕ) → GoesBeyond limits course o limit n → WritesWithin depth IsAnyIo limits course result old new o → StopsSending limits course o result
+  writes_beyond (Ok u) old new limit n more h = absurd (never_beyond limit n h.2 more)
+  writes_beyond (Err e) old new limit n more (inl h) = absurd (never_beyond limit n h.2 more)
+  writes_beyond (Err e) old new limit n more (inr h) = h.0
 
 module _ {X Y : Type 0} {P : X → Type 0} {Q : Y → Type 0} (formats : DynBox X Global P → Formatter) (answers : DynBox Y Global Q → Function) (e : Held X Y P Q)
     (name : Option (List ℕ)) (source : List ℕ) (tree : Statements) (v : Val) where
@@ -297,22 +291,22 @@ module _ {X Y : Type 0} {P : X → Type 0} {Q : Y → Type 0} (formats : DynBox 
         | inr is ↦ inr (by_any (λ table. AnswersText e.depth (meant table) result) is)
       ]
 
-  pub fitting_answers : (result : Result (String Global) Error) (limits : Limits) → SurelyFits held limits name source tree v → AnswersWithin held limits name source tree v result → AnswersTree held name source tree v result
+  pub fitting_answers : (result : Result (String Global) Error) (limits : Limits) → RenderingFits held limits name source tree v → AnswersWithin held limits name source tree v result → AnswersTree held name source tree v result
   fitting_answers result limits fits said = λ table it. text_fits e.depth limits (course_by table) (meant table) result (fits table it) (said table it)
 
-  pub stopped_answers : (result : Result (String Global) Error) (limits : Limits) (n : ℕ) → limits.values ≡ Some n → SurelyMakesMore held n name source tree v → AnswersWithin held limits name source tree v result
+  pub stopped_answers : (result : Result (String Global) Error) (limits : Limits) (limit : Limit) (n : ℕ) → RenderingGoesBeyond held limits limit n name source tree v → AnswersWithin held limits name source tree v result
       → NamesALimit held name source tree v result ⊎ SaysMemory result
-  stopped_answers result limits n is more said =
+  stopped_answers result limits limit n more said =
       let it = is_table (get_by_text e.templates) in
-      elim (text_beyond e.depth limits (course_by the_table) (meant the_table) result n is (more the_table it) (said the_table it)) [
+      elim (text_beyond e.depth limits (course_by the_table) (meant the_table) result limit n (more the_table it) (said the_table it)) [
         | inl names ↦ inl (names_by_any result names)
         | inr out ↦ inr out
       ]
 
   -- so it is if it is written
-  pub fitting_sends : (result : Result (Unit {0}) Error) (limits : Limits) (old new : Option (List ℕ)) → SurelyFits held limits name source tree v → SendsWithin held limits name source tree v result old new → Sends held name source tree v result old new
+  pub fitting_sends : (result : Result (Unit {0}) Error) (limits : Limits) (old new : Option (List ℕ)) → RenderingFits held limits name source tree v → SendsWithin held limits name source tree v result old new → Sends held name source tree v result old new
   fitting_sends result limits old new fits said = λ table it. writes_fit e.depth limits (course_by table) (meant table) result old new (fits table it) (said table it)
 
-  pub stopped_sends : (result : Result (Unit {0}) Error) (limits : Limits) (n : ℕ) (old new : Option (List ℕ)) → limits.values ≡ Some n → SurelyMakesMore held n name source tree v → SendsWithin held limits name source tree v result old new
+  pub stopped_sends : (result : Result (Unit {0}) Error) (limits : Limits) (limit : Limit) (n : ℕ) (old new : Option (List ℕ)) → RenderingGoesBeyond held limits limit n name source tree v → SendsWithin held limits name source tree v result old new
       → (table : Table) → IsTable held.texts table → StopsSending limits (course_by table) (meant table) result
-  stopped_sends result limits n old new is more said = λ table it. writes_beyond e.depth limits (course_by table) (meant table) result old new n is (more table it) (said table it)
+  stopped_sends result limits limit n old new more said = λ table it. writes_beyond e.depth limits (course_by table) (meant table) result old new limit n (more table it) (said table it)

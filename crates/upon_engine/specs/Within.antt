@@ -13,7 +13,7 @@ use Rattle.upon_meaning_spec.specs.Outcome.{Outcome, States, states}
 use Rattle.upon_machine_spec.specs.State.{at_start}
 use Rattle.upon_vm.specs.Course.{Course, course}
 use Rattle.upon_vm.specs.Reports.{IsAnyIo}
-use Rattle.upon_vm.specs.Within.{FitsWithCopies, IsOfLimit, MustMakeMore, NamesLimit, TextWithin, WritesWithin}
+use Rattle.upon_vm.specs.Within.{FitsLimits, GoesBeyond, IsOfLimit, NamesLimit, TextWithin, WritesWithin}
 use Rattle.upon_vm.specs.declared.limits.Limit.{Limit}
 use Rattle.upon_vm.specs.declared.limits.Limits.{Limits}
 use Rattle.upon_engine.specs.Texts.{Texts}
@@ -29,10 +29,9 @@ runs e table name source tree v =
 abbrev pub EndsWithin : Texts → Table → Option (List ℕ) → List ℕ → Statements → Val → ℕ → Type 0
 EndsWithin e table name source tree v n = IsSome ((runs e table name source tree v).out n)
 
--- A rendering of the tree of a text within limits answers what the tree means, if the machine ends within the steps and
--- the text has no more bytes; if not, it names a limit beyond which it goes. So it is of bytes of values too, but that
--- they count as few as they may be if it ends, and as many if it is stopped. So it is whatever the table of the texts
--- that are held.
+-- A rendering of the tree of a text within limits answers what the tree means, if the machine ends within the steps,
+-- the text has no more bytes, and no more bytes of values are made; if not, it names a limit beyond which it goes. So
+-- it is whatever the table of the texts that are held.
 abbrev pub AnswersWithin : Texts → Limits → Option (List ℕ) → List ℕ → Statements → Val → Result (String Global) Error
     → Type 0
 AnswersWithin e limits name source tree v result =
@@ -54,16 +53,17 @@ NamesALimit e name source tree v (Err error) =
     (limit : Limit) × (n : ℕ) × ((table : Table) → IsTable e.texts table
     → IsOfLimit (runs e table name source tree v) limit n (fault_of error))
 
--- a rendering fits the limits, even if each value that may be lent counts as a copy; whatever the table is
-abbrev pub SurelyFits : Texts → Limits → Option (List ℕ) → List ℕ → Statements → Val → Type 0
-SurelyFits e limits name source tree v =
+-- a rendering fits the limits; whatever the table is
+abbrev pub RenderingFits : Texts → Limits → Option (List ℕ) → List ℕ → Statements → Val → Type 0
+RenderingFits e limits name source tree v =
     (table : Table) → IsTable e.texts table
-    → FitsWithCopies limits (runs e table name source tree v) (meaning e table name source tree v)
+    → FitsLimits limits (runs e table name source tree v) (meaning e table name source tree v)
 
--- a rendering makes more bytes of values than so many, even counted as few as they may be; whatever the table is
-abbrev pub SurelyMakesMore : Texts → ℕ → Option (List ℕ) → List ℕ → Statements → Val → Type 0
-SurelyMakesMore e n name source tree v =
-    (table : Table) → IsTable e.texts table → MustMakeMore n (runs e table name source tree v)
+-- a rendering goes beyond a limit of so many; whatever the table is
+abbrev pub RenderingGoesBeyond : Texts → Limits → Limit → ℕ → Option (List ℕ) → List ℕ → Statements → Val → Type 0
+RenderingGoesBeyond e limits limit n name source tree v =
+    (table : Table) → IsTable e.texts table
+    → GoesBeyond limits (runs e table name source tree v) (meaning e table name source tree v) limit n
 
 -- of what is written: memory is out, or a write failed, or the fault names a limit beyond which the rendering goes
 abbrev pub StopsSending : {Q : Type 0} → Limits → Course Q → Outcome Q → Result (Unit {0}) Error → Type 0

@@ -8,25 +8,24 @@ use Rattle.upon_meaning_spec.specs.Outcome.{Outcome, States}
 use Rattle.upon_machine_spec.specs.Run.{run, text_of_next}
 use Rattle.upon_machine_spec.specs.State.{State}
 use Rattle.upon_machine_spec.specs.Step.{Next, goes, stops, stuck, step}
+use Rattle.upon_vm.specs.Lending.{Lending, lending_on, nothing_bound}
 use Rattle.upon_vm.specs.Place.{nearest_span}
-use Rattle.upon_vm.specs.Weight.{found_next, least_made, least_of_next, most_made, most_of_next}
+use Rattle.upon_vm.specs.Weight.{made_by, made_by_next}
 
--- a run after steps that went on: the text that they gave, the most and the fewest bytes of values that they made, what
--- the value weighs that the last one's path led to, and the state
+-- a run after steps that went on: the text that they gave, the bytes of values that they made, what is lent, and the
+-- state
 pub record Gone (V T : Type 0) : Type 0 where
   pub text : List ℕ
   pub made : ℕ
-  pub least : ℕ
-  pub found : ℕ
+  pub lending : Lending
   pub state : State V T
 
 -- one step more, if it goes on
 abbrev pub gone_on : {V T : Type 0} → Gone V T → Next V T → Option (Gone V T)
 gone_on g (goes text s) = Some (record {
   text = g.text ++ text;
-  made = g.made + most_made g.state s;
-  least = g.least + least_made g.found g.state s;
-  found = found_next g.state s;
+  made = g.made + made_by g.lending g.state s;
+  lending = lending_on g.lending g.state s;
   state = s;
 })
 gone_on g (stops text end q) = None
@@ -34,20 +33,20 @@ gone_on g stuck = None
 
 -- a run after so many steps, if each of them goes on
 abbrev pub gone : {V T : Type 0} → Calls V → Resolver T → Root → State V T → ℕ → Option (Gone V T)
-gone calls resolve root start zero = Some (record { text = []; made = 0; least = 0; found = 0; state = start })
+gone calls resolve root start zero = Some (record { text = []; made = 0; lending = nothing_bound; state = start })
 gone calls resolve root start (suc n) =
     option_and_then (λ g. gone_on g (step calls resolve root g.state)) (gone calls resolve root start n)
 
 -- a point of a run: the template that is active, the span of the instruction to come (or of the nearest one before it
--- that has a span), the text that was given so far, and the text that the next step gives; and the most bytes of values
--- that were made so far and are made by the next step, and the fewest
+-- that has a span), the text that was given so far, and the text that the next step gives; the bytes of values that
+-- were made so far, and those that the next step makes
 pub record Point : Type 0 where
   pub running : RunningTemplate
   pub span : Span
   pub given : List ℕ
   pub next : List ℕ
   pub made : ℕ
-  pub least : ℕ
+  pub makes : ℕ
 
 -- the point of a run after steps that went on
 abbrev pub point_of : {V T : Type 0} → Calls V → Resolver T → Root → Gone V T → Point
@@ -58,8 +57,8 @@ point_of calls resolve root g =
       span = nearest_span active.running.source active.code g.state.position;
       given = g.text;
       next = text_of_next (step calls resolve root g.state);
-      made = g.made + most_of_next g.state (step calls resolve root g.state);
-      least = g.least + least_of_next g.found g.state (step calls resolve root g.state);
+      made = g.made;
+      makes = made_by_next g.lending g.state (step calls resolve root g.state);
     }
 
 -- the course of a run: what comes out, if it ends within so many steps, and the point after so many, if each goes on

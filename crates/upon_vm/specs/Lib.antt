@@ -3,6 +3,7 @@ pub mod Runs
 pub mod Reports
 pub mod Limits
 pub mod Place
+pub mod Lending
 pub mod Weight
 pub mod Course
 pub mod Turns

@@ -1,10 +1,11 @@
 -- What a value weighs, about the bytes that it takes with all that is in it; and what a step makes, by that measure.
-use Rattle.std.specs.Prelude.{ℕ, ◌+◌, ◌-◌, ◌^◌, List, [], ◌∷◌, length, min, Bool, true, false, if◌then◌else◌, Option, Some, slice_get}
+use Rattle.std.specs.Prelude.{ℕ, ◌+◌, ◌-◌, ◌^◌, List, [], ◌∷◌, length, min, Bool, true, not, if◌then◌else◌, Option, Some, slice_get}
 use Rattle.upon_types.specs.Val.{Val, none_val, bool_val, int_val, text_val, list_val, map_val, Vals, no_vals, val_then, Entries, no_entries, entry_then}
 use Rattle.upon_meaning_spec.specs.Evaluation.{Operand}
 use Rattle.upon_machine_spec.specs.Instr.{Instr, expr_start_var, expr_list_push, expr_map_insert, apply}
 use Rattle.upon_machine_spec.specs.State.{State}
 use Rattle.upon_machine_spec.specs.Step.{Next, goes, stops, stuck}
+use Rattle.upon_vm.specs.Lending.{Lending, lending_on}
 
 abbrev mutual
   -- 32, and the bytes of a text; of a list what its items weigh, of a map what its entries weigh
@@ -49,42 +50,15 @@ started copied (Some (expr_start_var first rest)) ops = copy_weight copied ops
 started copied (Some (apply name n span)) ops = copy_weight true ops
 started copied instr ops = 0
 
--- the most bytes of values that a step makes from one state to the next: each value that may be lent is copied
-abbrev pub most_made : {V T : Type 0} → State V T → State V T → ℕ
-most_made s next =
-    let instr = slice_get s.active.code s.position in put_in true instr s.operands + started true instr next.operands
+-- the bytes of values that a step makes from one state to the next, where this is lent: what is lent is copied when it
+-- is put in, and what is not is copied when a path leads to it
+abbrev pub made_by : {V T : Type 0} → Lending → State V T → State V T → ℕ
+made_by lending s next =
+    let instr = slice_get s.active.code s.position in
+    put_in lending.top instr s.operands + started (not (lending_on lending s next).top) instr next.operands
 
 -- the same of a step, whatever it does: one that ends the run makes none
-abbrev pub most_of_next : {V T : Type 0} → State V T → Next V T → ℕ
-most_of_next s (goes text next) = most_made s next
-most_of_next s (stops text end q) = 0
-most_of_next s stuck = 0
-
--- what the value weighs that an instruction's path led to, which is on top then; 0 of an instruction that starts no
--- variable
-abbrev pub found_by : Option Instr → List Operand → ℕ
-found_by (Some (expr_start_var first rest)) ops = copy_weight true ops
-found_by instr ops = 0
-
--- The fewest bytes that an instruction puts into a list or a map, if the step before found so many: the place of an
--- item, or of an entry with its key; and what was found, which was copied then or is copied now.
-abbrev pub least_put_in : ℕ → Option Instr → ℕ
-least_put_in found (Some expr_list_push) = 32 + found
-least_put_in found (Some (expr_map_insert key)) = (32 + length key.text) + found
-least_put_in found instr = 0
-
--- the fewest bytes of values that a step makes from one state to the next, if the step before found so many: no other
--- value that may be lent is copied
-abbrev pub least_made : {V T : Type 0} → ℕ → State V T → State V T → ℕ
-least_made found s next =
-    let instr = slice_get s.active.code s.position in least_put_in found instr + started false instr next.operands
-
--- the same of a step, whatever it does: one that ends the run makes none
-abbrev pub least_of_next : {V T : Type 0} → ℕ → State V T → Next V T → ℕ
-least_of_next found s (goes text next) = least_made found s next
-least_of_next found s (stops text end q) = 0
-least_of_next found s stuck = 0
-
--- what the value weighs that a step's path led to, or 0 if it started no variable
-abbrev pub found_next : {V T : Type 0} → State V T → State V T → ℕ
-found_next s next = found_by (slice_get s.active.code s.position) next.operands
+abbrev pub made_by_next : {V T : Type 0} → Lending → State V T → Next V T → ℕ
+made_by_next lending s (goes text next) = made_by lending s next
+made_by_next lending s (stops text end q) = 0
+made_by_next lending s stuck = 0

@@ -1,9 +1,10 @@
 // The machine that runs programs: rendering.
 #![tactic(auto)]
 
+mod account;
 pub mod failure;
+mod lending;
 pub mod limits;
-mod made;
 mod place;
 pub mod render;
 pub mod report;

@@ -21,9 +21,9 @@ ghost use Rattle.upon_vm.specs.Renderings.{RendersWithin, SourcesKept, sources_s
 ghost use Rattle.upon_vm.specs.Runs.{KnownRun, Starts};
 ghost use Rattle.upon_vm.specs.Within.{IsAtLimit, IsReportWithin, MarksWithin, RanWithin, ReportMarksWithin, limit_reached};
 
+use crate::account::Account;
 use crate::failure::{Failure, in_template, stopped};
 use crate::limits::{Limit, Limits, spend};
-use crate::made::{bytes_put_in, bytes_started};
 use crate::place::place;
 use crate::report::reported;
 use crate::run::{Ending, end_of};
@@ -116,7 +116,7 @@ pub(crate) fn run_within<'r, V: ValueSource, T: ProgramSource<'r>, C: Callables,
     let mut stop = None;
     let mut steps = limits.steps;
     let mut room = limits.output;
-    let mut made: usize = 0;
+    let mut account = Account::new(alloc);
     let mut left = Steps::some::<_, _, Brand>(callables, &*machine);
     'turns: loop {
         let running = machine.running;
@@ -124,7 +124,7 @@ pub(crate) fn run_within<'r, V: ValueSource, T: ProgramSource<'r>, C: Callables,
         let Some(fewer) = spend(steps, 1) else {
             return at_limit(alloc, running, position, Limit::Steps, limits.steps);
         };
-        let put_in = bytes_put_in(limits.values, &*machine);
+        let coming = account.coming(limits.values, &*machine);
         match take_turn(alloc, callables, machine, room, out, &mut stop) {
             Turn::Over => return at_limit(alloc, running, position, Limit::Output, limits.output),
             Turn::Stopped => return Within::Ended(Err(stopped(alloc, running, stop))),
@@ -135,9 +135,10 @@ pub(crate) fn run_within<'r, V: ValueSource, T: ProgramSource<'r>, C: Callables,
                 room = rest;
             }
         }
-        let started = bytes_started(limits.values, running.program, position, &machine.operands);
-        made = made.saturating_add(put_in).saturating_add(started);
-        let Some(_) = spend(limits.values, made) else {
+        let Ok(()) = account.add(limits.values, coming, &*machine) else {
+            return Within::Ended(Err(Failure::Error(AllocError.into())));
+        };
+        let Some(_) = spend(limits.values, account.made) else {
             return at_limit(alloc, running, position, Limit::Values, limits.values);
         };
         steps = fewer;

@@ -30,7 +30,7 @@ impl<'a> Operands<'a> {
     ghost use Rattle.upon_machine_spec.specs.Operands.{taken};
     ghost use Rattle.upon_types.specs.View.{view};
     ghost use Rattle.upon_vm_steps.specs.Items.{with_item, with_operand_pair};
-    ghost use Rattle.upon_vm_steps.specs.Operands.{IsOnlyEntry, row, operands_of, value_on_top};
+    ghost use Rattle.upon_vm_steps.specs.Operands.{IsOnlyEntry, row, operands_of};
 
     /// No operand.
     pub fn new(alloc: Global) -> Operands<'a>
@@ -102,8 +102,7 @@ impl<'a> Operands<'a> {
 
     /// Returns the value on top, or `None` if there is no operand.
     pub fn on_top(&self) -> Option<&ValueCow<'a>>
-        ensures held { option_map (λ v. v.now) result ≡ value_on_top self.now }
-        ensures means { option_map (λ v. cow_view v.now) result
+        ensures { option_map (λ v. cow_view v.now) result
             ≡ option_map (λ o. o.value) (slice_get (operands_of self.now) 0) }
     {
         self.values.last()

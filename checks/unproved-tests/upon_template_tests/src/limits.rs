@@ -120,6 +120,14 @@ fn values_that_are_just_enough(rt: HostRuntime) -> std::result::Result<(), Fail>
         ("{% with x as a %}{{ a }}{% endwith %}", 0, "12", ""),
         ("{% for y in xs %}{{ y }}{% endfor %}", 0, "0123456789", ""),
         ("{% for y in xs %}{{ loop.index }}{% endfor %}", 320, "0123456789", "20..30"),
+        // What the context has is lent under other names too, until a copy is put in; so are its parts.
+        ("{% with xs as a %}{% with [a.0] as b %}c{% endwith %}{% endwith %}", 64, "c", "27..30"),
+        ("{% for y in xs %}{% with y as z %}{{ z }}{% endwith %}{% endfor %}", 0, "0123456789", ""),
+        ("{% for y in [xs.0] %}{{ y }}{% endfor %}", 96, "0", "24..25"),
+        ("{% for k, v in {\"k\": x} %}{{ v }}{{ k }}{% endfor %}", 134, "12k", "36..37"),
+        ("{% with [1] as x %}{% endwith %}{{ x }}", 64, "12", "9..10"),
+        ("{% with [1] as x %}{{ x.0 }}{% with 2 as x %}{{ x }}{% endwith %}{% endwith %}", 96, "12", "22..25"),
+        ("{% with xs as loop %}{% for y in [2] %}{{ loop.first }}{% endfor %}{{ loop.0 }}{% endwith %}", 96, "true0", "42..52"),
     ] {
         answers(alloc, &of_values(bytes), source, text)?;
         answers(alloc, &of_values(bytes + 1), source, text)?;

@@ -6,11 +6,12 @@ use Rattle.upon_render.specs.Stack.{root_of}
 use Rattle.upon_machine_spec.specs.Run.{steps}
 use Rattle.upon_vm_steps.specs.Acts.{calls_on, stop_or_memory}
 use Rattle.upon_vm_steps.specs.Machine.{state_of}
+use Rattle.upon_vm.specs.Lending.{lending_of}
 use Rattle.upon_vm.proofs.Fewer.{fewer}
 use Rattle.upon_vm_steps.proofs.Keeps.{kept_on}
 use Rattle.upon_vm.proofs.Turns.{leaves_most}
 use Rattle.upon_vm.proofs.WithinWay.{leaves_all}
-use Rattle.upon_vm.proofs.WithinTurns.{grown_on, grown_so, grown_within, within_asks, within_ended, within_failed, within_first, within_frames, within_nearer, within_not_stuck, within_on, within_room, within_steps, within_stop, within_values}
+use Rattle.upon_vm.proofs.WithinTurns.{WayWithin, counts_on, grown_on, grown_so, grown_within, within_asks, within_ended, within_failed, within_first, within_frames, within_memory, within_nearer, within_not_stuck, within_on, within_room, within_steps, within_stop, within_values}
 use Rattle.upon_vm.proofs.within.run_within.Goals as goal
 
 pub some-left-requires : goal.some-left-requires
@@ -30,9 +31,21 @@ turns-init g c =
       kept = record { unbounded = λ h. h; root = refl; asks = λ ask h. h; values_held = λ names h. h; resolve = refl; templates_held = refl };
       grown = ([], leaves_all c.args.limits.output, Appends-nil (g.W.Output.given c.args.out.now));
       going = λ known starts.
-          within_first g.V.ValueSource.ask g.V.ValueSource.value_state g.V.ValueSource.holds g.T.ProgramSource.template_state g.T.ProgramSource.resolve g.T.ProgramSource.holds
+          subst
+          (λ made. WayWithin
+          g.V.ValueSource.ask g.V.ValueSource.value_state g.V.ValueSource.holds g.T.ProgramSource.template_state g.T.ProgramSource.resolve g.T.ProgramSource.holds
+          (calls known.ask) known.values known.count known.outcome c.args.limits m c.args.limits.steps c.args.limits.output made (lending_of c.new-account.result.lending)
+          (g.W.Output.given c.args.out.now) (g.W.Output.given c.args.out.now) m)
+          (sym c.new-account.ensures.made)
+          (subst
+          (λ lending. WayWithin
+          g.V.ValueSource.ask g.V.ValueSource.value_state g.V.ValueSource.holds g.T.ProgramSource.template_state g.T.ProgramSource.resolve g.T.ProgramSource.holds
+          (calls known.ask) known.values known.count known.outcome c.args.limits m c.args.limits.steps c.args.limits.output 0 lending
+          (g.W.Output.given c.args.out.now) (g.W.Output.given c.args.out.now) m)
+          (sym c.new-account.ensures.lending)
+          (within_first g.V.ValueSource.ask g.V.ValueSource.value_state g.V.ValueSource.holds g.T.ProgramSource.template_state g.T.ProgramSource.resolve g.T.ProgramSource.holds
           (calls known.ask) known.values known.count known.outcome c.args.limits m (g.W.Output.given c.args.out.now)
-          (g.T.ProgramSource.templates_lie m.templates) starts.runs starts.lies starts.unbounded starts.asks;
+          (g.T.ProgramSource.templates_lie m.templates) starts.runs starts.lies starts.unbounded starts.asks));
       enough = (
         some.0,
         some.1,
@@ -129,8 +142,24 @@ returns-in_default-spend-clause-ran g c known starts =
     let did = c.in-Went.ensures.did known.values known.ask (within_asks h) in
     let next = state_of g.V.ValueSource.value_state g.T.ProgramSource.template_state known.values c.take_turn.new.machine in
     within_values h c.in-Went.flow c.in-Went.rest (stop_or_memory c.take_turn.new.stop) (g.W.Output.given c.take_turn.new.out) c.take_turn.new.machine
-    c.saturating_add-made.result c.at_limit-in_default-spend.result next.asked (sym c.end_of.ensures ∙ c.in_default-end_of.is) (omega (arith, c.bytes_put_in-put_in.ensures.most, c.bytes_started-started.ensures.most)) did
+    c.add.new.self.made (lending_of c.add.new.self.lending) c.at_limit-in_default-spend.result next.asked (sym c.end_of.ensures ∙ c.in_default-end_of.is)
+    (λ set. counts_on h c.take_turn.new.machine _ c.coming-coming.result.put_in c.add.new.self.made (lending_of c.add.new.self.lending) c.coming-coming.ensures.instr (c.coming-coming.ensures.puts set) (c.in-Ok.ensures.lending set) (c.in-Ok.ensures.made set)) did
     c.in_default-spend.ensures c.at_limit-in_default-spend.ensures
+
+pub returns-in_default-add-clause-bounded : goal.returns-in_default-add-clause-bounded
+returns-in_default-add-clause-bounded g c =
+    let old = g.W.Output.given c.args.out.now in
+    let new = g.W.Output.given c.take_turn.new.out in
+    grown_so c.args.limits.output c.in-Went.rest old new
+    (grown_on c.args.limits.output c.turns.room c.in-Went.rest old (g.W.Output.given c.turns.out) new c.turns.invariant.grown c.in-Went.ensures.grows)
+
+pub returns-in_default-add-clause-ran : goal.returns-in_default-add-clause-ran
+returns-in_default-add-clause-ran g c known starts =
+    let h = c.turns.invariant.going known starts in
+    let did = c.in-Went.ensures.did known.values known.ask (within_asks h) in
+    let next = state_of g.V.ValueSource.value_state g.T.ProgramSource.template_state known.values c.take_turn.new.machine in
+    within_memory h c.in-Went.flow c.in-Went.rest (stop_or_memory c.take_turn.new.stop) (g.W.Output.given c.take_turn.new.out) c.take_turn.new.machine c.into.result next.asked
+    (sym c.end_of.ensures ∙ c.in_default-end_of.is) did c.into.ensures
 
 pub turns-preserved : goal.turns-preserved
 turns-preserved g c = record {
@@ -143,10 +172,10 @@ turns-preserved g c = record {
   going = λ known starts.
       let h = c.turns.invariant.going known starts in
       let did = c.in-Went.ensures.did known.values known.ask (within_asks h) in
-      within_on h c.in-Went.flow c.in-Some.fewer c.in-Went.rest c.saturating_add-made.result (stop_or_memory c.take_turn.new.stop) (g.W.Output.given c.take_turn.new.out) c.take_turn.new.machine
-      (sym c.end_of.ensures ∙ c.in_default-end_of.is) c.in-Some.ensures (omega (arith, c.bytes_put_in-put_in.ensures.most, c.bytes_started-started.ensures.most))
-      (λ set. let put = c.bytes_put_in-put_in.ensures.puts set in let on_top = c.bytes_started-started.ensures.starts set in omega (arith, put, on_top))
-      (leaves_most c.args.limits.values c.in-Some-spend.field-0 c.saturating_add-made.result c.in-Some-spend.ensures) did c.in-Went.ensures.kept;
+      within_on h c.in-Went.flow c.in-Some.fewer c.in-Went.rest c.add.new.self.made (lending_of c.add.new.self.lending) (stop_or_memory c.take_turn.new.stop) (g.W.Output.given c.take_turn.new.out) c.take_turn.new.machine
+      (sym c.end_of.ensures ∙ c.in_default-end_of.is) c.in-Some.ensures
+      (λ set. counts_on h c.take_turn.new.machine _ c.coming-coming.result.put_in c.add.new.self.made (lending_of c.add.new.self.lending) c.coming-coming.ensures.instr (c.coming-coming.ensures.puts set) (c.in-Ok.ensures.lending set) (c.in-Ok.ensures.made set))
+      (leaves_most c.args.limits.values c.in-Some-spend.field-0 c.add.new.self.made c.in-Some-spend.ensures) did c.in-Went.ensures.kept;
   enough =
       let before = c.turns.invariant.enough in
       let h = c.turns.invariant.going before.0 before.1 in

@@ -5,6 +5,7 @@ use Rattle.upon_render.specs.Stack.{root_of}
 use Rattle.upon_machine_spec.specs.Run.{steps}
 use Rattle.upon_vm_steps.specs.Acts.{calls_on}
 use Rattle.upon_vm_steps.specs.Keeps.{Kept}
+use Rattle.upon_vm.specs.Lending.{lending_of}
 use Rattle.upon_vm.specs.Limits.{Leaves}
 use Rattle.upon_vm_steps.specs.Machine.{state_of}
 use Rattle.upon_vm.specs.Runs.{KnownRun, Starts}
@@ -39,7 +40,7 @@ invariant-turns g l = record {
       → WayWithin
       g.V.ValueSource.ask g.V.ValueSource.value_state g.V.ValueSource.holds g.T.ProgramSource.template_state g.T.ProgramSource.resolve g.T.ProgramSource.holds
       (calls_on (g.C.Callables.callables l.fn.callables) (g.C.Callables.default_formatter l.fn.callables) known.ask)
-      known.values known.count known.outcome l.limits l.initial.machine l.steps l.room l.made (g.W.Output.given l.initial.out) (g.W.Output.given l.out) l.machine;
+      known.values known.count known.outcome l.limits l.initial.machine l.steps l.room l.account.made (lending_of l.account.lending) (g.W.Output.given l.initial.out) (g.W.Output.given l.out) l.machine;
   enough :
       (known : KnownRun g.V.ValueSource.State g.T.ProgramSource.State)
       × Starts
