@@ -2,3 +2,8 @@ pub mod Paths
 pub mod World
 pub mod Written
 pub mod Memory
+pub mod Said
+pub mod Asks
+pub mod Exact
+pub mod Rows
+pub mod Table

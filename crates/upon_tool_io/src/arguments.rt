@@ -1,9 +1,16 @@
 // What the words of a call ask for.
+ghost use Rattle.std.specs.Prelude.{◌≡◌, false, IfOk, IfSome, is_some, map, string_bytes, Some, true};
+ghost use Rattle.upon_tool_io.specs.Asks.{call_color, check_on, color_of_word, escape_of_words, has_contexts, is_command, lacks_file, AsksFor, AsksForCheck, AsksForContexts, AsksForData, AsksForNames, AsksForRendering, HasColor, HasEscape, HasText};
+ghost use Rattle.upon_tool_io.specs.Rows.{AsksByRows, AsksByWords};
+ghost use Rattle.upon_tool_io.specs.Said.{lent_text};
+ghost use Rattle.clap.specs.Simple.{app_of, subcommand_rows_of, App};
+
 use crate::command_line::{
     BUILD, CHECK, COLOR, DATA, EACH, ENV, ESCAPE, FILE, FOLLOW, FORMAT, FUNCTION, HTML, JSON,
     KEEP_GOING, LAYOUT, MAX_MEMORY, MAX_OUTPUT, MAX_STEPS, NAME, NAMES, OUT, RENDER, SCHEMA, SET,
     SET_JSON, SHAPE_OUT, SOURCE, STD, TEMPLATES, command,
 };
+use crate::words::Words;
 use clap::error::ErrorKind;
 use clap::{ArgMatches, Command};
 use std::alloc::{AllocError, Global};
@@ -157,7 +164,9 @@ pub enum Color {
 
 impl<'a> Call<'a> {
     /// Returns when pictures of errors have colors.
-    pub fn color(&self) -> Color {
+    pub fn color(&self) -> Color
+        ensures { result ≡ call_color self.now }
+    {
         match self {
             Call::Render(call) => call.color,
             Call::Check(call) => call.color,
@@ -200,7 +209,12 @@ pub struct BuildCall<'a> {
 
 /// Returns what the words ask for, of which the first is the program's name. The error is clap's: its text is for the
 /// user, also the help that was asked for.
-pub fn read<'a>(alloc: Global, words: &'a [String]) -> Result<Call<'a>, clap::Error> {
+pub fn read<'a>(alloc: Global, words: &'a [String]) -> Result<Call<'a>, clap::Error>
+    // It is what clap has found in the words. Of the table by which it reads them no clause says more.
+    ensures asks { IfOk result (λ call. (app : App) × AsksByWords app (map string_bytes words.now) call) }
+    // A check on contexts has a file.
+    ensures has_file { IfOk result (λ call. lacks_file call ≡ false) }
+{
     let mut command = command(alloc)?;
     let call = read_by(alloc, &mut command, words);
     // Dropped by a call, here and below, not part by part at each end: a proof of that is several times as long.
@@ -213,7 +227,10 @@ fn read_by<'a>(
     alloc: Global,
     command: &mut Command<'a>,
     words: &'a [String],
-) -> Result<Call<'a>, clap::Error> {
+) -> Result<Call<'a>, clap::Error>
+    ensures asks { IfOk result (AsksByWords (app_of command.old) (map string_bytes words.now)) }
+    ensures has_file { IfOk result (λ call. lacks_file call ≡ false) }
+{
     let matches = command.try_get_matches_from_mut(words)?;
     let asked = asked_for(alloc, &matches);
     drop(matches);
@@ -232,7 +249,9 @@ fn read_by<'a>(
 }
 
 // Whether a call asks for a check on contexts, and for no file.
-fn lacks_file(call: &Call<'_>) -> bool {
+fn lacks_file(call: &Call<'_>) -> bool
+    ensures { result ≡ lacks_file call.now }
+{
     match call {
         Call::Fit(call) => call.check.files.is_empty(),
         _ => false,
@@ -240,84 +259,117 @@ fn lacks_file(call: &Call<'_>) -> bool {
 }
 
 // What the matches ask for, if they have a command.
-fn asked_for<'a>(alloc: Global, matches: &ArgMatches<'a>) -> Result<Option<Call<'a>>, AllocError> {
+fn asked_for<'a>(alloc: Global, matches: &ArgMatches<'a>) -> Result<Option<Call<'a>>, AllocError>
+    ensures { IfOk result (AsksByRows (subcommand_rows_of matches.now)) }
+{
     match matches.subcommand() {
         Some((command, found)) => asked_by(alloc, command, found).transpose(),
         None => Ok(None),
     }
 }
 
-// What the matches of a command ask for, if it is one of the program's.
-fn asked_by<'a>(
+// What the words of a command ask for, if it is one of the program's.
+pub(crate) fn asked_by<'a, W: Words<'a>>(
     alloc: Global,
     command: &str,
-    matches: &ArgMatches<'a>,
-) -> Option<Result<Call<'a>, AllocError>> {
+    words: &W,
+) -> Option<Result<Call<'a>, AllocError>>
+    ensures known { is_some result ≡ is_command command.now }
+    ensures asks { IfSome result (λ asked. IfOk asked (AsksFor (W.said words.now) command.now)) }
+{
     match command {
-        RENDER => Some(any_rendering(alloc, matches)),
-        BUILD => Some(build_call(alloc, matches)),
-        CHECK => Some(any_check(alloc, matches)),
-        NAMES => Some(Ok(Call::Names(names_call(matches)))),
+        RENDER => Some(any_rendering(alloc, words)),
+        BUILD => Some(build_call(alloc, words)),
+        CHECK => Some(any_check(alloc, words)),
+        NAMES => Some(Ok(Call::Names(names_call(words)))),
         _ => None,
     }
 }
 
-// What the matches of a rendering ask for: to render once, or for each item.
-fn any_rendering<'a>(alloc: Global, matches: &ArgMatches<'a>) -> Result<Call<'a>, AllocError> {
-    match matches.get_str(EACH) {
-        Some(key) => each_call(alloc, matches, key),
-        None => Ok(Call::Render(render_call(alloc, matches)?)),
+// What the words of a rendering ask for: to render once, or for each item.
+fn any_rendering<'a, W: Words<'a>>(alloc: Global, words: &W) -> Result<Call<'a>, AllocError>
+    ensures { IfOk result (AsksFor (W.said words.now) RENDER.now) }
+{
+    match words.text(EACH) {
+        Some(key) => each_call(alloc, words, key),
+        None => Ok(Call::Render(render_call(alloc, words, FILE)?)),
     }
 }
 
-// What a rendering's matches ask for.
-fn render_call<'a>(alloc: Global, matches: &ArgMatches<'a>) -> Result<RenderCall<'a>, AllocError> {
-    let data = data_call(alloc, matches)?;
+// What a rendering's words ask for, of what an argument names.
+fn render_call<'a, W: Words<'a>>(
+    alloc: Global,
+    words: &W,
+    file: &str,
+) -> Result<RenderCall<'a>, AllocError>
+    ensures { IfOk result (AsksForRendering (W.said words.now) file.now) }
+{
+    let data = data_call(alloc, words)?;
     Ok(RenderCall {
-        file: matches.get_str(FILE).unwrap_or_default(),
+        file: text_of(words, file),
         data,
-        templates: matches.get_str(TEMPLATES),
-        follow: matches.get_flag(FOLLOW),
-        escape: escape_of(matches.get_str(ESCAPE), matches.get_flag(HTML)),
-        standard: matches.get_flag(STD),
-        out: matches.get_str(OUT),
-        max_steps: matches.get_one::<usize>(MAX_STEPS),
-        max_output: matches.get_one::<usize>(MAX_OUTPUT),
-        max_memory: matches.get_one::<usize>(MAX_MEMORY),
-        color: color_of(matches.get_str(COLOR)),
+        templates: words.text(TEMPLATES),
+        follow: words.flag(FOLLOW),
+        escape: escape_asked(words),
+        standard: words.flag(STD),
+        out: words.text(OUT),
+        max_steps: words.number(MAX_STEPS),
+        max_output: words.number(MAX_OUTPUT),
+        max_memory: words.number(MAX_MEMORY),
+        color: color_asked(words),
     })
 }
 
-// What the matches of a rendering for each item ask for.
-fn each_call<'a>(
+// What the words of a rendering for each item of the list at a key ask for.
+fn each_call<'a, W: Words<'a>>(
     alloc: Global,
-    matches: &ArgMatches<'a>,
+    words: &W,
     key: &'a str,
-) -> Result<Call<'a>, AllocError> {
-    let render = render_call(alloc, matches)?;
+) -> Result<Call<'a>, AllocError>
+    ensures { (W.said words.now).text EACH.now (Some key.now)
+        → IfOk result (AsksFor (W.said words.now) RENDER.now) }
+{
+    let render = render_call(alloc, words, FILE)?;
     Ok(Call::Each(EachCall {
         render,
         key,
-        name: matches.get_str(NAME).unwrap_or_default(),
-        out: matches.get_str(OUT).unwrap_or_default(),
-        keep_going: matches.get_flag(KEEP_GOING),
+        name: text_of(words, NAME),
+        out: text_of(words, OUT),
+        keep_going: words.flag(KEEP_GOING),
     }))
 }
 
-// What a build's matches ask for.
-fn build_call<'a>(alloc: Global, matches: &ArgMatches<'a>) -> Result<Call<'a>, AllocError> {
-    let mut render = render_call(alloc, matches)?;
-    render.file = matches.get_str(SOURCE).unwrap_or_default();
+// What a build's words ask for.
+fn build_call<'a, W: Words<'a>>(alloc: Global, words: &W) -> Result<Call<'a>, AllocError>
+    ensures { IfOk result (AsksFor (W.said words.now) BUILD.now) }
+{
+    let render = render_call(alloc, words, SOURCE)?;
     Ok(Call::Build(BuildCall {
         render,
-        layout: matches.get_str(LAYOUT),
-        out: matches.get_str(OUT).unwrap_or_default(),
-        keep_going: matches.get_flag(KEEP_GOING),
+        layout: words.text(LAYOUT),
+        out: text_of(words, OUT),
+        keep_going: words.flag(KEEP_GOING),
     }))
+}
+
+// The text of an argument, which is empty if it is not there.
+fn text_of<'a, W: Words<'a>>(words: &W, name: &str) -> &'a str
+    ensures { HasText (W.said words.now) name.now result.now }
+{
+    words.text(name).unwrap_or_default()
+}
+
+// The language that values are escaped for.
+fn escape_asked<'a, W: Words<'a>>(words: &W) -> Option<Escape>
+    ensures { HasEscape (W.said words.now) result }
+{
+    escape_of(words.text(ESCAPE), words.flag(HTML))
 }
 
 // The language of a name, or HTML if that is asked for by its own flag.
-fn escape_of(name: Option<&str>, html: bool) -> Option<Escape> {
+fn escape_of(name: Option<&str>, html: bool) -> Option<Escape>
+    ensures { result ≡ escape_of_words (lent_text name.entry) html }
+{
     match name {
         Some("html") => Some(Escape::Html),
         Some("json") => Some(Escape::Json),
@@ -328,8 +380,17 @@ fn escape_of(name: Option<&str>, html: bool) -> Option<Escape> {
     }
 }
 
+// When there are colors.
+fn color_asked<'a, W: Words<'a>>(words: &W) -> Color
+    ensures { HasColor (W.said words.now) result }
+{
+    color_of(words.text(COLOR))
+}
+
 // When there are colors, by a word.
-fn color_of(word: Option<&str>) -> Color {
+fn color_of(word: Option<&str>) -> Color
+    ensures { result ≡ color_of_word (lent_text word.entry) }
+{
     match word {
         Some("always") => Color::Always,
         Some("never") => Color::Never,
@@ -337,26 +398,34 @@ fn color_of(word: Option<&str>) -> Color {
     }
 }
 
-// What the matches of a check ask for: to write a shape, or to check.
-fn any_check<'a>(alloc: Global, matches: &ArgMatches<'a>) -> Result<Call<'a>, AllocError> {
-    if matches.get_flag(SHAPE_OUT) {
-        shape_call(alloc, matches)
+// What the words of a check ask for: to write a shape, or to check.
+fn any_check<'a, W: Words<'a>>(alloc: Global, words: &W) -> Result<Call<'a>, AllocError>
+    ensures { IfOk result (AsksFor (W.said words.now) CHECK.now) }
+{
+    if words.flag(SHAPE_OUT) {
+        shape_call(alloc, words)
     } else {
-        fit_or_check(alloc, matches)
+        fit_or_check(alloc, words)
     }
 }
 
-// What the matches ask for, to write a shape.
-fn shape_call<'a>(alloc: Global, matches: &ArgMatches<'a>) -> Result<Call<'a>, AllocError> {
-    let contexts = contexts_call(alloc, matches)?;
-    let color = color_of(matches.get_str(COLOR));
+// What the words ask for, to write a shape.
+fn shape_call<'a, W: Words<'a>>(alloc: Global, words: &W) -> Result<Call<'a>, AllocError>
+    ensures { (W.said words.now).flag SHAPE_OUT.now true
+        → IfOk result (AsksFor (W.said words.now) CHECK.now) }
+{
+    let contexts = contexts_call(alloc, words)?;
+    let color = color_asked(words);
     Ok(Call::Shape(ShapeCall { contexts, color }))
 }
 
-// What the matches ask for, to check.
-fn fit_or_check<'a>(alloc: Global, matches: &ArgMatches<'a>) -> Result<Call<'a>, AllocError> {
-    let check = check_call(alloc, matches)?;
-    match contexts_call(alloc, matches) {
+// What the words ask for, to check.
+fn fit_or_check<'a, W: Words<'a>>(alloc: Global, words: &W) -> Result<Call<'a>, AllocError>
+    ensures { (W.said words.now).flag SHAPE_OUT.now false
+        → IfOk result (AsksFor (W.said words.now) CHECK.now) }
+{
+    let check = check_call(alloc, words)?;
+    match contexts_call(alloc, words) {
         Ok(contexts) => Ok(check_on(check, contexts)),
         Err(error) => {
             drop(check);
@@ -366,7 +435,9 @@ fn fit_or_check<'a>(alloc: Global, matches: &ArgMatches<'a>) -> Result<Call<'a>,
 }
 
 // A check on contexts, if there are some.
-fn check_on<'a>(check: CheckCall<'a>, contexts: ContextsCall<'a>) -> Call<'a> {
+fn check_on<'a>(check: CheckCall<'a>, contexts: ContextsCall<'a>) -> Call<'a>
+    ensures { result ≡ check_on check.entry contexts.entry }
+{
     if has_contexts(&contexts) {
         Call::Fit(FitCall { check, contexts })
     } else {
@@ -376,7 +447,9 @@ fn check_on<'a>(check: CheckCall<'a>, contexts: ContextsCall<'a>) -> Call<'a> {
 }
 
 // Whether there are contexts.
-fn has_contexts(contexts: &ContextsCall<'_>) -> bool {
+fn has_contexts(contexts: &ContextsCall<'_>) -> bool
+    ensures { result ≡ has_contexts contexts.now }
+{
     let data = &contexts.data;
     contexts.schema.is_some()
         || data.env
@@ -385,66 +458,59 @@ fn has_contexts(contexts: &ContextsCall<'_>) -> bool {
         || !data.set.is_empty()
 }
 
-// The contexts that the matches ask for; only a check has a schema.
-fn contexts_call<'a>(
-    alloc: Global,
-    matches: &ArgMatches<'a>,
-) -> Result<ContextsCall<'a>, AllocError> {
-    let data = data_call(alloc, matches)?;
+// The contexts that the words ask for; only a check has a schema.
+fn contexts_call<'a, W: Words<'a>>(alloc: Global, words: &W) -> Result<ContextsCall<'a>, AllocError>
+    ensures { IfOk result (AsksForContexts (W.said words.now)) }
+{
+    let data = data_call(alloc, words)?;
     Ok(ContextsCall {
-        schema: matches.get_str(SCHEMA),
+        schema: words.text(SCHEMA),
         data,
     })
 }
 
-// The data that the matches ask for.
-fn data_call<'a>(alloc: Global, matches: &ArgMatches<'a>) -> Result<DataCall<'a>, AllocError> {
-    let files = words(alloc, matches, DATA)?;
-    let set_json = words(alloc, matches, SET_JSON)?;
-    let set = words(alloc, matches, SET)?;
+// The data that the words ask for.
+fn data_call<'a, W: Words<'a>>(alloc: Global, words: &W) -> Result<DataCall<'a>, AllocError>
+    ensures { IfOk result (AsksForData (W.said words.now)) }
+{
+    let files = words.texts(alloc, DATA)?;
+    let set_json = words.texts(alloc, SET_JSON)?;
+    let set = words.texts(alloc, SET)?;
     Ok(DataCall {
-        env: matches.get_flag(ENV),
+        env: words.flag(ENV),
         files,
-        format: matches.get_str(FORMAT),
+        format: words.text(FORMAT),
         set_json,
         set,
     })
 }
 
-// What a check's matches ask for.
-fn check_call<'a>(alloc: Global, matches: &ArgMatches<'a>) -> Result<CheckCall<'a>, AllocError> {
-    let files = words(alloc, matches, FILE)?;
-    let functions = words(alloc, matches, FUNCTION)?;
+// What a check's words ask for.
+fn check_call<'a, W: Words<'a>>(alloc: Global, words: &W) -> Result<CheckCall<'a>, AllocError>
+    ensures { IfOk result (AsksForCheck (W.said words.now)) }
+{
+    let files = words.texts(alloc, FILE)?;
+    let functions = words.texts(alloc, FUNCTION)?;
     Ok(CheckCall {
         files,
-        templates: matches.get_str(TEMPLATES),
-        follow: matches.get_flag(FOLLOW),
-        escape: escape_of(matches.get_str(ESCAPE), matches.get_flag(HTML)),
-        standard: matches.get_flag(STD),
+        templates: words.text(TEMPLATES),
+        follow: words.flag(FOLLOW),
+        escape: escape_asked(words),
+        standard: words.flag(STD),
         functions,
-        color: color_of(matches.get_str(COLOR)),
+        color: color_asked(words),
     })
 }
 
-// What a list's matches ask for.
-fn names_call<'a>(matches: &ArgMatches<'a>) -> NamesCall<'a> {
+// What a list's words ask for.
+fn names_call<'a, W: Words<'a>>(words: &W) -> NamesCall<'a>
+    ensures { AsksForNames (W.said words.now) result }
+{
     NamesCall {
-        file: matches.get_str(FILE).unwrap_or_default(),
-        templates: matches.get_str(TEMPLATES),
-        follow: matches.get_flag(FOLLOW),
-        json: matches.get_flag(JSON),
-        color: color_of(matches.get_str(COLOR)),
-    }
-}
-
-// The values of an argument that may be there several times.
-fn words<'a>(
-    alloc: Global,
-    matches: &ArgMatches<'a>,
-    name: &str,
-) -> Result<Vec<&'a str>, AllocError> {
-    match matches.get_strs(name) {
-        Some(words) => Vec::from_slice(alloc, words),
-        None => Ok(Vec::new(alloc)),
+        file: text_of(words, FILE),
+        templates: words.text(TEMPLATES),
+        follow: words.flag(FOLLOW),
+        json: words.flag(JSON),
+        color: color_asked(words),
     }
 }
