@@ -9,6 +9,8 @@ use Rattle.upon_shape_spec.specs.Declared.{Declared, KeepsDeclared}
 use Rattle.upon_shape_spec.specs.Shape.{Shape}
 use Rattle.upon_needs.specs.Names.{texts}
 use Rattle.upon_engine.specs.Texts.{Texts}
+use Rattle.upon_shape.specs.View.{shape_view}
+use Rattle.upon_shape_check.specs.Callables.{declared_view}
 use Rattle.upon_shape_check.specs.EndsOn.{EndsOn}
 use Rattle.upon_calls.specs.Asked.{Asked}
 use Rattle.upon_calls.specs.Calls.{AreRightOn}
@@ -16,6 +18,7 @@ use Rattle.upon_calls.specs.Check.{AreRight}
 use Rattle.upon_calls.specs.Contexts.{checked_pages, AreThere, Contexts, EndsOnEach, PagesEndIf}
 use Rattle.upon_calls.specs.Filled.{filled}
 use Rattle.upon_calls.specs.Templates.{lent_pairs}
+use Rattle.upon_calls.specs.Places.{IsShownOf}
 use Rattle.upon_calls.specs.Rendering.{EachHasTree}
 use Rattle.upon_calls.specs.Work.{IsOneUnsure, PagesFit, TellsOfPages}
 use Rattle.upon_calls.specs.declared.failure.Failure.{Failure}
@@ -74,6 +77,8 @@ right_on (Err f) asked given s pages templates sources names is right there name
 
 -- what a text tells of pages, where each text that is held has a tree
 pub tells_of : (e : Texts) (pages : Pages) (r : Result (String Global) Failure) → EachHasTree e → IfOk r (λ text. string_bytes text ≡ [] → PagesFit e pages)
-    → IfOk r (λ text. (string_bytes text ≡ [] → ⊥) → IsOneUnsure e pages) → IfOk r (λ text. TellsOfPages e pages (string_bytes text))
-tells_of e pages (Ok text) trees fits unsure = record { trees = trees; fits = fits; unsure = unsure }
-tells_of e pages (Err f) trees fits unsure = tt
+    → IfOk r (λ text. (string_bytes text ≡ [] → ⊥) → IsOneUnsure e pages)
+    → IfOk r (λ text. IsShownOf e (declared_view pages.declared.now) (shape_view pages.shape.now) (texts pages.names.now) (string_bytes text))
+    → IfOk r (λ text. TellsOfPages e pages (string_bytes text))
+tells_of e pages (Ok text) trees fits unsure shows = record { trees = trees; fits = fits; unsure = unsure; shows = shows }
+tells_of e pages (Err f) trees fits unsure shows = tt

@@ -12,7 +12,8 @@ use Rattle.upon_types.specs.Path.{Ident}
 use Rattle.upon_needs.specs.Names.{has_name, texts}
 use Rattle.upon_needs.specs.Places.{include_at}
 use Rattle.upon_needs.specs.declared.places.IncludePlace.{IncludePlace}
-use Rattle.upon_calls.specs.Pictures.{first_includes, with_picture, with_pictures}
+use Rattle.upon_shape_check.specs.Pictures.{with_picture}
+use Rattle.upon_calls.specs.Pictures.{first_includes, with_pictures}
 
 -- of names that are looked for, the first include of each
 abbrev pub found : (List ℕ → Bool) → List Ident → List Ident

@@ -21,3 +21,5 @@ pub mod OneShown
 pub mod Calls
 pub mod Ended
 pub mod Unsure
+pub mod Placing
+pub mod ShownBy

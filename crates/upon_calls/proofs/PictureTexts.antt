@@ -5,7 +5,8 @@ use Rattle.std.proofs.lemmas.List.{flat_map_more}
 use Rattle.upon_types.specs.Fault.{Fault, Kind, syntax, serialize, render, function, format, io, memory, kind_text, reason_text}
 use Rattle.upon_types.specs.Picture.{Picture}
 use Rattle.upon_types.specs.Pretty.{blanks, margin, marks, name_or_anonymous, picture_lines, pretty, pretty_by, pretty_with_picture}
-use Rattle.upon_calls.specs.Pictures.{pictures_text, with_picture, with_pictures}
+use Rattle.upon_shape_check.specs.Pictures.{with_picture}
+use Rattle.upon_calls.specs.Pictures.{pictures_text, with_pictures}
 
 -- ---- each text has a byte
 abbrev pub EachSome : List (List ℕ) → Type 0

@@ -1,5 +1,5 @@
 -- Of which pages it isn't known whether they end well.
-use Rattle.std.proofs.Common.{◌≡◌, ◌∙◌, ◌⊎◌, ◌<◌, arith, inl, inr, ℕ, zero, suc, List, [], ◌∷◌, Bor, Contains, Option, Some, None, Result, Ok, Err, IfErr, IsErrAnd, ap, is_some, length, get_or, sym, true, subst}
+use Rattle.std.proofs.Common.{◌≡◌, ◌∙◌, ◌⊎◌, ◌<◌, arith, inl, inr, ℕ, zero, suc, List, [], ◌∷◌, Bor, Contains, Option, Some, None, Result, Ok, Err, IfErr, IsErrAnd, ap, is_some, length, get_or, string_bytes, sym, true, subst}
 use Rattle.std.specs.Prelude.{IsErr, IsSomeAnd, OnOk}
 use Rattle.std.proofs.lemmas.Bool.{false≢true}
 use Rattle.std.proofs.lemmas.List.Elements.{All-contains, Contains-get_or}
@@ -26,6 +26,7 @@ use Rattle.upon_calls.specs.Contexts.{checked_pages, AreThere, Contexts}
 use Rattle.upon_calls.specs.Failure.{FaultyIf}
 use Rattle.upon_calls.specs.Filled.{engine_for, filled}
 use Rattle.upon_calls.specs.Pictures.{ShowsWrong}
+use Rattle.upon_calls.specs.Places.{IsShownOf}
 use Rattle.upon_calls.specs.Templates.{sources_in}
 use Rattle.upon_calls.specs.Unsure.{declared_as, HasFault, IsPageUnsure}
 use Rattle.upon_calls.specs.Work.{CarriedFails}
@@ -65,8 +66,8 @@ a_name names i d inside =
 
 -- ---- pages of a check
 -- where pages get no text, a text has a fault
-pub no_pages : (asked : Asked) (sources : List (List ℕ × List ℕ)) (pages : Pages) (P : Type 0) (f : Failure) → CarriedFails asked sources (Fit pages) f
-    → FaultyIf (λ pictures. (pictures ≡ [] → ⊥) × (P ⊎ HasFault asked sources)) ⊥ f
+pub no_pages : (asked : Asked) (sources : List (List ℕ × List ℕ)) (pages : Pages) (P : List ℕ → Type 0) (f : Failure) → CarriedFails asked sources (Fit pages) f
+    → FaultyIf (λ pictures. (pictures ≡ [] → ⊥) × (P pictures ⊎ HasFault asked sources)) ⊥ f
 no_pages asked sources pages P (Faults pictures) said =
     elim said.3 [
       | inl first ↦ (λ none. some_pretty said.0 (sym said.2 ∙ none), inr (said.0, first))
@@ -91,14 +92,18 @@ no_fault asked templates sources has right fault =
 
 pub doubt_shown : {T : Type 0} (r : Result T Failure) (asked : Asked) (given : Option Contexts) (s : Shape) (pages : Option (List (List ℕ))) (templates : Val) (sources : List (List ℕ × List ℕ)) (names : List (List ℕ)) (Lacks : Type 0) → HasTexts asked.delimiters → given ≡ Some (made s pages)
     → AreRight asked.delimiters templates sources → AreThere pages templates → names ≡ checked_pages pages sources
-    → IfErr r (FaultyIf (λ pictures. (pictures ≡ [] → ⊥) × (IsPageUnsure asked sources s names ⊎ HasFault asked sources)) ⊥) → IfErr r (FaultyIf (AreWrongOn asked given templates sources) Lacks)
+    → IfErr r (FaultyIf (λ pictures. (pictures ≡ [] → ⊥) × ((IsPageUnsure asked sources s names × IsShownOf (filled asked sources) (declared_as asked) s names pictures) ⊎ HasFault asked sources)) ⊥) → IfErr r (FaultyIf (AreWrongOn asked given templates sources) Lacks)
 doubt_shown (Ok x) asked given s pages templates sources names Lacks has is right there named said = tt
-doubt_shown (Err (Faults pictures)) asked given s pages templates sources names Lacks has is right there named said = inr (record {
-  right = right;
-  there = subst (λ o. IsSomeAnd o (λ given. AreThere given.pages templates)) (sym is) there;
-  unsure = subst (λ o. IsSomeAnd o (λ given. IsPageUnsure asked sources given.shape (checked_pages given.pages sources))) (sym is) (subst (IsPageUnsure asked sources s) named (elim said.1 [ inl unsure ↦ unsure | inr fault ↦ absurd (no_fault asked templates sources has right fault) ]));
-  some = said.0;
-})
+doubt_shown (Err (Faults pictures)) asked given s pages templates sources names Lacks has is right there named said =
+    let both : IsPageUnsure asked sources s names × IsShownOf (filled asked sources) (declared_as asked) s names (string_bytes pictures) = elim said.1 [ inl doubt ↦ doubt | inr fault ↦ absurd (no_fault asked templates sources has right fault) ] in
+    inr (record {
+      right = right;
+      there = subst (λ o. IsSomeAnd o (λ given. AreThere given.pages templates)) (sym is) there;
+      unsure = subst (λ o. IsSomeAnd o (λ given. IsPageUnsure asked sources given.shape (checked_pages given.pages sources))) (sym is) (subst (IsPageUnsure asked sources s) named both.0);
+      shows = subst (λ o. IsSomeAnd o (λ given. IsShownOf (filled asked sources) (declared_as asked) given.shape (checked_pages given.pages sources) (string_bytes pictures))) (sym is)
+          (subst (λ (names : List (List ℕ)). IsShownOf (filled asked sources) (declared_as asked) s names (string_bytes pictures)) named both.1);
+      some = said.0;
+    })
 doubt_shown (Err (Refused argument reason)) asked given s pages templates sources names Lacks has is right there named said = absurd said.1
 doubt_shown (Err (NotText argument)) asked given s pages templates sources names Lacks has is right there named said = absurd said
 doubt_shown (Err OutOfMemory) asked given s pages templates sources names Lacks has is right there named said = tt

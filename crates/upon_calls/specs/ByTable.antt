@@ -1,5 +1,5 @@
 -- What renderings and checks give by one table of the trees of the texts that an engine holds.
-use Rattle.std.specs.Prelude.{◌≡◌, ◌⊎◌, ℕ, List, Some, None}
+use Rattle.std.specs.Prelude.{◌≡◌, ◌⊎◌, ℕ, List, [], ◌∷◌, Some, None}
 use Rattle.upon_types.specs.declared.types.Span.{Span}
 use Rattle.upon_types.specs.Fault.{Fault}
 use Rattle.upon_types.specs.Tree.{Statements}
@@ -17,6 +17,7 @@ use Rattle.upon_shape_spec.specs.Shape.{Shape}
 use Rattle.upon_vm.specs.declared.limits.Limits.{Limits}
 use Rattle.upon_engine.specs.Texts.{Stored, Texts}
 use Rattle.upon_engine.specs.Theorem.{meaning}
+use Rattle.upon_shape_check.specs.Pictures.{ShownSoFar, ShowsWhy, Spot, nothing_shown, spots_of}
 use Rattle.upon_shape_check.specs.Verdict.{IsDeepAt}
 use Rattle.upon_shape_check.specs.declared.plan.TheConstants.{MOST_PLANNED}
 use Rattle.upon_calls.specs.Rendering.{EndsWithBy, IsFirstFaultOf}
@@ -45,3 +46,24 @@ NamedUnsure declared table name s =
     ((ms : List PlaceInDoubt) × AreDoubted declared table (planned name (scope_over s)) MOST_PLANNED ms)
     ⊎ ((p : Planned) × (place : Span) × IsReached declared table (planned name (scope_over s)) p
     × IsDeepAt declared table p place)
+
+-- why it isn't known by a table that the template of a name ends well on each value of a shape, and at which places: no
+-- text is held under the name, and there is no place; or these are in doubt; or it is a literal that is too deep
+abbrev pub NamedUnsureAt : Texts → Declared → Table → List ℕ → Shape → List Spot → Type 0
+NamedUnsureAt e declared table name s spots = ((e.texts name ≡ None) × (spots ≡ []))
+    ⊎ (((ms : List PlaceInDoubt) × (spots ≡ spots_of ms)
+    × AreDoubted declared table (planned name (scope_over s)) MOST_PLANNED ms)
+    ⊎ ((p : Planned) × (place : Span) × (spots ≡ record { template = p.name; span = place } ∷ [])
+    × IsReached declared table (planned name (scope_over s)) p × IsDeepAt declared table p place))
+
+-- of pages, one after the other, nothing is shown, or the places for which it isn't known by a table that they end well
+abbrev pub ShowsPagesBy : Texts → Declared → Table → Shape → List (List ℕ) → ShownSoFar → ShownSoFar → Type 0
+ShowsPagesBy e declared table s [] old new = new ≡ old
+ShowsPagesBy e declared table s (name ∷ names) old new = (between : ShownSoFar)
+    × ((between ≡ old) ⊎ ((spots : List Spot) × NamedUnsureAt e declared table name s spots
+    × ShowsWhy e spots old between)) × ShowsPagesBy e declared table s names between new
+
+-- a text is what is shown of pages by a table, of at most a hundred places
+abbrev pub IsShownBy : Texts → Declared → Table → Shape → List (List ℕ) → List ℕ → Type 0
+IsShownBy e declared table s names text = (left : ℕ)
+    × ShowsPagesBy e declared table s names nothing_shown (record { left = left; text = text })

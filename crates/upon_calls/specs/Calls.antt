@@ -10,9 +10,10 @@ use Rattle.upon_calls.specs.Failure.{IsPicture}
 use Rattle.upon_calls.specs.Filled.{engine_for, filled}
 use Rattle.upon_calls.specs.Names.{ListsNamed}
 use Rattle.upon_calls.specs.Pictures.{ShowsWrong}
+use Rattle.upon_calls.specs.Places.{IsShownOf}
 use Rattle.upon_calls.specs.Rendering.{FailsNamed, FailsText, IsFirstOfOne, MeansNamed, MeansText}
 use Rattle.upon_calls.specs.Templates.{AreNone, AreTemplates, sources_in}
-use Rattle.upon_calls.specs.Unsure.{IsPageUnsure}
+use Rattle.upon_calls.specs.Unsure.{declared_as, IsPageUnsure}
 use Rattle.upon_calls.specs.declared.failure.Argument.{Argument}
 use Rattle.upon_calls.specs.declared.failure.Argument.TheVariants.{Templates, Source, Context, Name, Options}
 use Rattle.upon_calls.specs.declared.failure.Failure.{Failure}
@@ -124,12 +125,14 @@ pub record AreRightOn (asked : Asked) (contexts : Option Contexts) (value : Val)
   pub pages : PagesEndIf contexts (filled asked sources) value sources
 
 -- Each template is right, but contexts are given, and of one page it is in doubt whether it ends well on each of them.
--- A text shows where one may not: it is not empty.
+-- A text shows where the pages that are checked may not: it is not empty.
 pub record ShowsDoubt (asked : Asked) (contexts : Option Contexts) (value : Val) (sources : List (List ℕ × List ℕ))
     (text : List ℕ) : Type 0 where
   pub right : AreRight asked.delimiters value sources
   pub there : IsSomeAnd contexts (λ given. AreThere given.pages value)
   pub unsure : IsSomeAnd contexts (λ given. IsPageUnsure asked sources given.shape (checked_pages given.pages sources))
+  pub shows : IsSomeAnd contexts (λ given. IsShownOf (filled asked sources) (declared_as asked) given.shape
+      (checked_pages given.pages sources) text)
   pub some : text ≡ [] → ⊥
 
 -- a text is the pictures of what is wrong with templates; or they are right, and it shows where a page may fail

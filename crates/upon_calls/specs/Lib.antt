@@ -12,5 +12,6 @@ pub mod Check
 pub mod Pictures
 pub mod Contexts
 pub mod Unsure
+pub mod Places
 pub mod Work
 pub mod Calls

@@ -12,6 +12,7 @@ use Rattle.upon_meaning_spec.specs.Includes.{Includes}
 use Rattle.upon_machine_spec.specs.Code.{program_of}
 use Rattle.upon_needs.specs.Names.{Rise}
 use Rattle.upon_needs.specs.Places.{includes_in}
+use Rattle.upon_shape_check.specs.Pictures.{with_picture}
 use Rattle.upon_calls.specs.Check.{is_missing, AreRight}
 use Rattle.upon_calls.specs.Failure.{IsPicture}
 use Rattle.upon_calls.specs.Rendering.{IsFirstNamed}
@@ -21,11 +22,6 @@ use Rattle.upon_calls.specs.Rendering.{IsFirstNamed}
 abbrev pub pictures_text : List (List ℕ) → List ℕ
 pictures_text [] = []
 pictures_text (p ∷ ps) = p ++ flat_map (λ later. codes "\n" ++ later) ps
-
--- a text with a picture after it, and a line feed between if the text has a byte
-abbrev pub with_picture : List ℕ → List ℕ → List ℕ
-with_picture [] picture = picture
-with_picture (b ∷ bs) picture = (b ∷ bs) ++ (codes "\n" ++ picture)
 
 -- a text with pictures after it
 abbrev pub with_pictures : List ℕ → List (List ℕ) → List ℕ

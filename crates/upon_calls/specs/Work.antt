@@ -13,6 +13,7 @@ use Rattle.upon_calls.specs.Asked.{Asked}
 use Rattle.upon_calls.specs.Failure.{IsPicture}
 use Rattle.upon_calls.specs.Filled.{filled}
 use Rattle.upon_calls.specs.Names.{ListsNamed}
+use Rattle.upon_calls.specs.Places.{IsShownOf}
 use Rattle.upon_calls.specs.Rendering.{EachHasTree, FailsNamed, FailsText, IsFirstOfOne, MeansNamed, MeansText}
 use Rattle.upon_calls.specs.declared.failure.Argument.TheVariants.{Name}
 use Rattle.upon_calls.specs.declared.failure.Failure.{Failure}
@@ -32,12 +33,13 @@ abbrev pub IsOneUnsure : Texts → Pages → Type 0
 IsOneUnsure e pages = (name : List ℕ) × Contains (texts pages.names.now) name
     × IsUnsureOn e (declared_view pages.declared.now) name (shape_view pages.shape.now)
 
--- A text that is empty says that the pages end, and another one that this isn't known of one of them. Each text that is
--- held has a tree.
+-- A text that is empty says that the pages end, and another one that this isn't known of one of them. It is what is
+-- shown of them. Each text that is held has a tree.
 pub record TellsOfPages (e : Texts) (pages : Pages) (text : List ℕ) : Type 0 where
   pub trees : EachHasTree e
   pub fits : text ≡ [] → PagesFit e pages
   pub unsure : (text ≡ [] → ⊥) → IsOneUnsure e pages
+  pub shows : IsShownOf e (declared_view pages.declared.now) (shape_view pages.shape.now) (texts pages.names.now) text
 
 -- a piece of work gives a text, by what an engine holds
 abbrev pub WorkGives : Limits → Texts → Work → List ℕ → Type 0

@@ -5,7 +5,8 @@ ghost use Rattle.upon_types.specs.Span.{LiesIn};
 ghost use Rattle.upon_engine.specs.Template.{template_source, template_tree};
 ghost use Rattle.upon_needs.specs.Names.{texts};
 ghost use Rattle.upon_needs.specs.Places.{include_at};
-ghost use Rattle.upon_calls.specs.Pictures.{include_fault, include_pictures, with_picture, with_pictures};
+ghost use Rattle.upon_shape_check.specs.Pictures.{with_picture};
+ghost use Rattle.upon_calls.specs.Pictures.{include_fault, include_pictures, with_pictures};
 
 use crate::failure::Failure;
 use std::alloc::{AllocError, Global};

@@ -12,7 +12,7 @@ ghost use Rattle.upon_meaning_spec.specs.Engine.{Table, Template};
 ghost use Rattle.upon_needs.specs.declared.needs.Needs.{Needs};
 ghost use Rattle.upon_engine.specs.Texts.{Stored};
 ghost use Rattle.upon_engine.specs.Theorem.{IsTable};
-ghost use Rattle.upon_calls.specs.ByTable.{FailsNamedBy, FailsTextBy, NamedEnds, NamedUnsure};
+ghost use Rattle.upon_calls.specs.ByTable.{FailsNamedBy, FailsTextBy, IsShownBy, NamedEnds, NamedUnsure};
 ghost use Rattle.upon_calls.specs.Calls.{ChecksRight, ChecksWrong, ListsNeeds, RenderFaults, Renders, RendersText, TextFaults};
 ghost use Rattle.upon_calls.specs.Contexts.{checked_pages};
 ghost use Rattle.upon_calls.specs.Failure.{is_memory_kind};
@@ -87,6 +87,15 @@ pub fn unsure_page_is()
         ⊎ ((table : Table) × IsTable (filled r.asked r.sources).texts table
         × IsSomeAnd r.contexts (λ given. (name : List ℕ) × Contains (checked_pages given.pages r.sources) name
         × NamedUnsure (declared_as r.asked) table name given.shape)) }
+{}
+
+/// States that the text of such a check is the pictures of places that are in doubt by that table, page by page.
+pub fn shown_places_are()
+    ensures { (templates options text : List ℕ) (r : ChecksWrong templates options text)
+        → ShowsWrong r.asked.delimiters r.value r.sources text
+        ⊎ ((table : Table) × IsTable (filled r.asked r.sources).texts table
+        × IsSomeAnd r.contexts (λ given. IsShownBy (filled r.asked r.sources) (declared_as r.asked) table given.shape
+        (checked_pages given.pages r.sources) text)) }
 {}
 
 /// States that what is wrong with templates is shown by one text, where each delimiter has a byte.

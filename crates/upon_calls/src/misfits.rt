@@ -4,6 +4,9 @@ ghost use Rattle.upon_shape.specs.View.{shape_view};
 ghost use Rattle.upon_shape_check.specs.Callables.{declared_view};
 ghost use Rattle.upon_shape_check.specs.Doubted.{IsUnsureOn};
 ghost use Rattle.upon_shape_check.specs.EndsOn.{EndsOn};
+ghost use Rattle.upon_shape_check.specs.Pictures.{shown_view};
+ghost use Rattle.upon_needs.specs.Names.{texts};
+ghost use Rattle.upon_calls.specs.Places.{IsShownOf, ShowsPlacesOfPage};
 ghost use Rattle.upon_calls.specs.Work.{IsOneUnsure, PagesFit};
 ghost use Rattle.upon_calls.specs.declared.failure.Failure.TheVariants.{OutOfMemory};
 
@@ -26,8 +29,12 @@ pub(crate) fn misfits<'w>(
 ) -> Result<String, Failure>
     ensures fits { IfOk result
         (λ text. string_bytes text ≡ [] → PagesFit (⟦<AnyEngine as EngineTexts>⟧.texts engine.now) pages.entry) }
-    ensures unsure { let texts = ⟦<AnyEngine as EngineTexts>⟧.texts engine.now in
-        IfOk result (λ text. (string_bytes text ≡ [] → ⊥) → IsOneUnsure texts pages.entry) }
+    ensures unsure { let held = ⟦<AnyEngine as EngineTexts>⟧.texts engine.now in
+        IfOk result (λ text. (string_bytes text ≡ [] → ⊥) → IsOneUnsure held pages.entry) }
+    // The text is that of just these places, page by page.
+    ensures shows { IfOk result (λ text. IsShownOf (⟦<AnyEngine as EngineTexts>⟧.texts engine.now)
+        (declared_view pages.entry.declared.now) (shape_view pages.entry.shape.now) (texts pages.entry.names.now)
+        (string_bytes text)) }
     ensures memory { IfErr result (λ f. f ≡ OutOfMemory) }
 {
     let Pages {
@@ -54,9 +61,12 @@ fn show_page(
     ensures ends { OnOk result (string_bytes pictures.new.text ≡ [] → (string_bytes pictures.old.text ≡ [])
         × EndsOn (⟦<AnyEngine as EngineTexts>⟧.texts known.now.engine.now) (declared_view known.now.declared.now)
         name.now (shape_view shape.now)) }
-    ensures unsure { let texts = ⟦<AnyEngine as EngineTexts>⟧.texts known.now.engine.now in OnOk result
+    ensures unsure { let held = ⟦<AnyEngine as EngineTexts>⟧.texts known.now.engine.now in OnOk result
         ((string_bytes pictures.new.text ≡ [] → ⊥) → (string_bytes pictures.old.text ≡ [] → ⊥)
-        ⊎ IsUnsureOn texts (declared_view known.now.declared.now) name.now (shape_view shape.now)) }
+        ⊎ IsUnsureOn held (declared_view known.now.declared.now) name.now (shape_view shape.now)) }
+    ensures shows { OnOk result (ShowsPlacesOfPage (⟦<AnyEngine as EngineTexts>⟧.texts known.now.engine.now)
+        (declared_view known.now.declared.now) (shape_view shape.now) name.now
+        (shown_view pictures.old) (shown_view pictures.new)) }
 {
     match accepts(alloc, known.engine, known.declared, name, shape) {
         Ok(_) => Ok(()),

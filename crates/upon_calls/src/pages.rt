@@ -10,7 +10,8 @@ ghost use Rattle.upon_calls.specs.Failure.{FaultyIf, RefusedIf};
 ghost use Rattle.upon_calls.specs.Filled.{filled};
 ghost use Rattle.upon_calls.specs.Rendering.{EachHasTree};
 ghost use Rattle.upon_calls.specs.Templates.{lent_pairs};
-ghost use Rattle.upon_calls.specs.Unsure.{HasFault, IsPageUnsure};
+ghost use Rattle.upon_calls.specs.Places.{IsShownOf};
+ghost use Rattle.upon_calls.specs.Unsure.{declared_as, HasFault, IsPageUnsure};
 ghost use Rattle.upon_calls.specs.declared.failure.Argument.TheVariants.{Options as OptionsRefused};
 
 use crate::arguments::refused;
@@ -90,10 +91,12 @@ pub fn check_pages(
     ensures ends { IfOk result (λ text. All
         (λ name. EndsOnEach (filled (asked_by options) (lent_pairs sources.now)) name (shape_view shape.now))
         (texts names.now)) }
-    // The pictures are of something: of one page it is in doubt whether it ends so, or a text has a fault.
+    // The pictures are of something: of one page it is in doubt whether it ends so, and they are those of the places
+    // for which that is so of the pages; or a text has a fault.
     ensures fails { let asked = asked_by options in IfErr result (FaultyIf (λ pictures. (pictures ≡ [] → ⊥)
-        × (IsPageUnsure asked (lent_pairs sources.now) (shape_view shape.now) (texts names.now)
-        ⊎ HasFault asked (lent_pairs sources.now))) ⊥) }
+        × ((IsPageUnsure asked (lent_pairs sources.now) (shape_view shape.now) (texts names.now)
+        × IsShownOf (filled asked (lent_pairs sources.now)) (declared_as asked) (shape_view shape.now)
+        (texts names.now) pictures) ⊎ HasFault asked (lent_pairs sources.now))) ⊥) }
 {
     let declared = declared_for(alloc, &options)?;
     let pages = Pages {

@@ -17,3 +17,7 @@ mod Plans
 mod MakingPlans
 mod Reaching
 mod Refusing
+mod Showing
+mod DoubtsLie
+mod DeepLie
+pub mod RefusedPlaces

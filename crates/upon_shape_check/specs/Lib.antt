@@ -14,5 +14,6 @@ pub mod Steps
 pub mod EndsOn
 pub mod Verdict
 pub mod Doubted
+pub mod Pictures
 pub mod Planning
 pub mod Levels

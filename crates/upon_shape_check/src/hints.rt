@@ -1,4 +1,7 @@
 // The hint below a picture: which names are there that are near to the one that is written.
+ghost use Rattle.std.specs.Prelude.{◌≡◌, IfOk, option_map, string_bytes};
+ghost use Rattle.upon_shape_check.specs.Pictures.{hinted};
+
 use crate::doubt::Unsure;
 use std::alloc::{AllocError, Global};
 use upon_near::said::near_text;
@@ -22,7 +25,10 @@ pub fn hint_of(
 }
 
 /// Returns a picture with the hint below it, if there is one. It fails if there is no memory.
-pub fn with_hint(picture: String, hint: Option<&str>) -> Result<String, AllocError> {
+pub fn with_hint(picture: String, hint: Option<&str>) -> Result<String, AllocError>
+    ensures { IfOk result (λ text. string_bytes text
+        ≡ hinted (option_map (λ hint. hint.now) hint.entry) (string_bytes picture)) }
+{
     let mut picture = picture;
     if let Some(hint) = hint {
         picture.push_str("   = hint: ")?;

@@ -1,4 +1,4 @@
-// What is known of the renderings of a template that is accepted.
+// What is known of the renderings of a template that is accepted, and of the places of one that is not.
 ghost use Rattle.std.specs.Prelude.{◌≡◌, ℕ, ◌≤◌, List, Some, Result, String};
 ghost use Rattle.std.specs.declared.alloc.Global.{Global};
 ghost use Rattle.upon_types.specs.Tree.{Statements};
@@ -11,6 +11,9 @@ ghost use Rattle.upon_shape_spec.specs.Fits.{Fits};
 ghost use Rattle.upon_shape_spec.specs.Shape.{Shape};
 ghost use Rattle.upon_engine.specs.Texts.{Stored};
 ghost use Rattle.upon_engine.specs.Theorem.{AnswersTree};
+ghost use Rattle.upon_shape_check.specs.Doubted.{DoubtedOn};
+ghost use Rattle.upon_shape_check.specs.Pictures.{EachLies, places_of};
+ghost use Rattle.upon_shape_check.specs.declared.refusal.Refusal.{Refusal};
 ghost use Rattle.upon_shape_check.specs.EndsOn.{EndsOn, EndsAtDepth, IsTextUnlessDeep, IsTextOrNoMemory};
 
 use upon_engine::engine::Engine;
@@ -37,4 +40,12 @@ pub fn a_template_within_the_depth_has_a_text(engine: &Engine<'_>)
         → e.texts name ≡ Some held → ∥ HasTree held.syntax held.text tree ∥₁
         → KeepsDeclared declared e.callables (formatter_or_default e.default_formatter) → Fits s v
         → AnswersTree e (Some name) held.text tree v result → IsTextOrNoMemory result }
+{}
+
+/// States that each place for which a template is not accepted lies in the text of the template that has it: so it is
+/// shown, if one more may be.
+pub fn refused_places_lie_in_their_texts(engine: &Engine<'_>)
+    ensures { let e = ⟦<AnyEngine as EngineTexts>⟧.texts engine.now in
+        (declared : Declared) (name : List ℕ) (s : Shape) (refusal : Refusal)
+        → DoubtedOn e declared name s refusal → EachLies e (places_of refusal) }
 {}

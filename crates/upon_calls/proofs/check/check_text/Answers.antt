@@ -3,7 +3,8 @@ use Rattle.upon_types.specs.View.{view}
 use Rattle.upon_engine.specs.Engine.{engine_syntax}
 use Rattle.upon_engine.specs.Template.{template_tree}
 use Rattle.upon_needs.specs.Names.{texts}
-use Rattle.upon_calls.specs.Pictures.{include_pictures, with_picture, with_pictures}
+use Rattle.upon_shape_check.specs.Pictures.{with_picture}
+use Rattle.upon_calls.specs.Pictures.{include_pictures, with_pictures}
 use Rattle.upon_calls.proofs.Checked.{no_name_missing, no_names, not_compiled, some_missing}
 use Rattle.upon_calls.proofs.Shown.{fault_shown, includes_shown, no_include_shown}
 use Rattle.upon_calls.proofs.check.check_text.Goals as goal

@@ -9,7 +9,8 @@ use Rattle.upon_engine.specs.Template.{template_source, template_tree}
 use Rattle.upon_needs.specs.Names.{texts}
 use Rattle.upon_needs.specs.Places.{include_at, includes_in}
 use Rattle.upon_needs.specs.declared.places.IncludePlace.{IncludePlace}
-use Rattle.upon_calls.specs.Pictures.{include_fault, with_picture}
+use Rattle.upon_shape_check.specs.Pictures.{with_picture}
+use Rattle.upon_calls.specs.Pictures.{include_fault}
 use Rattle.upon_calls.proofs.FirstIncludes.{all_shown, first_hundred, found_no, found_one, to_show}
 use Rattle.upon_calls.proofs.includes.show_includes.Goals.{then-remove+in_ok-show_include, else-remove}
 use Rattle.upon_calls.proofs.includes.show_includes.Goals as goal

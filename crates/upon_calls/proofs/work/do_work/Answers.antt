@@ -23,4 +23,4 @@ returns-in-RenderText-clause-fails g c =
 pub returns-in-Fit-clause-gives : goal.returns-in-Fit-clause-gives
 returns-in-Fit-clause-gives g c =
     subst (λ w. IfOk c.misfits.result (λ text. WorkGives c.args.limits.now (texts_of (λ f. (g.dyn-1.0.entry f.vtable).1.formats f.value) (λ f. (g.dyn-2.0.entry f.vtable).1.answers f.value) c.args.engine.now) w (string_bytes text))) (sym c.in-Fit.is)
-    (tells_of _ _ c.misfits.result c.requires c.misfits.ensures.fits c.misfits.ensures.unsure)
+    (tells_of _ _ c.misfits.result c.requires c.misfits.ensures.fits c.misfits.ensures.unsure c.misfits.ensures.shows)
