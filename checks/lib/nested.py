@@ -1,7 +1,10 @@
-"""Texts of templates that nest deep or go on long: for check-program and checks/measure.
+"""Texts of templates that nest deep or go on long: for check-program, check-tool and checks/measure.
 
-`nested.py KINDS` prints the names of the texts of some kinds (`blocks`, `tags` or `values`), a line each. `nested.py NAME
+`nested.py KINDS` prints the names of the texts of some kinds (`blocks`, `tags` or `wraps`), a line each. `nested.py NAME
 COUNT [MIDDLE]` prints the text of a name, with so many begins and ends, and with MIDDLE between them if it is given.
+`nested.py value LITERAL COUNT TEXT` prints TEXT about a value `v` that is so deep, of `lists`, `maps` or `both` in turn: in TEXT
+`@LITERAL@` is the literal again, without spaces, and `@PATH@` the path that leads to its innermost value, `x`. `nested.py around
+LITERAL COUNT TEXT` prints TEXT, in which `@AROUND@` is a literal that is so deep around `v`.
 """
 import sys
 
@@ -34,16 +37,16 @@ TAGS = {
     "items of a list": hidden("[", "a, ", "", "", "]"),
     "members of a path": hidden("a", ".b", ""),
 }
-# What makes a value as deep as there are begins.
-VALUES = {
-    "lists in a list": ("{{ ", "[", "", "]", " }}"),
-    "maps in a map": ("{{ ", '{"a": ', "1", "} ", "}}"),
-    "lists of a `with`": ("", "{% with [a] as a %}", "", "{% endwith %}", ""),
-    "maps of a `with`": ("", '{% with {"a": a} as a %}', "", "{% endwith %}", ""),
-    "lists of a `for`": ("", "{% for a in [[a]] %}", "", "{% endfor %}", ""),
+# What makes a value as deep as there are begins, each around a copy of the value that the one before made.
+WRAPS = {
+    "lists of a `with`": ("", "{% with [a] as a %}", "x", "{% endwith %}", ""),
+    "maps of a `with`": ("", '{% with {"a": a} as a %}', "x", "{% endwith %}", ""),
+    "lists of a `for`": ("", "{% for a in [[a]] %}", "x", "{% endfor %}", ""),
 }
-KINDS = {"blocks": BLOCKS, "tags": TAGS, "values": VALUES}
-TEXTS = BLOCKS | TAGS | VALUES
+KINDS = {"blocks": BLOCKS, "tags": TAGS, "wraps": WRAPS}
+TEXTS = BLOCKS | TAGS | WRAPS
+# Of literals in each other: a begin and an end, the path from one to the next, and how many levels they are.
+LITERALS = {"lists": ("[", "]", ".0", 1), "maps": ('{"a":', "}", ".a", 1), "both": ('[{"a":', "}]", ".0.a", 2)}
 
 
 def text(name, count, middle=None):
@@ -52,8 +55,28 @@ def text(name, count, middle=None):
     return before + begin * count + (between if middle is None else middle) + end * count + after
 
 
+def about_value(literal, count, text):
+    """A template of a text about a value that is so deep. No end of a literal is the end of a tag."""
+    begin, end, step, levels = LITERALS[literal]
+    times = count // levels
+    written = begin * times + '"x"' + (end + " ") * times
+    text = text.replace("@PATH@", "v" + step * times).replace("@LITERAL@", begin * times + '"x"' + end * times)
+    return "{% with " + written + "as v %}" + text + "{% endwith %}"
+
+
+def around_value(literal, count, text):
+    """A text in which a literal is so deep around a value."""
+    begin, end, _, levels = LITERALS[literal]
+    times = count // levels
+    return text.replace("@AROUND@", begin * times + "v" + (end + " ") * times)
+
+
 if __name__ == "__main__":
-    if len(sys.argv) == 2:
+    if sys.argv[1] == "around":
+        sys.stdout.write(around_value(sys.argv[2], int(sys.argv[3]), sys.argv[4]))
+    elif sys.argv[1] == "value":
+        sys.stdout.write(about_value(sys.argv[2], int(sys.argv[3]), sys.argv[4]))
+    elif len(sys.argv) == 2:
         print("\n".join(KINDS[sys.argv[1]]))
     else:
         sys.stdout.write(text(sys.argv[1], int(sys.argv[2]), *sys.argv[3:]))

@@ -5,3 +5,4 @@ pub mod Document
 pub mod Format
 pub mod Entries
 pub mod Parts
+pub mod AtPath

@@ -1,14 +1,14 @@
 // What templates are rendered on, put together of several values in order.
-ghost use Rattle.std.specs.Prelude.{◌≡◌, ◌<◌, [], ◌∷◌, length, Some, None, true, false, IfErr, IfNone, IfSome, OnOk, OnErr};
+ghost use Rattle.std.specs.Prelude.{◌≡◌, Some, None, true, false, IfErr, OnOk, OnErr};
 ghost use Rattle.upon_types.specs.Val.{map_val, no_entries};
 ghost use Rattle.upon_types.specs.View.{view, entries_view};
 ghost use Rattle.upon_json.specs.Value.{put};
-ghost use Rattle.upon_data.specs.Entries.{entries_over, inside, keys_of, merged, with_member};
+ghost use Rattle.upon_data.specs.Entries.{entries_over, keys_of, merged, with_member};
 ghost use Rattle.upon_data.specs.Parts.{data_entries, is_part_memory};
 
+use crate::at_path::{insert, set_in};
 use std::alloc::{AllocError, AllocFailed, Global};
 use std::collections::BTreeMap;
-use std::mem;
 use upon_types::value::Value;
 
 /// Why a value is not put into data.
@@ -65,17 +65,12 @@ impl Data {
         ensures kept { IfErr result (λ fault. is_part_memory fault ≡ false → data_entries self.new
             ≡ data_entries self.old) }
     {
-        match value {
-            Value::Map(entries) => Ok(merge_entries(&mut self.entries, entries)?),
-            Value::List(items) => Ok(insert(
-                alloc,
-                &mut self.entries,
-                "items",
-                Value::List(items),
-            )?),
-            Value::None | Value::Bool(_) | Value::Integer(_) | Value::String(_) => {
-                Err(PartFault::NotObject)
-            }
+        match value.into_entries() {
+            Ok(entries) => Ok(merge_entries(&mut self.entries, entries)?),
+            Err(value) => match value.into_items() {
+                Ok(items) => Ok(insert(alloc, &mut self.entries, "items", Value::List(items))?),
+                Err(_) => Err(PartFault::NotObject),
+            },
         }
     }
 
@@ -123,89 +118,4 @@ fn merge_entries(
         drop(entries.insert(key, value)?);
     }
     Ok(())
-}
-
-// Puts a value at a key, in the place of the one that is there.
-fn insert(
-    alloc: Global,
-    entries: &mut BTreeMap<String, Value>,
-    key: &str,
-    value: Value,
-) -> Result<(), AllocError>
-    ensures ok { OnOk result (entries_view entries.new.entries
-        ≡ put key.now (view value) (entries_view entries.old.entries)) }
-    ensures kept { OnErr result (entries.new.entries ≡ entries.old.entries) }
-{
-    drop(entries.insert(String::from_str(alloc, key)?, value)?);
-    Ok(())
-}
-
-// Sets the value at a path into entries.
-#[cycle(set_in)]
-fn set_in(
-    alloc: Global,
-    entries: &mut BTreeMap<String, Value>,
-    path: &str,
-    value: Value,
-) -> Result<(), PartFault>
-    ensures ok { OnOk result (with_member (keys_of path.now) (view value) (entries_view entries.old.entries)
-        ≡ Some (entries_view entries.new.entries)) }
-    ensures refused { IfErr result (λ fault. is_part_memory fault ≡ false
-        → with_member (keys_of path.now) (view value) (entries_view entries.old.entries) ≡ None) }
-    ensures kept { OnErr result (entries_view entries.new.entries ≡ entries_view entries.old.entries) }
-{
-    let Some((key, rest)) = first_key(path) else {
-        return Ok(insert(alloc, entries, path, value)?);
-    };
-    match entries.get_mut(key) {
-        Some(slot) => {
-            let (whole, set) = set_inside(alloc, take(slot), rest, value);
-            *slot = whole;
-            set
-        }
-        None => {
-            let mut inner = BTreeMap::new(alloc);
-            set_in(alloc, &mut inner, rest, value)?;
-            Ok(insert(alloc, entries, key, Value::Map(inner))?)
-        }
-    }
-}
-
-// The first key of a path, and the path after it, if it has more than one key.
-fn first_key<'p>(path: &'p str) -> Option<(&'p str, &'p str)>
-    ensures keys { IfSome result (λ parts. keys_of path.entry.now ≡ parts.0.now ∷ keys_of parts.1.now) }
-    ensures shorter { IfSome result (λ parts. length parts.1.now < length path.entry.now) }
-    ensures one { IfNone result (keys_of path.entry.now ≡ path.entry.now ∷ []) }
-{
-    path.split_once('.')
-}
-
-// Sets the value at a path inside a value, and returns that, and whether it is set.
-#[cycle(set_in)]
-fn set_inside(
-    alloc: Global,
-    whole: Value,
-    path: &str,
-    value: Value,
-) -> (Value, Result<(), PartFault>)
-    ensures ok { OnOk result.1 (inside (with_member (keys_of path.now) (view value)) (view whole)
-        ≡ Some (view result.0)) }
-    ensures refused { IfErr result.1 (λ fault. is_part_memory fault ≡ false
-        → inside (with_member (keys_of path.now) (view value)) (view whole) ≡ None) }
-    ensures kept { OnErr result.1 (view result.0 ≡ view whole) }
-{
-    match whole {
-        Value::Map(mut entries) => {
-            let set = set_in(alloc, &mut entries, path, value);
-            (Value::Map(entries), set)
-        }
-        other => (other, Err(PartFault::NotMap)),
-    }
-}
-
-// Moves a value out, to be put back.
-fn take(value: &mut Value) -> Value
-    ensures { result ≡ value.old }
-{
-    mem::replace(value, Value::None)
 }

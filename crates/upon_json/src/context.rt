@@ -70,12 +70,12 @@ fn entries_of(alloc: Global, text: &str) -> Result<BTreeMap<String, Value>, Data
     ensures rise { IfOk result (λ m. rises (entries_view m.entries) ≡ true) }
     ensures refused { IfErr result (IsContextRefusal (Some text.now)) }
 {
-    match value_of(alloc, text)? {
-        Value::Map(entries) => Ok(entries),
-        Value::List(items) => Ok(of_list(alloc, items)?),
-        Value::None | Value::Bool(_) | Value::Integer(_) | Value::String(_) => {
-            Err(DataFault::NotObject)
-        }
+    match value_of(alloc, text)?.into_entries() {
+        Ok(entries) => Ok(entries),
+        Err(value) => match value.into_items() {
+            Ok(items) => Ok(of_list(alloc, items)?),
+            Err(_) => Err(DataFault::NotObject),
+        },
     }
 }
 

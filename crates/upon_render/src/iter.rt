@@ -547,9 +547,9 @@ fn list_items<'a>(
             Value::List(items) => Ok(Rest::ListLent(items.iter())),
             _ => Err(not_listed(alloc, source, name, value, span)),
         },
-        ValueCow::Owned(value) => match value {
-            Value::List(items) => Ok(Rest::ListOwned(items.into_iter())),
-            other => Err(not_listed(alloc, source, name, &other, span)),
+        ValueCow::Owned(value) => match value.into_items() {
+            Ok(items) => Ok(Rest::ListOwned(items.into_iter())),
+            Err(other) => Err(not_listed(alloc, source, name, &other, span)),
         },
     }
 }
@@ -579,13 +579,13 @@ fn map_items<'a>(
             Value::Map(entries) => Ok(Rest::MapLent(entries.iter())),
             _ => Err(not_mapped(alloc, source, names, value, span)),
         },
-        ValueCow::Owned(value) => match value {
-            Value::Map(entries) => {
+        ValueCow::Owned(value) => match value.into_entries() {
+            Ok(entries) => {
                 // Asked for what it says of the keys: that they ascend.
                 let _ = entries.len();
                 Ok(Rest::MapOwned(entries))
             }
-            other => Err(not_mapped(alloc, source, names, &other, span)),
+            Err(other) => Err(not_mapped(alloc, source, names, &other, span)),
         },
     }
 }

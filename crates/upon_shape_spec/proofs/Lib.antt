@@ -6,6 +6,7 @@ pub mod Order
 pub mod LeastJoin
 pub mod NarrowestShape
 pub mod OpenedShapes
+pub mod CutShapes
 pub mod PathsFit
 pub mod ExpressionsFit
 pub mod ShownWell

@@ -6,7 +6,7 @@ use Rattle.upon_shape_spec.specs.Wider.{plain_wider, wider, lists_wider, maps_wi
 use Rattle.upon_shape_spec.proofs.KeyByKey.{both, AtWider, others_of, keys_from}
 use Rattle.upon_shape_spec.proofs.Order.{implies_itself, plain_itself}
 
-both_chosen : (b : Bool) (x y x' y' : KeyShape) → AtWider x x' → AtWider y y' → AtWider (if b then x else y) (if b then x' else y')
+pub both_chosen : (b : Bool) (x y x' y' : KeyShape) → AtWider x x' → AtWider y y' → AtWider (if b then x else y) (if b then x' else y')
 both_chosen true x y x' y' h k = h
 both_chosen false x y x' y' h k = k
 

@@ -3,6 +3,7 @@ pub mod Fits
 pub mod Join
 pub mod Added
 pub mod Depth
+pub mod Cut
 pub mod Wider
 pub mod Found
 pub mod Paths

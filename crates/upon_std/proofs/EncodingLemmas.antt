@@ -3,6 +3,7 @@ pub mod Characters
 pub mod Fronts
 pub mod JsonAgain
 pub mod JsonNumbers
+pub mod JsonParts
 pub mod JsonStrings
 pub mod JsonTrees
 pub mod JsonWriting

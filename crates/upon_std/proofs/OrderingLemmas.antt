@@ -1,6 +1,7 @@
 pub mod Rising
 pub mod Ranks
 pub mod Repeats
+pub mod PartSpelling
 pub mod Readings
 pub mod Seen
 pub mod Giving

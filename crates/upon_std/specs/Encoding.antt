@@ -5,6 +5,7 @@ pub mod Truncating
 pub mod Url
 pub mod Tokens
 pub mod JsonText
+pub mod JsonParts
 pub mod Held
 pub mod Outcomes
 pub mod Writing

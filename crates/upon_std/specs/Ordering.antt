@@ -6,5 +6,6 @@ pub mod Distinct
 pub mod Grouping
 pub mod Buckets
 pub mod Spelling
+pub mod PartSpelling
 pub mod Outcomes
 pub mod Orders

@@ -57,7 +57,7 @@ pub fn split(context: Value, key: &str) -> Option<(BTreeMap<String, Value>, Vec<
         (λ parts. IsSplit key.now (view context) (entries_view parts.0.entries) (vals_view parts.1.items)) }
     ensures none { IsNone result → (items : Vals) → key_of key.now (view context) ≡ Some (list_val items) → ⊥ }
 {
-    let Value::Map(mut others) = context else {
+    let Ok(mut others) = context.into_entries() else {
         return None;
     };
     let items = list_in(others.remove(key)?)?;
@@ -68,8 +68,5 @@ pub fn split(context: Value, key: &str) -> Option<(BTreeMap<String, Value>, Vec<
 fn list_in(value: Value) -> Option<Vec<Value>>
     ensures { option_map (λ items. vals_view items.items) result ≡ list_in (view value) }
 {
-    match value {
-        Value::List(items) => Some(items),
-        _ => None,
-    }
+    value.into_items().ok()
 }

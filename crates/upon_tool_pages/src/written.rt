@@ -49,8 +49,11 @@ fn json_of(alloc: Global, value: Value) -> Result<String, AllocError>
 {
     let arguments = [ValueCow::Owned(value)];
     match Writing::Json.call(alloc, arguments.as_slice()) {
-        Ok(Value::String(text)) => Ok(text),
-        _ => Err(AllocError),
+        Ok(value) => match value.into_text() {
+            Ok(text) => Ok(text),
+            Err(_) => Err(AllocError),
+        },
+        Err(_) => Err(AllocError),
     }
 }
 

@@ -6,9 +6,12 @@ pub mod Pretty
 pub mod Error
 pub mod Val
 pub mod View
+pub mod Weight
+pub mod CopyTasks
 pub mod Events
 pub mod Truth
 pub mod Same
+pub mod Comparing
 pub mod Conversions
 pub mod Answers
 pub mod Misfits
@@ -23,3 +26,5 @@ pub mod Tree
 pub mod TreeSpans
 pub mod Name
 pub mod AstPath
+pub mod Walk
+pub mod Walked

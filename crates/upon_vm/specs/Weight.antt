@@ -1,6 +1,7 @@
 -- What a value weighs, about the bytes that it takes with all that is in it; and what a step makes, by that measure.
 use Rattle.std.specs.Prelude.{ℕ, ◌+◌, ◌-◌, ◌^◌, List, [], ◌∷◌, length, min, Bool, true, not, if◌then◌else◌, Option, Some, slice_get}
 use Rattle.upon_types.specs.Val.{Val, none_val, bool_val, int_val, text_val, list_val, map_val, Vals, no_vals, val_then, Entries, no_entries, entry_then}
+use Rattle.upon_types.specs.Walk.{ValuePart, leaf, list_begins, item_begins, list_ends, map_begins, entry_begins, map_ends}
 use Rattle.upon_meaning_spec.specs.Evaluation.{Operand}
 use Rattle.upon_machine_spec.specs.Instr.{Instr, expr_start_var, expr_list_push, expr_map_insert, apply}
 use Rattle.upon_machine_spec.specs.State.{State}
@@ -26,6 +27,27 @@ abbrev mutual
   pub weight_of_entries : Entries → ℕ
   weight_of_entries no_entries = 0
   weight_of_entries (entry_then key v es) = ((32 + length key) + weight_of v) + weight_of_entries es
+
+-- what a value weighs without the items or the entries that are in it: 32, and the bytes of a text
+abbrev pub weight_at_top : Val → ℕ
+weight_at_top (text_val bytes) = 32 + length bytes
+weight_at_top v = 32
+
+-- what a part of a value weighs: a value in which there is no other, as it weighs alone; the begin of a list or a map
+-- 32, and that of an entry 32 and the bytes of its key
+abbrev pub weight_of_part : ValuePart → ℕ
+weight_of_part (leaf v) = weight_at_top v
+weight_of_part list_begins = 32
+weight_of_part (item_begins is_first) = 0
+weight_of_part list_ends = 0
+weight_of_part map_begins = 32
+weight_of_part (entry_begins key is_first) = 32 + length key
+weight_of_part map_ends = 0
+
+-- what these parts weigh
+abbrev pub weight_of_parts : List ValuePart → ℕ
+weight_of_parts [] = 0
+weight_of_parts (piece ∷ pieces) = weight_of_part piece + weight_of_parts pieces
 
 -- a number as it is counted: the greatest one that a count can be, if it is more than that
 abbrev pub as_count : ℕ → ℕ

@@ -124,7 +124,9 @@ pub(crate) fn run_within<'r, V: ValueSource, T: ProgramSource<'r>, C: Callables,
         let Some(fewer) = spend(steps, 1) else {
             return at_limit(alloc, running, position, Limit::Steps, limits.steps);
         };
-        let coming = account.coming(limits.values, &*machine);
+        let Ok(coming) = account.coming(alloc, limits.values, &*machine) else {
+            return Within::Ended(Err(Failure::Error(AllocError.into())));
+        };
         match take_turn(alloc, callables, machine, room, out, &mut stop) {
             Turn::Over => return at_limit(alloc, running, position, Limit::Output, limits.output),
             Turn::Stopped => return Within::Ended(Err(stopped(alloc, running, stop))),
@@ -135,7 +137,7 @@ pub(crate) fn run_within<'r, V: ValueSource, T: ProgramSource<'r>, C: Callables,
                 room = rest;
             }
         }
-        let Ok(()) = account.add(limits.values, coming, &*machine) else {
+        let Ok(()) = account.add(alloc, limits.values, coming, &*machine) else {
             return Within::Ended(Err(Failure::Error(AllocError.into())));
         };
         let Some(_) = spend(limits.values, account.made) else {

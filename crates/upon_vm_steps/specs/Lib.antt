@@ -8,6 +8,5 @@ pub mod Ready
 pub mod Keeps
 pub mod Operands
 pub mod Items
-pub mod Depth
 pub mod Halt
 pub mod Calls

@@ -11,7 +11,6 @@ ghost use Rattle.upon_vm_steps.specs.Halt.{IsHalt, GivesFinding};
 ghost use Rattle.upon_vm_steps.specs.Operands.{row};
 
 use crate::callables::{Callables, Called};
-use crate::depth::{DEPTH_LIMIT, fits};
 use crate::fault::{self, Halt};
 use std::alloc::{AllocError, Global};
 use std::slice;
@@ -67,7 +66,7 @@ pub fn call_on<C: Callables>(
     call(alloc, callables, name, values, spans, whole)
 }
 
-// The value of an answer, or its fault; a value that is too deep is refused.
+// The value of an answer, or its fault.
 #[inline(always)]
 pub(crate) fn report(
     alloc: Global,
@@ -82,8 +81,7 @@ pub(crate) fn report(
         (answer_value (ident_of name.now) whole (row values.now spans.now) a) }
 {
     match answer {
-        Ok(value) if fits(&value, DEPTH_LIMIT) => Ok(value),
-        Ok(_) => Err(Halt::Memory),
+        Ok(value) => Ok(value),
         Err(error) => Err(refused(alloc, error, name, values, spans, whole)),
     }
 }

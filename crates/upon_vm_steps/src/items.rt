@@ -1,4 +1,4 @@
-// Lists and maps that are made on the operands: each item and each entry is moved in, if it is not too deep for that.
+// Lists and maps that are made on the operands: each item and each entry is moved in.
 ghost use Rattle.std.specs.Prelude.{◌≡◌, ◌∷◌, IfOk, MatchOption, Some, None};
 ghost use Rattle.upon_types.specs.AstPath.{string_of};
 ghost use Rattle.upon_types.specs.Cow.{cow_view};
@@ -7,7 +7,6 @@ ghost use Rattle.upon_meaning_spec.specs.Evaluation.{operand};
 ghost use Rattle.upon_vm_steps.specs.Items.{with_item, with_operand_pair};
 ghost use Rattle.upon_vm_steps.specs.Operands.{operands_of};
 
-use crate::depth::{DEPTH_LIMIT, fits};
 use crate::operands::Operands;
 use std::alloc::AllocError;
 use upon_types::types::Span;
@@ -25,9 +24,6 @@ pub fn push_item(operands: &mut Operands) -> Result<Option<()>, AllocError>
     let Some((item, _)) = operands.pop() else {
         return Ok(None);
     };
-    if !fits(&item, DEPTH_LIMIT - 1) {
-        return Err(AllocError);
-    }
     operands.push_to_top(into_value(item)?)
 }
 
@@ -38,9 +34,6 @@ pub fn push_copy(operands: &mut Operands, item: &Value) -> Result<Option<()>, Al
         (with_item (operand (view item.now) at ∷ operands_of operands.old) ≡ None)
         (λ _. with_item (operand (view item.now) at ∷ operands_of operands.old) ≡ Some (operands_of operands.new))) }
 {
-    if !fits(item, DEPTH_LIMIT - 1) {
-        return Err(AllocError);
-    }
     operands.push_to_top(item.try_clone()?)
 }
 
@@ -55,9 +48,6 @@ pub fn insert_entry(operands: &mut Operands, key: &Quoted) -> Result<Option<()>,
     let Some((value, _)) = operands.pop() else {
         return Ok(None);
     };
-    if !fits(&value, DEPTH_LIMIT - 1) {
-        return Err(AllocError);
-    }
     operands.insert_into_top(key, into_value(value)?)
 }
 
@@ -73,9 +63,6 @@ pub fn insert_copy(
         (λ _. with_operand_pair (string_of key.now) (operand (view value.now) at ∷ operands_of operands.old)
         ≡ Some (operands_of operands.new))) }
 {
-    if !fits(value, DEPTH_LIMIT - 1) {
-        return Err(AllocError);
-    }
     operands.insert_into_top(key, value.try_clone()?)
 }
 

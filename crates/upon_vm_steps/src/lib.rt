@@ -4,7 +4,6 @@
 pub mod act;
 pub mod callables;
 pub mod calls;
-mod depth;
 pub mod emission;
 pub mod fault;
 pub mod items;

@@ -8,7 +8,6 @@ ghost use Rattle.upon_meaning_spec.specs.Evaluation.{Operand, operand};
 ghost use Rattle.upon_vm_steps.specs.Items.{list_with, map_with_operand};
 
 use std::alloc::{AllocError, Global};
-use std::mem;
 use upon_types::types::Span;
 use upon_types::types::ast::String as Quoted;
 use upon_types::value::{Value, ValueCow};
@@ -206,12 +205,10 @@ fn push_to_owned(list: &mut Value, item: Value) -> Result<Option<()>, AllocError
         (list_with (view list.old) (view item) at ops ≡ None)
         (λ _. list_with (view list.old) (view item) at ops ≡ Some (operand (view list.new) at ∷ ops))) }
 {
-    match mem::replace(list, Value::None) {
+    match list {
         Value::List(items) => {
-            let mut items = items;
             items.reserve(1)?;
             items.push_reserved(item);
-            *list = Value::List(items);
             Ok(Some(()))
         }
         _ => Ok(None),
@@ -247,11 +244,9 @@ fn insert_into_owned(map: &mut Value, key: &Quoted, value: Value) -> Result<Opti
         (λ _. map_with_operand (view map.old) (string_of key.now) (view value) at ops
         ≡ Some (operand (view map.new) at ∷ ops))) }
 {
-    match mem::replace(map, Value::None) {
+    match map {
         Value::Map(entries) => {
-            let mut entries = entries;
             drop(entries.insert(key.value.clone()?, value)?);
-            *map = Value::Map(entries);
             Ok(Some(()))
         }
         _ => Ok(None),

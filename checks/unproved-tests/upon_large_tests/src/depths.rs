@@ -1,5 +1,5 @@
-// How deep values are: in one that a template makes, or that a function gives, at most 256 lists and maps are in each
-// other. A deeper one is refused as out of memory, as it would take too much of the call stack.
+// How deep values are: as deep as memory goes, in what a template makes, in what includes make of it one after the other,
+// and in what a function gives.
 ghost use Rattle.upon_large_tests.specs.Callables.{listed};
 
 use std::alloc::{AllocError, Global};
@@ -21,62 +21,57 @@ impl Call1V<Result<Vec<Value>, AllocError>> for ListOf {
     }
 }
 
-// An engine with this function, and a template that includes itself with a deeper value.
-fn engine<'e>(alloc: Global) -> Result<Engine<'e>, Fail> {
+// An engine with this function, and templates of which each includes the next one with a deeper value; the last one shows
+// what is at the bottom of three levels.
+fn engine<'e>(alloc: Global, includes: usize) -> Result<Engine<'e>, Fail> {
     let mut engine = Engine::new(alloc);
-    engine.set_max_include_depth(1_000);
+    engine.set_max_include_depth(2_000);
     let function = Box::new(alloc, Fn1V::new(ListOf))?;
     engine.add_function(CowStr::Borrowed("list"), function)?;
+    for number in 0..includes {
+        let next = number.wrapping_add(1);
+        let name = format!(in alloc; "t{number}")?;
+        let source = format!(in alloc; "{{% include \"t{next}\" with {{\"a\": [a]}} %}}")?;
+        engine.add_template(CowStr::Owned(name), CowStr::Owned(source))?;
+    }
+    let last = format!(in alloc; "t{includes}")?;
     engine.add_template(
-        CowStr::Borrowed("deeper"),
-        CowStr::Borrowed("{% include \"deeper\" with {\"a\": [a]} %}"),
+        CowStr::Owned(last),
+        CowStr::Borrowed("{% for x in a.0.0 %}x{% endfor %}"),
     )?;
     Ok(engine)
 }
 
-/// A text before the begins, a begin, the text between, an end, and the text after the ends; and how many begins and ends
-/// there may be.
+/// A text before the begins, a begin, the text between, an end, and the text after the ends.
 type Row = (
     &'static str,
     &'static str,
     &'static str,
     &'static str,
     &'static str,
-    usize,
 );
 
 const ROWS: &[Row] = &[
-    ("{% for x in ", "[", "1", "]", " %}x{% endfor %}", 256),
+    ("{% for x in ", "[", "1", "]", " %}x{% endfor %}"),
+    ("{% for k, v in ", "{\"a\": ", "1", "} ", " %}x{% endfor %}"),
+    ("{% for x in ", "[{\"a\": ", "1", "} ]", " %}x{% endfor %}"),
+    ("", "{% with [a] as a %}", "x", "{% endwith %}", ""),
+    ("", "{% with {\"a\": a} as a %}", "x", "{% endwith %}", ""),
+    ("", "{% for a in [[a]] %}", "x", "{% endfor %}", ""),
+    ("{% if ", "list(", "1", ")", " %}x{% endif %}"),
+    ("{% if a", " | list", "", "", " %}x{% endif %}"),
+    // What is made is copied into a list, and that is looped over.
     (
-        "{% for k, v in ",
-        "{\"a\": ",
+        "{% with ",
+        "[",
         "1",
-        "} ",
-        " %}x{% endfor %}",
-        256,
+        "]",
+        " as v %}{% with [v] as w %}{% for x in w %}x{% endfor %}{% endwith %}{% endwith %}",
     ),
-    (
-        "{% for x in ",
-        "[{\"a\": ",
-        "1",
-        "} ]",
-        " %}x{% endfor %}",
-        128,
-    ),
-    ("", "{% with [a] as a %}", "x", "{% endwith %}", "", 256),
-    (
-        "",
-        "{% with {\"a\": a} as a %}",
-        "x",
-        "{% endwith %}",
-        "",
-        256,
-    ),
-    // What is looped over is one deeper than its item.
-    ("", "{% for a in [[a]] %}", "x", "{% endfor %}", "", 255),
-    ("{% if ", "list(", "1", ")", " %}x{% endif %}", 256),
-    ("{% if a", " | list", "", "", " %}x{% endif %}", 256),
 ];
+
+// How deep values are: what a byte has room for, what upon writes too, and more levels than a copy takes calls.
+const DEPTHS: &[usize] = &[1, 31, 32, 33, 63, 64, 65, 255, 256, 257, 300, 1_000]; // ./test: &[33, 65, 257]
 
 fn add(text: &mut String, part: &str, times: usize) -> Result<(), AllocError> {
     for _ in 0..times {
@@ -86,7 +81,7 @@ fn add(text: &mut String, part: &str, times: usize) -> Result<(), AllocError> {
 }
 
 fn source(alloc: Global, row: &Row, times: usize) -> Result<String, AllocError> {
-    let (before, begin, between, end, after, _) = row;
+    let (before, begin, between, end, after) = row;
     let mut text = String::from_str(alloc, before)?;
     add(&mut text, begin, times)?;
     text.push_str(between)?;
@@ -95,14 +90,14 @@ fn source(alloc: Global, row: &Row, times: usize) -> Result<String, AllocError> 
     Ok(text)
 }
 
-// The source answers what is wanted.
-fn answers(alloc: Global, source: &str, wanted: &str) -> Result<(), Fail> {
+// The source, in an engine with so many includes in each other, answers what is wanted.
+fn answers(alloc: Global, includes: usize, source: &str, wanted: &str) -> Result<(), Fail> {
     let mut deep = Value::from(1);
     for _ in 0..300 {
         deep = Value::List(vec![in alloc; deep]?);
     }
     let context = value! { in alloc; a: 1, deep: deep }?;
-    let line = line_of(alloc, engine(alloc)?.render_text(source, &context))?;
+    let line = line_of(alloc, engine(alloc, includes)?.render_text(source, &context))?;
     if line.as_str() != wanted {
         return Err(Fail::new(format_args!(
             "{line:?} in place of {wanted:?}, of {source}"
@@ -115,36 +110,50 @@ fn answers(alloc: Global, source: &str, wanted: &str) -> Result<(), Fail> {
 fn deep_values(rt: HostRuntime) -> Result<(), Fail> {
     let alloc = rt.alloc();
     for row in ROWS {
-        answers(alloc, source(alloc, row, row.5)?.as_str(), "x")?;
+        for depth in DEPTHS {
+            answers(alloc, 0, source(alloc, row, *depth)?.as_str(), "x")?;
+        }
     }
     Ok(())
 }
 
-// How much deeper values are than they may be.
-const DEEPER: &[usize] = &[1, 2, 1_000]; // ./test: &[1]
-
+// Each include makes the value deeper by one list.
 #[test]
 fn deeper_values(rt: HostRuntime) -> Result<(), Fail> {
     let alloc = rt.alloc();
-    for row in ROWS {
-        for more in DEEPER {
-            let source = source(alloc, row, row.5.wrapping_add(*more))?;
-            answers(alloc, source.as_str(), "out of memory")?;
-        }
+    for includes in DEPTHS {
+        let source = "{% include \"t0\" with {\"a\": [[[1]]]} %}";
+        answers(alloc, *includes, source, "x")?;
     }
-    answers(alloc, "{% include \"deeper\" %}", "out of memory")
+    Ok(())
 }
 
-// A context may be deeper: it is lent. What holds it is not.
+// What is at the bottom of a list is shown by a path as long as the list is deep.
+#[test]
+fn paths(rt: HostRuntime) -> Result<(), Fail> {
+    let alloc = rt.alloc();
+    for depth in DEPTHS {
+        let list = ("{% with ", "[", "\"x\"", "]", " as v %}{{ v");
+        let mut source = source(alloc, &list, *depth)?;
+        add(&mut source, ".0", *depth)?;
+        source.push_str(" }}{% endwith %}")?;
+        answers(alloc, 0, source.as_str(), "x")?;
+    }
+    Ok(())
+}
+
+// A context may be as deep, and so may what holds it.
 #[test]
 fn contexts(rt: HostRuntime) -> Result<(), Fail> {
     let alloc = rt.alloc();
-    answers(alloc, "{% for x in deep %}x{% endfor %}", "x")?;
-    answers(alloc, "{% with deep as x %}x{% endwith %}", "x")?;
-    answers(
-        alloc,
+    for source in [
+        "{% for x in deep %}x{% endfor %}",
+        "{% with deep as x %}x{% endwith %}",
         "{% with [deep] as x %}x{% endwith %}",
-        "out of memory",
-    )?;
-    answers(alloc, "{% if deep | list %}x{% endif %}", "out of memory")
+        "{% if deep | list %}x{% endif %}",
+        "{% include \"t0\" with {\"a\": deep} %}",
+    ] {
+        answers(alloc, 3, source, "x")?;
+    }
+    Ok(())
 }

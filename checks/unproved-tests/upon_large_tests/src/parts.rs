@@ -182,10 +182,10 @@ fn lists_by_serde(rt: HostRuntime) -> Result<(), Fail> {
     for _ in 0..5_000u32 {
         items.push(7u8)?;
     }
-    match to_value(alloc, &items)? {
-        Value::List(values) => assert_eq!(&rt; values.len(), 5_000),
-        _ => return Err(Fail::new("no list")),
-    }
+    let Ok(values) = to_value(alloc, &items)?.into_items() else {
+        return Err(Fail::new("no list"));
+    };
+    assert_eq!(&rt; values.len(), 5_000);
     Ok(())
 }
 
@@ -197,7 +197,7 @@ fn maps_by_serde(rt: HostRuntime) -> Result<(), Fail> {
     for i in 0..5_000u32 {
         drop(map.insert(format!(in alloc; "k{i}")?, i)?);
     }
-    let Value::Map(entries) = to_value(alloc, &map)? else {
+    let Ok(entries) = to_value(alloc, &map)?.into_entries() else {
         return Err(Fail::new("no map"));
     };
     assert_eq!(&rt; entries.len(), 5_000);

@@ -7,6 +7,7 @@ pub mod keys;
 pub mod literal;
 pub mod nested;
 pub mod parts;
+pub mod paths;
 pub mod refusals;
 pub mod rows;
 pub mod rows_say;

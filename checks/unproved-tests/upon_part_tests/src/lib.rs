@@ -20,6 +20,8 @@ mod shapes;
 #[cfg(test)]
 mod standard;
 #[cfg(test)]
+mod standard_depths;
+#[cfg(test)]
 mod standard_orders;
 #[cfg(test)]
 mod standard_parts;

@@ -176,3 +176,41 @@ fn made_by_hand(rt: HostRuntime) -> Result<(), Fail> {
     }
     Ok(())
 }
+
+// How many lists are in each other.
+const LISTS: usize = 100_000;
+
+// Lists in each other, with an integer in the innermost.
+fn lists(alloc: Global) -> Result<Value, AllocError> {
+    let mut value = Value::Integer(1);
+    for _ in 0..LISTS {
+        let mut items = Vec::with_capacity(alloc, 1)?;
+        items.push(value)?;
+        value = Value::List(items);
+    }
+    Ok(value)
+}
+
+// Takes lists in each other apart, from the outside inwards.
+fn take_apart(mut value: Value) {
+    for _ in 0..LISTS {
+        let Value::List(items) = &mut value else {
+            return;
+        };
+        let Some(inner) = items.pop() else {
+            return;
+        };
+        value = inner;
+    }
+}
+
+#[test]
+fn deep_lists(rt: HostRuntime) -> Result<(), Fail> {
+    let alloc = rt.alloc();
+    let value = lists(alloc)?;
+    let shape = Shape::of(alloc, &value)?;
+    take_apart(value);
+    assert!(rt; shape.is_deeper_than(127));
+    assert!(rt; !shape.is_deeper_than(128));
+    Ok(())
+}

@@ -230,7 +230,7 @@ fn twice(alloc: Global, count: i64) -> Result<Value, AllocError> {
 
 // The number of items that a function leaves of that list.
 fn left(alloc: Global, function: Orders, args: &[ValueCow]) -> Result<usize, AllocError> {
-    match report(function.call(alloc, args)) {
+    match &report(function.call(alloc, args)) {
         CallReport::Value(Value::List(items)) => Ok(items.len()),
         _ => Ok(0),
     }

@@ -83,7 +83,7 @@ fn ranges(rt: HostRuntime) -> Result<(), Fail> {
         let answered = answer(alloc, "range", &[integer(from), integer(to)]);
         assert!(rt; answered == fault(alloc, "range has more than 1000000 items")?);
     }
-    let count = match answer(alloc, "range", &[integer(-1), integer(999_999)]) {
+    let count = match &answer(alloc, "range", &[integer(-1), integer(999_999)]) {
         Some(CallReport::Value(Value::List(all))) => all.len(),
         _ => 0,
     };

@@ -1,10 +1,12 @@
 // Of which values shapes are that are made of others, and of data.
-ghost use Rattle.std.specs.Prelude.{◌≡◌, List, IsTrue};
+ghost use Rattle.std.specs.Prelude.{◌≡◌, ℕ, List, false, IsTrue};
 ghost use Rattle.upon_types.specs.Path.{Member};
 ghost use Rattle.upon_types.specs.Truth.{truth};
 ghost use Rattle.upon_types.specs.Val.{Val};
 ghost use Rattle.upon_lookup.specs.Walk.{walk};
 ghost use Rattle.upon_meaning_spec.specs.MapOrder.{IsAmong};
+ghost use Rattle.upon_shape_spec.specs.Cut.{cut_to, RiseTo};
+ghost use Rattle.upon_shape_spec.specs.Depth.{is_deeper};
 ghost use Rattle.upon_shape_spec.specs.Fits.{Fits, MapsRise};
 ghost use Rattle.upon_shape_spec.specs.Found.{Finds, FindsShape};
 ghost use Rattle.upon_shape_spec.specs.Join.{join_shapes, shape_of, samples_shape, opened};
@@ -40,6 +42,16 @@ pub fn own_shape_fits()
     ensures fits { (v : Val) → MapsRise v → Fits (shape_of v) v }
 
     ensures narrowest { (s : Shape) (v : Val) → Fits s v → IsTrue (wider s (shape_of v)) }
+{}
+
+/// States that a shape which is cut at a depth is at least as wide as it was, and no deeper; and that a value fits its
+/// own shape which is cut, if the keys of its maps are in their order down to that depth.
+pub fn cut_shape_fits()
+    ensures as_wide { (levels : ℕ) (s : Shape) → IsTrue (wider (cut_to levels s) s) }
+
+    ensures no_deeper { (levels : ℕ) (s : Shape) → is_deeper levels (cut_to levels s) ≡ false }
+
+    ensures fits { (levels : ℕ) (v : Val) → RiseTo levels v → Fits (cut_to levels (shape_of v)) v }
 {}
 
 /// States that each of some samples fits the shape of them all, and that a shape is as wide if its maps may have other

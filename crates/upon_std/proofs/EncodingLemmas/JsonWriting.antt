@@ -1,14 +1,11 @@
 -- How a formatter appends the parts of a text one after the other.
-use Rattle.std.proofs.Common.{◌≡◌, ℕ, ◌+◌, ◌<◌, Bool, false, List, [], ◌++◌, Result, Ok, Err, length, drop, get_or, refl, ap, sym, ◌∙◌, append_assoc}
+use Rattle.std.proofs.Common.{◌≡◌, ℕ, false, List, [], ◌++◌, Result, Ok, Err, refl, ap, sym, ◌∙◌, append_assoc}
 use Rattle.std.proofs.lemmas.Bool.{true≢false}
-use Rattle.std.proofs.lemmas.List.{at_drop_more}
-use Rattle.upon_types.specs.View.{view, vals_view}
-use Rattle.upon_types.specs.declared.value.Value.{Value}
+use Rattle.std.proofs.lemmas.List.{append-nil}
 use Rattle.upon_meaning_spec.specs.DefaultFormat.{format_text}
 use Rattle.upon_fmt.specs.Formatter.{text_of, is_marked, Formats, Writes}
 use Rattle.upon_fmt.specs.declared.fmt.Error.{Error}
 use Rattle.upon_fmt.specs.declared.fmt.Formatter.{Formatter}
-use Rattle.upon_std.specs.Encoding.JsonText.{before, json_items, json_text}
 
 -- if no mark is set: none was set at first, and what is written and then the rest is the whole after what was there
 abbrev pub Keeps : Formatter → Formatter → List ℕ → List ℕ → Type 0
@@ -39,27 +36,9 @@ ends first now next r part whole wrote kept = λ mark.
     let k = kept w.0 in
     (k.0, w.1 ∙ k.1, w.2)
 
--- the items from an index on, by the first of them
-pub items_at : (items : List Value) (i : ℕ) (x : Value) (is_first : Bool) → i < length items → x ≡ get_or items i x
-    → json_items (vals_view (drop i items)) is_first ≡ before is_first ++ (json_text (view x) ++ json_items (vals_view (drop (i + 1) items)) false)
-items_at items i x is_first within is =
-    at_drop_more (λ xs. json_items (vals_view xs) is_first) items i x within
-    ∙ ap (λ y. before is_first ++ (json_text (view y) ++ json_items (vals_view (drop (i + 1) items)) false)) (sym is)
-
--- what is kept of a part is kept of the whole
-joins : (first mid now : Formatter) (rest all tail whole : List ℕ) → Keeps first mid (all ++ tail) whole → Keeps mid now rest all
-    → Keeps first now (rest ++ tail) whole
-joins first mid now rest all tail whole outer inner = λ mark.
-    let i = inner mark in
-    let o = outer i.0 in
-    (o.0, sym (append_assoc (text_of now) rest tail) ∙ ap (λ t. t ++ tail) i.1 ∙ append_assoc (text_of mid) all tail ∙ o.1)
-
--- what opens, all parts and what closes are written
-pub closes : (first mid now last : Formatter) (r : Result (Unit {0}) Error) (opening rest all closing : List ℕ) → Formats first mid (Ok tt) (format_text opening)
-    → Keeps mid now rest all → rest ≡ [] → Formats now last r (format_text closing) → Formats first last r (format_text (opening ++ (all ++ closing)))
-closes first mid now last r opening rest all closing opened kept none closed =
-    let whole = opening ++ (all ++ closing) in
-    let outer = adds first first mid opening whole (all ++ closing) whole opened refl (begins first whole) in
-    let left : Keeps first now closing whole = λ mark.
-    let k = joins first mid now rest all closing whole outer kept mark in (k.0, ap (λ t. text_of now ++ (t ++ closing)) (sym none) ∙ k.1) in
-    ends first now last r closing whole closed left
+-- nothing is left, so that the whole is written
+pub done : (first now : Formatter) (rest whole text : List ℕ) → rest ≡ [] → whole ≡ text → Keeps first now rest whole
+    → Formats first now (Ok tt) (format_text text)
+done first now rest whole text none is kept = λ mark.
+    let k = kept mark in
+    (k.0, sym (append-nil (text_of now)) ∙ ap (λ t. text_of now ++ t) (sym none) ∙ k.1 ∙ ap (λ t. text_of first ++ t) is, refl)

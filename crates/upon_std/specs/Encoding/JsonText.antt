@@ -48,11 +48,3 @@ abbrev mutual
   json_entries no_entries is_first = []
   json_entries (entry_then key v es) is_first =
       before is_first ++ (entry_name_text key ++ (json_text v ++ json_entries es false))
-
--- the text of a list
-abbrev pub list_text : Vals → List ℕ
-list_text vs = json_text (list_val vs)
-
--- the text of a map
-abbrev pub map_text : Entries → List ℕ
-map_text es = json_text (map_val es)

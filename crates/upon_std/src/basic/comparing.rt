@@ -8,6 +8,7 @@ use crate::basic::order::{is_true, order, refusal};
 use std::alloc::{AllocError, Global};
 use upon_functions::function::{CallError, Function};
 use upon_functions::{Call1V, Call2VV, Fn1V, Fn2VV};
+use upon_types::value::comparing::try_same;
 use upon_types::value::{Value, ValueCow};
 
 /// A function that compares values, or chooses among them. Values that count as false are those of `if`.
@@ -39,8 +40,12 @@ impl Function for Comparing {
 
     fn call(&self, alloc: Global, args: &[ValueCow]) -> Result<Value, CallError> {
         match *self {
-            Comparing::Equal => Fn2VV::<Equal, bool>::new(Equal).call(alloc, args),
-            Comparing::NotEqual => Fn2VV::<NotEqual, bool>::new(NotEqual).call(alloc, args),
+            Comparing::Equal => {
+                Fn2VV::<Equal, Result<bool, AllocError>>::new(Equal).call(alloc, args)
+            }
+            Comparing::NotEqual => {
+                Fn2VV::<NotEqual, Result<bool, AllocError>>::new(NotEqual).call(alloc, args)
+            }
             Comparing::Ordered(relation) => {
                 Fn2VV::<Relation, Result<Result<bool, String>, AllocError>>::new(relation).call(
                     alloc, args,
@@ -61,13 +66,13 @@ impl Function for Comparing {
 #[derive(Drop)]
 struct Equal;
 
-impl Call2VV<bool> for Equal {
+impl Call2VV<Result<bool, AllocError>> for Equal {
     ghost use Rattle.upon_std.specs.Basic.Choices.{equal_outcome};
 
     ghost meaning = { λ _. equal_outcome };
 
-    fn call(&self, _alloc: Global, first: &Value, second: &Value) -> bool {
-        first == second
+    fn call(&self, alloc: Global, first: &Value, second: &Value) -> Result<bool, AllocError> {
+        try_same(alloc, first, second)
     }
 }
 
@@ -75,13 +80,14 @@ impl Call2VV<bool> for Equal {
 #[derive(Drop)]
 struct NotEqual;
 
-impl Call2VV<bool> for NotEqual {
+impl Call2VV<Result<bool, AllocError>> for NotEqual {
     ghost use Rattle.upon_std.specs.Basic.Choices.{not_equal_outcome};
 
     ghost meaning = { λ _. not_equal_outcome };
 
-    fn call(&self, _alloc: Global, first: &Value, second: &Value) -> bool {
-        first != second
+    fn call(&self, alloc: Global, first: &Value, second: &Value) -> Result<bool, AllocError> {
+        let same = try_same(alloc, first, second)?;
+        Ok(!same)
     }
 }
 

@@ -7,6 +7,7 @@ ghost use Rattle.upon_std.specs.Cutting.Items.{concatenated, sliced, plucked, ha
 
 use crate::basic::copies::{copy_at, copy_items};
 use std::alloc::{AllocError, Global};
+use upon_types::value::comparing::try_same;
 use upon_types::value::{Value, look};
 
 // The items of one list, then of another.
@@ -57,18 +58,19 @@ pub(crate) fn having(
 {
     let mut made = Vec::new(alloc);
     for item in items {
-        if has_at(item, key, wanted) {
+        let has = has_at(alloc, item, key, wanted)?;
+        if has {
             made.push(item.try_clone()?)?;
         }
     }
     Ok(made)
 }
 
-fn has_at(item: &Value, key: &str, wanted: &Value) -> bool
-    ensures { result ≡ val_eq (value_at_key key.now (view item.now)) (view wanted.now) }
+fn has_at(alloc: Global, item: &Value, key: &str, wanted: &Value) -> Result<bool, AllocError>
+    ensures { IfOk result (λ has. has ≡ val_eq (value_at_key key.now (view item.now)) (view wanted.now)) }
 {
     match look::entry(item, key) {
-        Some(found) => found == wanted,
-        None => Value::None == *wanted,
+        Some(found) => try_same(alloc, found, wanted),
+        None => Ok(Value::None == *wanted),
     }
 }

@@ -1,25 +1,59 @@
-// Spells values as lists of numbers, by which a set or a map can tell whether they are the same.
+// Spells values as lists of numbers, by which a set or a map can tell whether they are the same. A value is spelled
+// part by part, without a call a level.
 ghost use Rattle.std.specs.Prelude.{◌≡◌, ◌++◌, IfOk, OnOk};
-ghost use Rattle.upon_types.specs.View.{view, vals_view, entries_view};
-ghost use Rattle.upon_std.specs.Ordering.Spelling.{spelling, integer_spelling, text_spelling, items_spelling, entries_spelling};
+ghost use Rattle.upon_types.specs.View.{view};
+ghost use Rattle.upon_types.specs.Walked.{part_of};
+ghost use Rattle.upon_std.specs.Ordering.PartSpelling.{leaf_spelling, part_spelling};
+ghost use Rattle.upon_std.specs.Ordering.Spelling.{spelling, integer_spelling, text_spelling};
 
 use std::alloc::{AllocError, Global};
-use std::collections::BTreeMap;
 use upon_types::value::Value;
+use upon_types::value::walk::{Part, Walk};
 
 // The spelling of a value. Two values are the same if and only if their spellings are.
 pub(crate) fn spelling(alloc: Global, value: &Value) -> Result<Vec<u64>, AllocError>
     ensures { IfOk result (λ numbers. numbers.items ≡ spelling (view value.now)) }
 {
     let mut numbers = Vec::new(alloc);
-    spell(value, &mut numbers)?;
+    match value {
+        Value::List(_) | Value::Map(_) => spell_parts(alloc, value, &mut numbers)?,
+        _ => spell_leaf(value, &mut numbers)?,
+    }
     Ok(numbers)
 }
 
-// Appends the spelling of a value.
-#[cycle(spell)]
-fn spell(value: &Value, numbers: &mut Vec<u64>) -> Result<(), AllocError>
+// Appends the spelling of a value, part by part.
+fn spell_parts(alloc: Global, value: &Value, numbers: &mut Vec<u64>) -> Result<(), AllocError>
     ensures { OnOk result (numbers.new.items ≡ numbers.old.items ++ spelling (view value.now)) }
+{
+    let mut walk = Walk::over(alloc, value);
+    while let Some(part) = walk.next_part()? {
+        spell_part(part, numbers)?;
+    }
+    Ok(())
+}
+
+// Appends the spelling of a part.
+fn spell_part(part: Part<'_>, numbers: &mut Vec<u64>) -> Result<(), AllocError>
+    ensures { OnOk result (numbers.new.items ≡ numbers.old.items ++ part_spelling (part_of part.entry)) }
+{
+    match part {
+        Part::Leaf(value) => spell_leaf(value, numbers)?,
+        Part::ListBegins => numbers.push(4)?,
+        Part::MapBegins => numbers.push(5)?,
+        Part::ItemBegins(_) => numbers.push(1)?,
+        Part::EntryBegins(key, _) => {
+            numbers.push(1)?;
+            spell_text(key, numbers)?;
+        }
+        Part::ListEnds | Part::MapEnds => numbers.push(0)?,
+    }
+    Ok(())
+}
+
+// Appends the spelling of a value in which there is no other. It appends nothing for a list or a map.
+fn spell_leaf(value: &Value, numbers: &mut Vec<u64>) -> Result<(), AllocError>
+    ensures { OnOk result (numbers.new.items ≡ numbers.old.items ++ leaf_spelling (view value.now)) }
 {
     match value {
         Value::None => numbers.push(0)?,
@@ -35,44 +69,8 @@ fn spell(value: &Value, numbers: &mut Vec<u64>) -> Result<(), AllocError>
             numbers.push(3)?;
             spell_text(text, numbers)?;
         }
-        Value::List(items) => {
-            numbers.push(4)?;
-            spell_items(items, numbers)?;
-        }
-        Value::Map(entries) => {
-            numbers.push(5)?;
-            spell_entries(entries, numbers)?;
-        }
+        Value::List(_) | Value::Map(_) => {}
     }
-    Ok(())
-}
-
-#[cycle(spell)]
-fn spell_items(items: &[Value], numbers: &mut Vec<u64>) -> Result<(), AllocError>
-    ensures { OnOk result (numbers.new.items ≡ numbers.old.items ++ items_spelling (vals_view items.now)) }
-{
-    for item in items {
-        numbers.push(1)?;
-        spell(item, numbers)?;
-    }
-    numbers.push(0)?;
-    Ok(())
-}
-
-#[cycle(spell)]
-fn spell_entries(
-    entries: &BTreeMap<String, Value>,
-    numbers: &mut Vec<u64>,
-) -> Result<(), AllocError>
-    ensures { OnOk result
-        (numbers.new.items ≡ numbers.old.items ++ entries_spelling (entries_view entries.now.entries)) }
-{
-    for (key, value) in entries.iter() {
-        numbers.push(1)?;
-        spell_text(key, numbers)?;
-        spell(value, numbers)?;
-    }
-    numbers.push(0)?;
     Ok(())
 }
 

@@ -37,11 +37,11 @@ pub fn with(
     key: &str,
     value: Value,
 ) -> std::result::Result<Value, AllocError> {
-    match map {
-        Value::Map(mut entries) => {
+    match map.into_entries() {
+        Ok(mut entries) => {
             drop(entries.insert(String::from_str(alloc, key)?, value)?);
             Ok(Value::Map(entries))
         }
-        other => Ok(other),
+        Err(other) => Ok(other),
     }
 }

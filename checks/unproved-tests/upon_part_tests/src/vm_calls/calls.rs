@@ -47,8 +47,10 @@ fn reported(alloc: Global, halt: Halt) -> Result<String, AllocError> {
 fn called(alloc: Global, fixed: Fixed, value: &Value) -> Result<String, AllocError> {
     let values = [ValueCow::Borrowed(value)];
     match call(alloc, &fixed, &name(alloc)?, &values, &[ARGUMENT], WHOLE) {
-        Ok(Value::Integer(number)) => format!(in alloc; "{number}"),
-        Ok(_) => String::from_str(alloc, "no number"),
+        Ok(value) => match &value {
+            Value::Integer(number) => format!(in alloc; "{number}"),
+            _ => String::from_str(alloc, "no number"),
+        },
         Err(halt) => reported(alloc, halt),
     }
 }
@@ -86,12 +88,12 @@ fn values_and_faults(rt: HostRuntime) -> Result<(), Fail> {
 }
 
 #[test]
-fn results_are_256_deep_at_most(rt: HostRuntime) -> Result<(), Fail> {
+fn results_are_as_deep_as_they_are_given(rt: HostRuntime) -> Result<(), Fail> {
     let alloc = rt.alloc();
-    let got = called(alloc, Fixed::Nests(256), &Value::None)?;
-    is(&rt, got.as_str(), "no number");
-    let got = called(alloc, Fixed::Nests(257), &Value::None)?;
-    is(&rt, got.as_str(), "memory");
+    for depth in [1, 256, 257, 1_000] {
+        let got = called(alloc, Fixed::Nests(depth), &Value::None)?;
+        is(&rt, got.as_str(), "no number");
+    }
     Ok(())
 }
 

@@ -103,17 +103,11 @@ fn goes_into_a_map(alloc: std::alloc::Global, depth: usize) -> Result<bool, Allo
 }
 
 #[test]
-fn lists_are_256_deep_at_most(rt: HostRuntime) -> Result<(), Fail> {
+fn values_of_any_depth_go_in(rt: HostRuntime) -> Result<(), Fail> {
     let alloc = rt.alloc();
-    assert!(rt; goes_into_a_list(alloc, 255)?);
-    assert!(rt; !goes_into_a_list(alloc, 256)?);
-    Ok(())
-}
-
-#[test]
-fn maps_are_256_deep_at_most(rt: HostRuntime) -> Result<(), Fail> {
-    let alloc = rt.alloc();
-    assert!(rt; goes_into_a_map(alloc, 255)?);
-    assert!(rt; !goes_into_a_map(alloc, 256)?);
+    for depth in [1, 255, 256, 257, 1_000] {
+        assert!(rt; goes_into_a_list(alloc, depth)?);
+        assert!(rt; goes_into_a_map(alloc, depth)?);
+    }
     Ok(())
 }

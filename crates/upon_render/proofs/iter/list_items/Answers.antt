@@ -6,5 +6,5 @@ use Rattle.upon_render.proofs.iter.list_items.Goals as goal
 pub returns-in-List-clause-fits : goal.returns-in-List-clause-fits
 returns-in-List-clause-fits = grind (arith, common_steps)
 
-pub returns-in-List-value-clause-fits : goal.returns-in-List-value-clause-fits
-returns-in-List-value-clause-fits = grind (arith, common_steps)
+pub returns-in-Ok-clause-fits : goal.returns-in-Ok-clause-fits
+returns-in-Ok-clause-fits = grind (arith, common_steps)

@@ -6,5 +6,5 @@ use Rattle.upon_render.proofs.iter.map_items.Goals as goal
 pub returns-in-Map-clause-fits : goal.returns-in-Map-clause-fits
 returns-in-Map-clause-fits = grind (arith, common_steps)
 
-pub returns-in-Map-value-clause-fits : goal.returns-in-Map-value-clause-fits
-returns-in-Map-value-clause-fits = grind (arith, common_steps)
+pub returns-in-Ok-clause-fits : goal.returns-in-Ok-clause-fits
+returns-in-Ok-clause-fits = grind (arith, common_steps)

@@ -11,7 +11,7 @@ use Rattle.upon_vm.proofs.Fewer.{fewer}
 use Rattle.upon_vm_steps.proofs.Keeps.{kept_on}
 use Rattle.upon_vm.proofs.Turns.{leaves_most}
 use Rattle.upon_vm.proofs.WithinWay.{leaves_all}
-use Rattle.upon_vm.proofs.WithinTurns.{WayWithin, counts_on, grown_on, grown_so, grown_within, within_asks, within_ended, within_failed, within_first, within_frames, within_memory, within_nearer, within_not_stuck, within_on, within_room, within_steps, within_stop, within_values}
+use Rattle.upon_vm.proofs.WithinTurns.{WayWithin, counts_on, grown_on, grown_so, grown_stop, grown_within, within_asks, within_ended, within_failed, within_first, within_frames, within_memory, within_nearer, within_not_stuck, within_on, within_room, within_steps, within_stop, within_unweighed, within_values}
 use Rattle.upon_vm.proofs.within.run_within.Goals as goal
 
 pub some-left-requires : goal.some-left-requires
@@ -117,10 +117,9 @@ returns-in-Stopped-clause-ran g c known starts =
 
 pub returns-in-Some-end_of-clause-bounded : goal.returns-in-Some-end_of-clause-bounded
 returns-in-Some-end_of-clause-bounded g c =
-    let old = g.W.Output.given c.args.out.now in
-    let new = g.W.Output.given c.take_turn.new.out in
-    grown_so c.args.limits.output c.in-Went.rest old new
-    (grown_on c.args.limits.output c.turns.room c.in-Went.rest old (g.W.Output.given c.turns.out) new c.turns.invariant.grown c.in-Went.ensures.grows)
+    grown_stop
+    c.args.limits.output c.turns.room c.in-Went.rest (g.W.Output.given c.args.out.now) (g.W.Output.given c.turns.out) (g.W.Output.given c.take_turn.new.out)
+    c.turns.invariant.grown c.in-Went.ensures.grows
 
 pub returns-in-Some-end_of-clause-ran : goal.returns-in-Some-end_of-clause-ran
 returns-in-Some-end_of-clause-ran g c known starts =
@@ -131,10 +130,9 @@ returns-in-Some-end_of-clause-ran g c known starts =
 
 pub returns-in_default-spend-clause-bounded : goal.returns-in_default-spend-clause-bounded
 returns-in_default-spend-clause-bounded g c =
-    let old = g.W.Output.given c.args.out.now in
-    let new = g.W.Output.given c.take_turn.new.out in
-    grown_so c.args.limits.output c.in-Went.rest old new
-    (grown_on c.args.limits.output c.turns.room c.in-Went.rest old (g.W.Output.given c.turns.out) new c.turns.invariant.grown c.in-Went.ensures.grows)
+    grown_stop
+    c.args.limits.output c.turns.room c.in-Went.rest (g.W.Output.given c.args.out.now) (g.W.Output.given c.turns.out) (g.W.Output.given c.take_turn.new.out)
+    c.turns.invariant.grown c.in-Went.ensures.grows
 
 pub returns-in_default-spend-clause-ran : goal.returns-in_default-spend-clause-ran
 returns-in_default-spend-clause-ran g c known starts =
@@ -143,23 +141,22 @@ returns-in_default-spend-clause-ran g c known starts =
     let next = state_of g.V.ValueSource.value_state g.T.ProgramSource.template_state known.values c.take_turn.new.machine in
     within_values h c.in-Went.flow c.in-Went.rest (stop_or_memory c.take_turn.new.stop) (g.W.Output.given c.take_turn.new.out) c.take_turn.new.machine
     c.add.new.self.made (lending_of c.add.new.self.lending) c.at_limit-in_default-spend.result next.asked (sym c.end_of.ensures ∙ c.in_default-end_of.is)
-    (λ set. counts_on h c.take_turn.new.machine _ c.coming-coming.result.put_in c.add.new.self.made (lending_of c.add.new.self.lending) c.coming-coming.ensures.instr (c.coming-coming.ensures.puts set) (c.in-Ok.ensures.lending set) (c.in-Ok.ensures.made set)) did
+    (λ set. counts_on h c.take_turn.new.machine _ c.in-Ok.coming.put_in c.add.new.self.made (lending_of c.add.new.self.lending) (c.in-Ok.ensures.instr set) (c.in-Ok.ensures.puts set) (c.in-Ok-add.ensures.lending set) (c.in-Ok-add.ensures.made set)) did
     c.in_default-spend.ensures c.at_limit-in_default-spend.ensures
 
 pub returns-in_default-add-clause-bounded : goal.returns-in_default-add-clause-bounded
 returns-in_default-add-clause-bounded g c =
-    let old = g.W.Output.given c.args.out.now in
-    let new = g.W.Output.given c.take_turn.new.out in
-    grown_so c.args.limits.output c.in-Went.rest old new
-    (grown_on c.args.limits.output c.turns.room c.in-Went.rest old (g.W.Output.given c.turns.out) new c.turns.invariant.grown c.in-Went.ensures.grows)
+    grown_stop
+    c.args.limits.output c.turns.room c.in-Went.rest (g.W.Output.given c.args.out.now) (g.W.Output.given c.turns.out) (g.W.Output.given c.take_turn.new.out)
+    c.turns.invariant.grown c.in-Went.ensures.grows
 
 pub returns-in_default-add-clause-ran : goal.returns-in_default-add-clause-ran
 returns-in_default-add-clause-ran g c known starts =
     let h = c.turns.invariant.going known starts in
     let did = c.in-Went.ensures.did known.values known.ask (within_asks h) in
     let next = state_of g.V.ValueSource.value_state g.T.ProgramSource.template_state known.values c.take_turn.new.machine in
-    within_memory h c.in-Went.flow c.in-Went.rest (stop_or_memory c.take_turn.new.stop) (g.W.Output.given c.take_turn.new.out) c.take_turn.new.machine c.into.result next.asked
-    (sym c.end_of.ensures ∙ c.in_default-end_of.is) did c.into.ensures
+    within_memory h c.in-Went.flow c.in-Went.rest (stop_or_memory c.take_turn.new.stop) (g.W.Output.given c.take_turn.new.out) c.take_turn.new.machine c.into-in_default-add.result next.asked
+    (sym c.end_of.ensures ∙ c.in_default-end_of.is) did c.into-in_default-add.ensures
 
 pub turns-preserved : goal.turns-preserved
 turns-preserved g c = record {
@@ -174,7 +171,7 @@ turns-preserved g c = record {
       let did = c.in-Went.ensures.did known.values known.ask (within_asks h) in
       within_on h c.in-Went.flow c.in-Some.fewer c.in-Went.rest c.add.new.self.made (lending_of c.add.new.self.lending) (stop_or_memory c.take_turn.new.stop) (g.W.Output.given c.take_turn.new.out) c.take_turn.new.machine
       (sym c.end_of.ensures ∙ c.in_default-end_of.is) c.in-Some.ensures
-      (λ set. counts_on h c.take_turn.new.machine _ c.coming-coming.result.put_in c.add.new.self.made (lending_of c.add.new.self.lending) c.coming-coming.ensures.instr (c.coming-coming.ensures.puts set) (c.in-Ok.ensures.lending set) (c.in-Ok.ensures.made set))
+      (λ set. counts_on h c.take_turn.new.machine _ c.in-Ok.coming.put_in c.add.new.self.made (lending_of c.add.new.self.lending) (c.in-Ok.ensures.instr set) (c.in-Ok.ensures.puts set) (c.in-Ok-add.ensures.lending set) (c.in-Ok-add.ensures.made set))
       (leaves_most c.args.limits.values c.in-Some-spend.field-0 c.add.new.self.made c.in-Some-spend.ensures) did c.in-Went.ensures.kept;
   enough =
       let before = c.turns.invariant.enough in
@@ -194,3 +191,12 @@ turns-smaller g c = omega (arith, c.less-left.ensures)
 -- the search finds no proof of this, and takes long
 pub at_limit-requires-in_default-spend : goal.at_limit-requires-in_default-spend
 at_limit-requires-in_default-spend = grind (arith, common_steps)
+
+pub returns-in_default-coming-clause-bounded : goal.returns-in_default-coming-clause-bounded
+returns-in_default-coming-clause-bounded g c = grown_so c.args.limits.output c.turns.room (g.W.Output.given c.args.out.now) (g.W.Output.given c.turns.out) c.turns.invariant.grown
+
+pub returns-in_default-coming-clause-ran : goal.returns-in_default-coming-clause-ran
+returns-in_default-coming-clause-ran g c known starts =
+    let h = c.turns.invariant.going known starts in
+    let here = state_of g.V.ValueSource.value_state g.T.ProgramSource.template_state known.values c.turns.machine in
+    within_unweighed h c.into.result here.asked c.into.ensures

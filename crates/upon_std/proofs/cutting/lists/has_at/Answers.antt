@@ -8,4 +8,4 @@ use Rattle.upon_std.proofs.cutting.lists.has_at.Goals as goal
 
 pub returns-in-None : goal.returns-in-None
 returns-in-None c =
-    c.eq-in-None.ensures ∙ ap (λ v. val_eq v (view c.args.wanted.now)) (view-None ∙ ap (λ o. unwrap_or o none_val) c.in-None.ensures)
+    c.eq.ensures ∙ ap (λ v. val_eq v (view c.args.wanted.now)) (view-None ∙ ap (λ o. unwrap_or o none_val) c.in-None.ensures)
