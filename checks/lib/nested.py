@@ -2,9 +2,9 @@
 
 `nested.py KINDS` prints the names of the texts of some kinds (`blocks`, `tags` or `wraps`), a line each. `nested.py NAME
 COUNT [MIDDLE]` prints the text of a name, with so many begins and ends, and with MIDDLE between them if it is given.
-`nested.py value LITERAL COUNT TEXT` prints TEXT about a value `v` that is so deep, of `lists`, `maps` or `both` in turn: in TEXT
-`@LITERAL@` is the literal again, without spaces, and `@PATH@` the path that leads to its innermost value, `x`. `nested.py around
-LITERAL COUNT TEXT` prints TEXT, in which `@AROUND@` is a literal that is so deep around `v`.
+`nested.py about LITERAL COUNT TEXT` prints TEXT, in which words have literals of `lists`, `maps` or `both` in turn in their
+place, that are so deep: `@LITERAL@` one around "x", without spaces; `@VALUE@` and `@AROUND@` one around "x" and one around `v`,
+as in a tag; and `@PATH@` the path that leads from `v` to the innermost value of such a one.
 """
 import sys
 
@@ -55,27 +55,20 @@ def text(name, count, middle=None):
     return before + begin * count + (between if middle is None else middle) + end * count + after
 
 
-def about_value(literal, count, text):
-    """A template of a text about a value that is so deep. No end of a literal is the end of a tag."""
+def about(literal, count, text):
+    """A text in which words are literals that are so deep, or the path in one. No end of a literal is the end of a tag."""
     begin, end, step, levels = LITERALS[literal]
     times = count // levels
-    written = begin * times + '"x"' + (end + " ") * times
-    text = text.replace("@PATH@", "v" + step * times).replace("@LITERAL@", begin * times + '"x"' + end * times)
-    return "{% with " + written + "as v %}" + text + "{% endwith %}"
-
-
-def around_value(literal, count, text):
-    """A text in which a literal is so deep around a value."""
-    begin, end, _, levels = LITERALS[literal]
-    times = count // levels
-    return text.replace("@AROUND@", begin * times + "v" + (end + " ") * times)
+    begins, ends, spaced = begin * times, end * times, (end + " ") * times
+    words = {"LITERAL": begins + '"x"' + ends, "VALUE": begins + '"x"' + spaced, "AROUND": begins + "v" + spaced, "PATH": "v" + step * times}
+    for word, written in words.items():
+        text = text.replace(f"@{word}@", written)
+    return text
 
 
 if __name__ == "__main__":
-    if sys.argv[1] == "around":
-        sys.stdout.write(around_value(sys.argv[2], int(sys.argv[3]), sys.argv[4]))
-    elif sys.argv[1] == "value":
-        sys.stdout.write(about_value(sys.argv[2], int(sys.argv[3]), sys.argv[4]))
+    if sys.argv[1] == "about":
+        sys.stdout.write(about(sys.argv[2], int(sys.argv[3]), sys.argv[4]))
     elif len(sys.argv) == 2:
         print("\n".join(KINDS[sys.argv[1]]))
     else:

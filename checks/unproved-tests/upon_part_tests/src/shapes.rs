@@ -191,25 +191,10 @@ fn lists(alloc: Global) -> Result<Value, AllocError> {
     Ok(value)
 }
 
-// Takes lists in each other apart, from the outside inwards.
-fn take_apart(mut value: Value) {
-    for _ in 0..LISTS {
-        let Value::List(items) = &mut value else {
-            return;
-        };
-        let Some(inner) = items.pop() else {
-            return;
-        };
-        value = inner;
-    }
-}
-
 #[test]
 fn deep_lists(rt: HostRuntime) -> Result<(), Fail> {
     let alloc = rt.alloc();
-    let value = lists(alloc)?;
-    let shape = Shape::of(alloc, &value)?;
-    take_apart(value);
+    let shape = Shape::of(alloc, &lists(alloc)?)?;
     assert!(rt; shape.is_deeper_than(127));
     assert!(rt; !shape.is_deeper_than(128));
     Ok(())
