@@ -1,9 +1,12 @@
 -- How deep a value is, as the prover counts it, and whether it holds values.
-use Rattle.std.proofs.Common.{◌≡◌, ℕ, suc, ◌<◌, ◌≤◌, List, [], ◌∷◌, Bool, true, false, cond, String, Vec, BTreeMap, Global, refl, sym, ◌∙◌, subst, rules, arith, nat_lt, length, map, max, ℤ}
+use Rattle.std.proofs.Common.{◌≡◌, ◌⊎◌, inl, inr, ap, ◌++◌, ℕ, suc, ◌<◌, ◌≤◌, List, [], ◌∷◌, Bool, true, false, cond, String, Vec, BTreeMap, Global, refl, sym, ◌∙◌, subst, rules, arith, nat_lt, length, map, max, ℤ}
 use denote.Param.Weighed.{most}
 use Rattle.std.specs.BTreeMap.{values}
 use Rattle.std.specs.Map.{values_of}
-use Rattle.upon_types.specs.Weight.{holds, all_bare}
+use Rattle.upon_types.specs.Weight.{holds, all_bare, IsMap, HasHolder}
+use Rattle.upon_types.specs.Val.{Entries, map_val}
+use Rattle.upon_types.specs.View.{view}
+use Rattle.upon_types.proofs.Views.{view-Map}
 use Rattle.upon_types.proofs.Weights.{holds-None, holds-Bool, holds-Integer, holds-String, holds-List, holds-Map}
 use Rattle.upon_types.proofs.value.Value.TheLaws.{the_size}
 use Rattle.upon_types.specs.declared.value.Value.{Value, None as NoneValue, Bool as BoolValue, Integer as IntegerValue, String as StringValue, List as ListValue, Map as MapValue, the_lemmas}
@@ -88,3 +91,14 @@ next_holder v n false rest is some later = omega (arith, later some)
 pub some_holder_depth : (vs : List Value) → all_bare vs ≡ false → 1 < most the_size vs
 some_holder_depth [] some = absurd cc
 some_holder_depth (v ∷ vs) some = next_holder v (most the_size vs) (holds v) (all_bare vs) refl some (some_holder_depth vs)
+
+pub most_last : (vs : List Value) (v : Value) → the_size v ≤ most the_size (vs ++ v ∷ [])
+most_last [] v = omega arith
+most_last (w ∷ vs) v = omega (arith, most_last vs v)
+
+-- a list with an item that holds a value is three levels deep at least
+pub left_depth : (v left : Value) → IsMap left ⊎ HasHolder v → ((es : Entries) → view left ≡ map_val es → ⊥) → 2 < the_size v
+left_depth v left (inl map) other = absurd (other _ (ap view map.1 ∙ view-Map map.0))
+left_depth v left (inr list) other =
+    let deep : 1 < most the_size list.0.items = some_holder_depth list.0.items list.2 in
+    omega (arith, deep, depth-List list.0, ap the_size list.1)

@@ -1,5 +1,5 @@
 -- The weight of a value, one level at a time, and what a step of taking apart does to it.
-use Rattle.std.proofs.Common.{◌≡◌, ℕ, zero, suc, ◌+◌, ◌*◌, ◌<◌, ◌≤◌, List, [], ◌∷◌, ◌++◌, Bool, String, Vec, BTreeMap, Global, refl, sym, ap, ◌∙◌, rules, arith, nat_lt, string_cmp, Option, Some, cond, true, false, get_or, length, ℤ}
+use Rattle.std.proofs.Common.{◌≡◌, ℕ, zero, suc, ◌+◌, ◌*◌, ◌<◌, ◌≤◌, List, [], ◌∷◌, ◌++◌, Bool, String, Vec, BTreeMap, Global, refl, sym, ap, ◌∙◌, rules, arith, nat_lt, string_cmp, Option, Some, cond, true, false, not, ◌&&◌, ◌-◌, get_or, slice_get, length, ℤ}
 use Rattle.std.proofs.lemmas.Nat.{mul-le}
 use Rattle.std.proofs.Math.ListN.{set}
 use Rattle.std.proofs.lemmas.Map.Entries.{sum_by-insert_entry}
@@ -89,6 +89,30 @@ pub all_bare-holder : (vs : List Value) (i : ℕ) (d : Value) → i < length vs 
 all_bare-holder [] i d h is = absurd (omega arith)
 all_bare-holder (v ∷ vs) zero d h is = rw is refl
 all_bare-holder (v ∷ vs) (suc i) d h is = bare_or (holds v) (all_bare vs) (all_bare-holder vs i d (omega arith) is)
+
+one_bare : (a : Bool) → cond a false true ≡ not a && not a
+one_bare true = refl
+one_bare false = refl
+
+both_bare : (a b : Bool) → cond a false (cond b false true) ≡ not a && not b
+both_bare true b = refl
+both_bare false true = refl
+both_bare false false = refl
+
+-- of at most two entries, the first and the last
+pub all_bare-ends : (es : List (String Global × Value)) (k l : String Global) (v w : Value) → length es ≤ 2 → slice_get es 0 ≡ Some (k, v) → slice_get es (length es - 1) ≡ Some (l, w) → not (holds v) && not (holds w) ≡ all_bare (values_of es)
+all_bare-ends [] k l v w few first last = absurd cc
+all_bare-ends (e ∷ []) k l v w few first last =
+    let is : v ≡ e.1 = cc in
+    let both : (l, w) ≡ e = cc in
+    let same : w ≡ e.1 = ap (λ p. p.1) both in
+    ap (λ x. not (holds x) && not (holds w)) is ∙ ap (λ x. not (holds e.1) && not (holds x)) same ∙ sym (one_bare (holds e.1))
+all_bare-ends (e ∷ f ∷ []) k l v w few first last =
+    let is : v ≡ e.1 = cc in
+    let both : (l, w) ≡ f = cc in
+    let same : w ≡ f.1 = ap (λ p. p.1) both in
+    ap (λ x. not (holds x) && not (holds w)) is ∙ ap (λ x. not (holds e.1) && not (holds x)) same ∙ sym (both_bare (holds e.1) (holds f.1))
+all_bare-ends (e ∷ f ∷ g ∷ es) k l v w few first last = absurd (omega (arith, few))
 
 -- ---- the measure: first the weight of both, then that of the one in hand
 unfoldable pub measure : ℕ → ℕ → ℕ

@@ -1,7 +1,8 @@
 -- How many values a value is, with those in it.
-use Rattle.std.specs.Prelude.{ℕ, Bool, true, false, cond, nat_lt, length, List, [], ◌∷◌, ◌+◌, map, String}
+use Rattle.std.specs.Prelude.{ℕ, Bool, true, false, cond, nat_lt, length, List, [], ◌∷◌, ◌+◌, ◌≡◌, map, String, Vec}
+use Rattle.std.specs.BTreeMap.{BTreeMap}
 use Rattle.std.specs.declared.alloc.Global.{Global}
-use Rattle.upon_types.specs.declared.value.Value.{Value, fold-Value}
+use Rattle.upon_types.specs.declared.value.Value.{Value, List as ListValue, Map as MapValue, fold-Value}
 use Rattle.upon_types.specs.declared.value.Value.TheOpen.{Value-F}
 
 -- the sum of these
@@ -52,3 +53,15 @@ holds = fold-Value Bool holds_level
 abbrev pub all_bare : List Value → Bool
 all_bare [] = true
 all_bare (v ∷ vs) = cond (holds v) false (all_bare vs)
+
+-- a map
+abbrev pub IsMap : Value → Type 0
+IsMap v = (entries : BTreeMap (String Global) Value) × (v ≡ MapValue entries)
+
+-- a list of which an item holds a value
+abbrev pub HasHolder : Value → Type 0
+HasHolder v = (items : Vec Value Global) × (v ≡ ListValue items) × (all_bare items.items ≡ false)
+
+-- a map that is left is all of the value
+abbrev pub IsWholeMap : Value → Value → Type 0
+IsWholeMap left v = (entries : BTreeMap (String Global) Value) → left ≡ MapValue entries → v ≡ left

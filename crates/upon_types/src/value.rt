@@ -1,10 +1,10 @@
 // The values that templates read and make.
-ghost use Rattle.std.specs.Prelude.{◌≡◌, ℕ, List, ◌+◌, ◌<◌, ◌≤◌, false, true, IfOk, IfErr, IfSome, vec_len};
-ghost use Rattle.std.specs.BTreeMap.{IsEmpty, values};
+ghost use Rattle.std.specs.Prelude.{◌≡◌, ◌⊎◌, ℕ, List, ◌+◌, ◌<◌, ◌≤◌, false, true, IfOk, IfErr, IfSome, vec_len};
+ghost use Rattle.std.specs.BTreeMap.{IsEmpty, btree_map_len, values};
 ghost use Rattle.upon_types.specs.Val.{Vals, Entries, none_val, text_val, list_val, map_val, kind_word};
 ghost use Rattle.upon_types.specs.ValueKind.{kind_name};
 ghost use Rattle.upon_types.specs.View.{view};
-ghost use Rattle.upon_types.specs.Weight.{bulk, items_bulk, entries_bulk, holds, all_bare};
+ghost use Rattle.upon_types.specs.Weight.{bulk, items_bulk, entries_bulk, holds, all_bare, HasHolder, IsMap, IsWholeMap};
 
 mod clone;
 pub mod comparing;
@@ -123,21 +123,14 @@ impl AsRef<Value> for Value {
 }
 
 impl Drop for Value {
+    // It is written into each place that drops a value: most hold none.
     #[cycle(drop)]
+    #[inline(always)]
     fn drop(self) {
         match self {
             Value::None | Value::Bool(_) | Value::Integer(_) => {}
             Value::String(text) => drop(text),
-            Value::List(mut items) => {
-                while let Some(item) = items.pop() {
-                    if item.holds_values() {
-                        item.drop_item();
-                    } else {
-                        item.drop_bare();
-                    }
-                }
-                items.destroy_empty();
-            }
+            Value::List(items) => drop_items(items),
             Value::Map(entries) => {
                 if are_shallow(&entries, LEVELS, true) {
                     drop(entries);
@@ -147,6 +140,28 @@ impl Drop for Value {
             }
         }
     }
+}
+
+// Drops the items of a list, from the end. Of what is in them it calls `drop` only on the values of maps of few levels.
+#[cycle(drop)]
+#[inline(never)]
+fn drop_items(mut items: Vec<Value>) {
+    while let Some(item) = items.pop() {
+        let Some(left) = item.shed() else {
+            continue;
+        };
+        match left.into_entries() {
+            Ok(entries) => {
+                if are_shallow(&entries, LEVELS, false) {
+                    drop(entries);
+                } else {
+                    Value::Map(entries).take_apart();
+                }
+            }
+            Err(list) => list.take_apart(),
+        }
+    }
+    items.destroy_empty();
 }
 
 impl Value {
@@ -175,28 +190,27 @@ impl Value {
         }
     }
 
-    // Drops an item of a list. Of lists it calls `drop` only on such whose items hold no values.
-    #[cycle(drop)]
-    #[inline(never)]
-    fn drop_item(self) {
+    // Drops it if it holds no values, or is a list of such as hold none. Of another list those at its end are dropped.
+    #[inline(always)]
+    fn shed(self) -> Option<Value>
+        ensures left { IfSome result (λ left. IsMap left ⊎ HasHolder self) }
+        ensures whole { IfSome result (λ left. IsWholeMap left self) }
+    {
         match self {
-            Value::None | Value::Bool(_) | Value::Integer(_) => {}
-            Value::String(text) => drop(text),
+            Value::None | Value::Bool(_) | Value::Integer(_) => None,
+            Value::String(text) => {
+                drop(text);
+                None
+            }
             Value::List(mut items) => {
                 shed_items(&mut items);
                 if items.is_empty() {
                     items.destroy_empty();
-                } else {
-                    Value::List(items).take_apart();
+                    return None;
                 }
+                Some(Value::List(items))
             }
-            Value::Map(entries) => {
-                if are_shallow(&entries, LEVELS, false) {
-                    drop(entries);
-                } else {
-                    Value::Map(entries).take_apart();
-                }
-            }
+            Value::Map(entries) => Some(Value::Map(entries)),
         }
     }
 
@@ -338,10 +352,23 @@ fn shed_entries(entries: &mut BTreeMap<String, Value>)
 fn are_bare(entries: &BTreeMap<String, Value>) -> bool
     ensures { result ≡ all_bare (values entries.now) }
 {
-    if entries.len() < 16 {
-        return few_are_bare(entries);
+    match entries.len() {
+        0..=2 => ends_are_bare(entries),
+        3..=15 => few_are_bare(entries),
+        _ => many_are_bare(entries),
     }
-    many_are_bare(entries)
+}
+
+// Whether none of the values in the map holds a value, if these are at most its first and its last: that is fastest.
+#[inline(never)]
+fn ends_are_bare(entries: &BTreeMap<String, Value>) -> bool
+    requires { btree_map_len entries.now ≤ 2 }
+    ensures { result ≡ all_bare (values entries.now) }
+{
+    match (entries.first_key_value(), entries.last_key_value()) {
+        (Some((_, first)), Some((_, last))) => !first.holds_values() & !last.holds_values(),
+        _ => true,
+    }
 }
 
 // Whether none of the values in the map holds a value. It looks from the start, which is faster.
@@ -374,8 +401,20 @@ fn many_are_bare(entries: &BTreeMap<String, Value>) -> bool
 // Whether at most so many levels of maps are in each other in the map, and no list is in them but such whose items hold
 // no values, or any list where `lists` says so.
 #[cycle(shallow)]
-#[inline(never)]
+#[inline(always)]
 fn are_shallow(entries: &BTreeMap<String, Value>, levels: usize, lists: bool) -> bool
+    ensures { result ≡ false → all_bare (values entries.now) ≡ false }
+{
+    if entries.len() <= 2 && ends_are_bare(entries) {
+        return true;
+    }
+    are_all_shallow(entries, levels, lists)
+}
+
+// Whether each value of the map is such as `are_shallow` wants.
+#[cycle(shallow)]
+#[inline(never)]
+fn are_all_shallow(entries: &BTreeMap<String, Value>, levels: usize, lists: bool) -> bool
     ensures { result ≡ false → all_bare (values entries.now) ≡ false }
 {
     for value in entries.values() {
@@ -388,7 +427,7 @@ fn are_shallow(entries: &BTreeMap<String, Value>, levels: usize, lists: bool) ->
 
 // Whether a value of a map is such as `are_shallow` wants.
 #[cycle(shallow)]
-#[inline(never)]
+#[inline(always)]
 fn is_shallow(value: &Value, levels: usize, lists: bool) -> bool {
     match value {
         Value::List(items) => lists || are_items_bare(items),
