@@ -1,5 +1,5 @@
 // What is shown: a value through a formatter, into an output.
-ghost use Rattle.std.specs.Prelude.{◌≡◌, ◌∷◌, [], false, length};
+ghost use Rattle.std.specs.Prelude.{◌≡◌, ◌∷◌, [], false, length, IfSome};
 ghost use Rattle.std.specs.Fmt.{signed_decimal};
 ghost use Rattle.upon_types.specs.Answers.{Formatted};
 ghost use Rattle.upon_types.specs.AstPath.{ident_of};
@@ -9,7 +9,7 @@ ghost use Rattle.upon_lookup.specs.Finding.{Finding};
 ghost use Rattle.upon_lookup.specs.Seen.{made_view};
 ghost use Rattle.upon_meaning_spec.specs.Emission.{callable_outcome, format_outcome, nothing_but, or_fault};
 ghost use Rattle.upon_meaning_spec.specs.Evaluation.{operand};
-ghost use Rattle.upon_meaning_spec.specs.DefaultFormat.{bool_text, format_text};
+ghost use Rattle.upon_meaning_spec.specs.DefaultFormat.{bool_text, default_format, format_text};
 ghost use Rattle.upon_meaning_spec.specs.CallFaults.{unknown_callable};
 ghost use Rattle.upon_fmt.specs.Formatter.{text_of, is_marked, Formats, HasEnd};
 ghost use Rattle.upon_vm_steps.specs.Halt.{Emits, GivesFinding, Marks};
@@ -29,12 +29,13 @@ use upon_types::types::Span;
 use upon_types::types::ast::Ident;
 use upon_types::value::{Value, ValueCow};
 
-/// Shows a value by the default formatter, whose fault lies at the span.
+/// Shows a value by the default formatter, whose fault lies at the span. If that is not the plain one, it writes into
+/// `f`, whose text and mark are taken away first.
 pub fn emit_value<C: Callables, W: Output>(
-    alloc: Global,
     callables: &C,
     value: &Value,
     span: Span,
+    f: &mut Formatter,
     out: &mut W,
 ) -> Result<(), Halt>
     ensures same { W.holds out.new ≡ W.holds out.old }
@@ -46,24 +47,21 @@ pub fn emit_value<C: Callables, W: Output>(
         (format_outcome (C.default_formatter callables.now (view value.now)) span) }
 {
     if callables.is_plain() {
-        match value {
-            Value::String(text) => return give_text(text.as_str(), out),
-            Value::Integer(number) => return give_number(*number, out),
-            Value::Bool(truth) => return give_text(word_of(*truth), out),
-            _ => {}
+        match plain_part(value) {
+            Some(part) => return give_part(part, out),
+            None => {}
         }
     }
-    let mut f = Formatter::new(alloc);
-    let end = callables.default_format(&mut f, value);
-    give(&f, end, span, out)
+    emit_formatted(callables, value, span, f, out)
 }
 
-/// Does the same of what a loop says of itself. A text is copied for a formatter alone.
+/// Does the same of what a loop says of itself. A value is made of it for a formatter alone.
 pub fn emit_made<C: Callables, W: Output>(
     alloc: Global,
     callables: &C,
     made: Made<'_>,
     span: Span,
+    f: &mut Formatter,
     out: &mut W,
 ) -> Result<(), Halt>
     ensures same { W.holds out.new ≡ W.holds out.old }
@@ -74,12 +72,12 @@ pub fn emit_made<C: Callables, W: Output>(
         (W.given out.new)
         (format_outcome (C.default_formatter callables.now (made_view made.entry)) span) }
 {
-    match made {
-        Made::Text(text) if callables.is_plain() => give_text(text, out),
-        made => match made.to_value(alloc) {
-            Ok(value) => emit_value(alloc, callables, &value, span, out),
-            Err(_) => Err(Halt::Memory),
-        },
+    if callables.is_plain() {
+        return give_part(made, out);
+    }
+    match made.to_value(alloc) {
+        Ok(value) => emit_formatted(callables, &value, span, f, out),
+        Err(_) => Err(Halt::Memory),
     }
 }
 
@@ -110,7 +108,7 @@ pub fn emit_with<C: Callables, W: Output>(
         Applied::Formatted(end) => give(&*f, end, name.span, out),
         Applied::Called(answer) => {
             let found = report(alloc, answer, name, values, spans, name.span);
-            emit_found(alloc, callables, found, whole, out)
+            emit_found(callables, found, whole, f, out)
         }
         Applied::Miscounted => Err(fault::formatter_expects(alloc, values.len(), name.span)),
         Applied::Unknown => emit_unknown(alloc, name, out),
@@ -156,10 +154,10 @@ fn emit_unknown<W: Output>(alloc: Global, name: &Ident, out: &W) -> Result<(), H
 // A function's value goes through the default formatter, whose fault lies at the whole.
 #[inline(always)]
 fn emit_found<C: Callables, W: Output>(
-    alloc: Global,
     callables: &C,
     found: Result<Value, Halt>,
     whole: Span,
+    f: &mut Formatter,
     out: &mut W,
 ) -> Result<(), Halt>
     ensures same { W.holds out.new ≡ W.holds out.old }
@@ -171,8 +169,60 @@ fn emit_found<C: Callables, W: Output>(
         (or_fault x (λ v. format_outcome (C.default_formatter callables.now v) whole)) }
 {
     match found {
-        Ok(value) => emit_value(alloc, callables, &value, whole, out),
+        Ok(value) => emit_value(callables, &value, whole, f, out),
         Err(halt) => Err(halt),
+    }
+}
+
+// Shows a value by the default formatter, whichever that is, in a buffer whose text and mark are taken away first.
+fn emit_formatted<C: Callables, W: Output>(
+    callables: &C,
+    value: &Value,
+    span: Span,
+    f: &mut Formatter,
+    out: &mut W,
+) -> Result<(), Halt>
+    ensures same { W.holds out.new ≡ W.holds out.old }
+    ensures mark { Marks result (W.mark out.old) (W.mark out.new) }
+    ensures emitted { Emits
+        result
+        (W.given out.old)
+        (W.given out.new)
+        (format_outcome (C.default_formatter callables.now (view value.now)) span) }
+{
+    f.clear();
+    let end = callables.default_format(&mut *f, value);
+    give(&*f, end, span, out)
+}
+
+// The text, the integer or the truth value that a value is.
+#[inline(always)]
+fn plain_part(value: &Value) -> Option<Made<'_>>
+    ensures { IfSome result (λ part. view value.now ≡ made_view part) }
+{
+    match value {
+        Value::String(text) => Some(Made::Text(text.as_str())),
+        Value::Integer(number) => Some(Made::Integer(*number)),
+        Value::Bool(truth) => Some(Made::Bool(*truth)),
+        _ => None,
+    }
+}
+
+// What the plain formatter writes of it goes out, without a buffer.
+#[inline(always)]
+fn give_part<W: Output>(part: Made<'_>, out: &mut W) -> Result<(), Halt>
+    ensures same { W.holds out.new ≡ W.holds out.old }
+    ensures mark { Marks result (W.mark out.old) (W.mark out.new) }
+    ensures emitted { (span : Span) → Emits
+        result
+        (W.given out.old)
+        (W.given out.new)
+        (format_outcome (default_format (made_view part.entry)) span) }
+{
+    match part {
+        Made::Text(text) => give_text(text, out),
+        Made::Integer(number) => give_number(number, out),
+        Made::Bool(truth) => give_text(word_of(truth), out),
     }
 }
 
