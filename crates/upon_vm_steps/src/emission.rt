@@ -9,9 +9,10 @@ ghost use Rattle.upon_lookup.specs.Finding.{Finding};
 ghost use Rattle.upon_lookup.specs.Seen.{made_view};
 ghost use Rattle.upon_meaning_spec.specs.Emission.{callable_outcome, format_outcome, nothing_but, or_fault};
 ghost use Rattle.upon_meaning_spec.specs.Evaluation.{operand};
-ghost use Rattle.upon_meaning_spec.specs.DefaultFormat.{bool_text, default_format, format_text};
+ghost use Rattle.upon_meaning_spec.specs.DefaultFormat.{bool_text, default_format};
 ghost use Rattle.upon_meaning_spec.specs.CallFaults.{unknown_callable};
 ghost use Rattle.upon_fmt.specs.Formatter.{text_of, is_marked, Formats, HasEnd};
+ghost use Rattle.upon_fmt.specs.Given.{Gave};
 ghost use Rattle.upon_vm_steps.specs.Halt.{Emits, GivesFinding, Marks};
 ghost use Rattle.upon_vm_steps.specs.Operands.{row};
 
@@ -29,8 +30,8 @@ use upon_types::types::Span;
 use upon_types::types::ast::Ident;
 use upon_types::value::{Value, ValueCow};
 
-/// Shows a value by the default formatter, whose fault lies at the span. If that is not the plain one, it writes into
-/// `f`, whose text and mark are taken away first.
+/// Shows a value by the default formatter, whose fault lies at the span. It writes into `f`, whose text and mark are
+/// taken away first; but what the plain one writes of a text, an integer or a truth value goes out without `f`.
 pub fn emit_value<C: Callables, W: Output>(
     callables: &C,
     value: &Value,
@@ -47,15 +48,17 @@ pub fn emit_value<C: Callables, W: Output>(
         (format_outcome (C.default_formatter callables.now (view value.now)) span) }
 {
     if callables.is_plain() {
-        match plain_part(value) {
-            Some(part) => return give_part(part, out),
-            None => {}
+        if let Some(part) = plain_part(value) {
+            return match give_part(part, out) {
+                Ok(()) => Ok(()),
+                Err(_) => Err(Halt::Output),
+            };
         }
     }
     emit_formatted(callables, value, span, f, out)
 }
 
-/// Does the same of what a loop says of itself. A value is made of it for a formatter alone.
+/// Does the same of what a loop says of itself. A value is made of it only if the default formatter is not the plain one.
 pub fn emit_made<C: Callables, W: Output>(
     alloc: Global,
     callables: &C,
@@ -73,7 +76,10 @@ pub fn emit_made<C: Callables, W: Output>(
         (format_outcome (C.default_formatter callables.now (made_view made.entry)) span) }
 {
     if callables.is_plain() {
-        return give_part(made, out);
+        return match give_part(made, out) {
+            Ok(()) => Ok(()),
+            Err(_) => Err(Halt::Output),
+        };
     }
     match made.to_value(alloc) {
         Ok(value) => emit_formatted(callables, &value, span, f, out),
@@ -174,7 +180,7 @@ fn emit_found<C: Callables, W: Output>(
     }
 }
 
-// Shows a value by the default formatter, whichever that is, in a buffer whose text and mark are taken away first.
+// Shows any value by the default formatter, which writes into `f`, whose text and mark are taken away first.
 fn emit_formatted<C: Callables, W: Output>(
     callables: &C,
     value: &Value,
@@ -208,38 +214,23 @@ fn plain_part(value: &Value) -> Option<Made<'_>>
     }
 }
 
-// What the plain formatter writes of it goes out, without a buffer.
+// What the plain formatter writes of it goes out, without a buffer. The output's own answer is returned: it is smaller
+// than one with a halt, which each call on the way would copy.
 #[inline(always)]
-fn give_part<W: Output>(part: Made<'_>, out: &mut W) -> Result<(), Halt>
+fn give_part<W: Output>(part: Made<'_>, out: &mut W) -> std::fmt::Result
     ensures same { W.holds out.new ≡ W.holds out.old }
-    ensures mark { Marks result (W.mark out.old) (W.mark out.new) }
-    ensures emitted { (span : Span) → Emits
-        result
+    ensures gave { Gave
         (W.given out.old)
         (W.given out.new)
-        (format_outcome (default_format (made_view part.entry)) span) }
+        (W.mark out.old)
+        (W.mark out.new)
+        result
+        (default_format (made_view part.entry)).text }
 {
     match part {
-        Made::Text(text) => give_text(text, out),
+        Made::Text(text) => out.give(text),
         Made::Integer(number) => give_number(number, out),
-        Made::Bool(truth) => give_text(word_of(truth), out),
-    }
-}
-
-// A text goes out as it is.
-#[inline(always)]
-fn give_text<W: Output>(text: &str, out: &mut W) -> Result<(), Halt>
-    ensures same { W.holds out.new ≡ W.holds out.old }
-    ensures mark { Marks result (W.mark out.old) (W.mark out.new) }
-    ensures emitted { (span : Span) → Emits
-        result
-        (W.given out.old)
-        (W.given out.new)
-        (format_outcome (format_text text.now) span) }
-{
-    match out.give(text) {
-        Ok(()) => Ok(()),
-        Err(_) => Err(Halt::Output),
+        Made::Bool(truth) => out.give(word_of(truth)),
     }
 }
 
@@ -251,17 +242,19 @@ fn word_of(truth: bool) -> &'static str
 }
 
 // An integer goes out in decimal.
-fn give_number<W: Output>(number: i64, out: &mut W) -> Result<(), Halt>
+#[inline(always)]
+fn give_number<W: Output>(number: i64, out: &mut W) -> std::fmt::Result
     ensures same { W.holds out.new ≡ W.holds out.old }
-    ensures mark { Marks result (W.mark out.old) (W.mark out.new) }
-    ensures emitted { (span : Span) → Emits
-        result
+    ensures gave { Gave
         (W.given out.old)
         (W.given out.new)
-        (format_outcome (format_text (signed_decimal number)) span) }
+        (W.mark out.old)
+        (W.mark out.new)
+        result
+        (signed_decimal number) }
 {
     let mut digits = Buffer::new();
-    give_text(digits.format(number), out)
+    out.give(digits.format(number))
 }
 
 // What was written goes out, also before the formatter's fault; where memory was refused, nothing does.
