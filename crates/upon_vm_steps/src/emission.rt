@@ -58,7 +58,7 @@ pub fn emit_value<C: Callables, W: Output>(
     emit_formatted(callables, value, span, f, out)
 }
 
-/// Does the same of what a loop says of itself. A value is made of it only if the default formatter is not the plain one.
+/// Does the same of what a loop says of itself. It becomes a value only if the default formatter is not the plain one.
 pub fn emit_made<C: Callables, W: Output>(
     alloc: Global,
     callables: &C,
