@@ -14,5 +14,4 @@ pub mod Unnamed
 pub mod Rows
 pub mod Entries
 pub mod Reports
-pub mod Plain
 pub mod Applications

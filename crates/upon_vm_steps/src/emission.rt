@@ -1,5 +1,5 @@
 // What is shown: a value through a formatter, into an output.
-ghost use Rattle.std.specs.Prelude.{◌≡◌, ◌∷◌, [], false, length};
+ghost use Rattle.std.specs.Prelude.{◌≡◌, ◌∷◌, [], false, length, IfSome};
 ghost use Rattle.std.specs.Fmt.{signed_decimal};
 ghost use Rattle.upon_types.specs.Answers.{Formatted};
 ghost use Rattle.upon_types.specs.AstPath.{ident_of};
@@ -9,9 +9,10 @@ ghost use Rattle.upon_lookup.specs.Finding.{Finding};
 ghost use Rattle.upon_lookup.specs.Seen.{made_view};
 ghost use Rattle.upon_meaning_spec.specs.Emission.{callable_outcome, format_outcome, nothing_but, or_fault};
 ghost use Rattle.upon_meaning_spec.specs.Evaluation.{operand};
-ghost use Rattle.upon_meaning_spec.specs.DefaultFormat.{bool_text, format_text};
+ghost use Rattle.upon_meaning_spec.specs.DefaultFormat.{bool_text, default_format};
 ghost use Rattle.upon_meaning_spec.specs.CallFaults.{unknown_callable};
 ghost use Rattle.upon_fmt.specs.Formatter.{text_of, is_marked, Formats, HasEnd};
+ghost use Rattle.upon_fmt.specs.Given.{Gave};
 ghost use Rattle.upon_vm_steps.specs.Halt.{Emits, GivesFinding, Marks};
 ghost use Rattle.upon_vm_steps.specs.Operands.{row};
 
@@ -29,12 +30,13 @@ use upon_types::types::Span;
 use upon_types::types::ast::Ident;
 use upon_types::value::{Value, ValueCow};
 
-/// Shows a value by the default formatter, whose fault lies at the span.
+/// Shows a value by the default formatter, whose fault lies at the span. It writes into `f`, whose text and mark are
+/// taken away first; but what the plain one writes of a text, an integer or a truth value goes out without `f`.
 pub fn emit_value<C: Callables, W: Output>(
-    alloc: Global,
     callables: &C,
     value: &Value,
     span: Span,
+    f: &mut Formatter,
     out: &mut W,
 ) -> Result<(), Halt>
     ensures same { W.holds out.new ≡ W.holds out.old }
@@ -46,24 +48,23 @@ pub fn emit_value<C: Callables, W: Output>(
         (format_outcome (C.default_formatter callables.now (view value.now)) span) }
 {
     if callables.is_plain() {
-        match value {
-            Value::String(text) => return give_text(text.as_str(), out),
-            Value::Integer(number) => return give_number(*number, out),
-            Value::Bool(truth) => return give_text(word_of(*truth), out),
-            _ => {}
+        if let Some(part) = plain_part(value) {
+            return match give_part(part, out) {
+                Ok(()) => Ok(()),
+                Err(_) => Err(Halt::Output),
+            };
         }
     }
-    let mut f = Formatter::new(alloc);
-    let end = callables.default_format(&mut f, value);
-    give(&f, end, span, out)
+    emit_formatted(callables, value, span, f, out)
 }
 
-/// Does the same of what a loop says of itself. A text is copied for a formatter alone.
+/// Does the same of what a loop says of itself. It becomes a value only if the default formatter is not the plain one.
 pub fn emit_made<C: Callables, W: Output>(
     alloc: Global,
     callables: &C,
     made: Made<'_>,
     span: Span,
+    f: &mut Formatter,
     out: &mut W,
 ) -> Result<(), Halt>
     ensures same { W.holds out.new ≡ W.holds out.old }
@@ -74,12 +75,15 @@ pub fn emit_made<C: Callables, W: Output>(
         (W.given out.new)
         (format_outcome (C.default_formatter callables.now (made_view made.entry)) span) }
 {
-    match made {
-        Made::Text(text) if callables.is_plain() => give_text(text, out),
-        made => match made.to_value(alloc) {
-            Ok(value) => emit_value(alloc, callables, &value, span, out),
-            Err(_) => Err(Halt::Memory),
-        },
+    if callables.is_plain() {
+        return match give_part(made, out) {
+            Ok(()) => Ok(()),
+            Err(_) => Err(Halt::Output),
+        };
+    }
+    match made.to_value(alloc) {
+        Ok(value) => emit_formatted(callables, &value, span, f, out),
+        Err(_) => Err(Halt::Memory),
     }
 }
 
@@ -110,7 +114,7 @@ pub fn emit_with<C: Callables, W: Output>(
         Applied::Formatted(end) => give(&*f, end, name.span, out),
         Applied::Called(answer) => {
             let found = report(alloc, answer, name, values, spans, name.span);
-            emit_found(alloc, callables, found, whole, out)
+            emit_found(callables, found, whole, f, out)
         }
         Applied::Miscounted => Err(fault::formatter_expects(alloc, values.len(), name.span)),
         Applied::Unknown => emit_unknown(alloc, name, out),
@@ -156,10 +160,10 @@ fn emit_unknown<W: Output>(alloc: Global, name: &Ident, out: &W) -> Result<(), H
 // A function's value goes through the default formatter, whose fault lies at the whole.
 #[inline(always)]
 fn emit_found<C: Callables, W: Output>(
-    alloc: Global,
     callables: &C,
     found: Result<Value, Halt>,
     whole: Span,
+    f: &mut Formatter,
     out: &mut W,
 ) -> Result<(), Halt>
     ensures same { W.holds out.new ≡ W.holds out.old }
@@ -171,25 +175,62 @@ fn emit_found<C: Callables, W: Output>(
         (or_fault x (λ v. format_outcome (C.default_formatter callables.now v) whole)) }
 {
     match found {
-        Ok(value) => emit_value(alloc, callables, &value, whole, out),
+        Ok(value) => emit_value(callables, &value, whole, f, out),
         Err(halt) => Err(halt),
     }
 }
 
-// A text goes out as it is.
-#[inline(always)]
-fn give_text<W: Output>(text: &str, out: &mut W) -> Result<(), Halt>
+// Shows any value by the default formatter, which writes into `f`, whose text and mark are taken away first.
+fn emit_formatted<C: Callables, W: Output>(
+    callables: &C,
+    value: &Value,
+    span: Span,
+    f: &mut Formatter,
+    out: &mut W,
+) -> Result<(), Halt>
     ensures same { W.holds out.new ≡ W.holds out.old }
     ensures mark { Marks result (W.mark out.old) (W.mark out.new) }
-    ensures emitted { (span : Span) → Emits
+    ensures emitted { Emits
         result
         (W.given out.old)
         (W.given out.new)
-        (format_outcome (format_text text.now) span) }
+        (format_outcome (C.default_formatter callables.now (view value.now)) span) }
 {
-    match out.give(text) {
-        Ok(()) => Ok(()),
-        Err(_) => Err(Halt::Output),
+    f.clear();
+    let end = callables.default_format(&mut *f, value);
+    give(&*f, end, span, out)
+}
+
+// The text, the integer or the truth value that a value is.
+#[inline(always)]
+fn plain_part(value: &Value) -> Option<Made<'_>>
+    ensures { IfSome result (λ part. view value.now ≡ made_view part) }
+{
+    match value {
+        Value::String(text) => Some(Made::Text(text.as_str())),
+        Value::Integer(number) => Some(Made::Integer(*number)),
+        Value::Bool(truth) => Some(Made::Bool(*truth)),
+        _ => None,
+    }
+}
+
+// What the plain formatter writes of it goes out, without a buffer. The output's own answer is returned: it is smaller
+// than one with a halt, which each call on the way would copy.
+#[inline(always)]
+fn give_part<W: Output>(part: Made<'_>, out: &mut W) -> std::fmt::Result
+    ensures same { W.holds out.new ≡ W.holds out.old }
+    ensures gave { Gave
+        (W.given out.old)
+        (W.given out.new)
+        (W.mark out.old)
+        (W.mark out.new)
+        result
+        (default_format (made_view part.entry)).text }
+{
+    match part {
+        Made::Text(text) => out.give(text),
+        Made::Integer(number) => give_number(number, out),
+        Made::Bool(truth) => out.give(word_of(truth)),
     }
 }
 
@@ -201,17 +242,19 @@ fn word_of(truth: bool) -> &'static str
 }
 
 // An integer goes out in decimal.
-fn give_number<W: Output>(number: i64, out: &mut W) -> Result<(), Halt>
+#[inline(always)]
+fn give_number<W: Output>(number: i64, out: &mut W) -> std::fmt::Result
     ensures same { W.holds out.new ≡ W.holds out.old }
-    ensures mark { Marks result (W.mark out.old) (W.mark out.new) }
-    ensures emitted { (span : Span) → Emits
-        result
+    ensures gave { Gave
         (W.given out.old)
         (W.given out.new)
-        (format_outcome (format_text (signed_decimal number)) span) }
+        (W.mark out.old)
+        (W.mark out.new)
+        result
+        (signed_decimal number) }
 {
     let mut digits = Buffer::new();
-    give_text(digits.format(number), out)
+    out.give(digits.format(number))
 }
 
 // What was written goes out, also before the formatter's fault; where memory was refused, nothing does.

@@ -164,34 +164,23 @@ fn calls_that_are_shown(rt: HostRuntime) -> Result<(), Fail> {
 #[test]
 fn values_that_are_shown(rt: HostRuntime) -> Result<(), Fail> {
     let alloc = rt.alloc();
-    let mut text = String::new(alloc);
-    assert!(rt;
-        emit_value(
-            alloc,
-            &Fixed::Nothing,
-            &Value::Bool(true),
-            ARGUMENT,
-            &mut text
-        )
-        .is_ok()
+    let truth = shown_alone(alloc, Fixed::Nothing, &Value::Bool(true))?;
+    is(&rt, truth.as_str(), "true");
+    let list = shown_alone(alloc, Fixed::Nothing, &Value::List(Vec::new(alloc)))?;
+    is(
+        &rt,
+        list.as_str(),
+        "5..6 expression evaluated to unformattable type list",
     );
-    is(&rt, text.as_str(), "true");
-    let list = Value::List(Vec::new(alloc));
-    match emit_value(alloc, &Fixed::Nothing, &list, ARGUMENT, &mut text) {
-        Ok(()) => is(&rt, "shown", "refused"),
-        Err(halt) => is(
-            &rt,
-            reported(alloc, halt)?.as_str(),
-            "5..6 expression evaluated to unformattable type list",
-        ),
-    }
     Ok(())
 }
 
-// What is shown of a value where no formatter is named.
+// What is shown of a value where no formatter is named, or what is reported. The buffer has another text before.
 fn shown_alone(alloc: Global, fixed: Fixed, value: &Value) -> Result<String, AllocError> {
+    let mut written = Formatter::new(alloc);
+    drop(written.write_str("before"));
     let mut text = String::new(alloc);
-    match emit_value(alloc, &fixed, value, ARGUMENT, &mut text) {
+    match emit_value(&fixed, value, ARGUMENT, &mut written, &mut text) {
         Ok(()) => Ok(text),
         Err(halt) => reported(alloc, halt),
     }
