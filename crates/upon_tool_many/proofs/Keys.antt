@@ -1,17 +1,13 @@
 -- What is at each key where entries are put beside others.
-use Rattle.std.proofs.Common.{◌≡◌, ℕ, List, [], Bool, true, false, cond, Option, Some, None, is_some, option_map, Result, Ok, Err, IfOk, String, Global, BTreeMap, string_bytes, string_cmp, nat_cmp, refl, sym, ap, subst, ◌∙◌}
+use Rattle.std.proofs.Common.{◌≡◌, ℕ, List, [], Bool, true, false, cond, Option, Some, None, option_map, Result, Ok, Err, IfOk, String, Global, BTreeMap, string_bytes, string_cmp, nat_cmp, refl, sym, ap, subst, ◌∙◌}
 use Rattle.std.proofs.lemmas.Map.Text.{btree_map_updates_text}
-use Rattle.std.proofs.lemmas.Slice.Eq.{bytes_eq-Decides}
 use Rattle.std.specs.BTreeMap.{Updates, UpdatesBy, get_by_text}
 use Rattle.std.specs.Cmp.Lexicographic.{nat_list_eq_equiv, slice_cmp}
-use Rattle.std.specs.List.Sorted.{IsStrictlySortedBy}
-use Rattle.std.specs.Map.{keys_of}
 use Rattle.std.specs.Prelude.{bytes_eq, if◌then◌else◌}
 use Rattle.upon_types.specs.Conversions.{or_else}
 use Rattle.upon_types.specs.Val.{Val, Vals, Entries, none_val, bool_val, int_val, text_val, list_val, map_val, entry_at, key_of}
 use Rattle.upon_types.specs.View.{view, entries_view}
 use Rattle.upon_types.specs.declared.value.Value.{Value, Map as MapValue}
-use Rattle.upon_types.proofs.Bindings.{rises-entries}
 use Rattle.upon_types.proofs.ConversionLemmas.{entry_at-insert}
 use Rattle.upon_types.proofs.Views.{view-lookup, view-Map}
 use Rattle.upon_tool_many.specs.Values.{list_in, IsMapOfKeys, IsSplit}

@@ -1,7 +1,7 @@
 -- Entries that are laid over others, and what is put back of these.
 use Rattle.std.proofs.Common.{◌≡◌, ℕ, List, [], ◌∷◌, ◌++◌, Bool, true, false, Option, Some, None, option_map, is_some, Result, Ok, Err, OnOk, OnErr, IfSome, nat_cmp, String, Global, BTreeMap, string_bytes, string_cmp, refl, sym, ap, subst, ◌∙◌}
 use Rattle.std.proofs.lemmas.Slice.Eq.{bytes_eq-Decides}
-use Rattle.std.specs.BTreeMap.{Updates, UpdatesBy, get, get_by_text}
+use Rattle.std.specs.BTreeMap.{Updates, UpdatesBy, get}
 use Rattle.std.specs.Cmp.Lexicographic.{slice_cmp}
 use Rattle.std.specs.List.Sorted.{IsStrictlySortedBy}
 use Rattle.std.specs.Map.{keys_of}
