@@ -1,6 +1,6 @@
 // Entries that are lent to pages: for each page others are laid over them, and what these cover is put back after it.
 // So a page takes as much as what is laid, and not as much as what it is laid over.
-ghost use Rattle.std.specs.Prelude.{◌≡◌, ℕ, List, IfOk, OnErr, OnOk, vec_len};
+ghost use Rattle.std.specs.Prelude.{◌≡◌, ℕ, List, IfOk, OnErr, OnOk};
 ghost use Rattle.upon_types.specs.Conversions.{or_else};
 ghost use Rattle.upon_types.specs.Val.{Entries, entry_at};
 ghost use Rattle.upon_types.specs.View.{view, entries_view};
