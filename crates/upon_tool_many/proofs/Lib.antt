@@ -1,5 +1,6 @@
 pub mod Rows
 pub mod Keys
+pub mod LaidOver
 pub mod Paths
 pub mod Places
 pub mod Texts

@@ -4,6 +4,7 @@
 
 pub mod build;
 pub mod each;
+pub mod laid;
 pub mod names;
 pub mod pages;
 pub mod progress;
