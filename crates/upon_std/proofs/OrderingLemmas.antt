@@ -1,5 +1,6 @@
 pub mod Rising
 pub mod Ranks
+pub mod SortedRows
 pub mod Repeats
 pub mod PartSpelling
 pub mod Readings

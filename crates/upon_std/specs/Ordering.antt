@@ -1,5 +1,6 @@
 -- The functions of `ordering`: what they answer of their arguments, and their names.
 pub mod Keys
+pub mod Rows
 pub mod Sorting
 pub mod Ranks
 pub mod Distinct

@@ -1,4 +1,5 @@
-// Sorts lists.
+// Sorts lists. Each item's key is looked up once: what is sorted are rows of a key and an item, both lent, and the items
+// are copied in the order of their rows.
 ghost use Rattle.std.specs.Prelude.{◌≡◌, ◌++◌, IfOk, OnOk, codes, map, option_map, string_bytes};
 ghost use Rattle.std.specs.Ordering.{is_lt};
 ghost use Rattle.upon_types.specs.Val.{kind_word};
@@ -6,13 +7,20 @@ ghost use Rattle.upon_types.specs.View.{view};
 ghost use Rattle.upon_std.specs.Ordering.Keys.{lent_val, key_val};
 ghost use Rattle.upon_std.specs.Basic.Order.{order_of, unordered};
 ghost use Rattle.upon_std.specs.Ordering.Ranks.{kind_rank, rank_cmp};
+ghost use Rattle.upon_std.specs.Ordering.Rows.{row_key, row_val, AreRows};
 ghost use Rattle.upon_std.specs.Ordering.Sorting.{ascending, keys_refusal, sorted_by, IsSortedList};
 
-use crate::basic::copies::copy_items;
 use crate::ordering::keys::Key;
 use std::alloc::{AllocError, Global};
 use std::cmp::Ordering;
 use upon_types::value::Value;
+
+// An item, and what it is sorted by.
+#[derive(Clone, Copy)]
+struct Row<'a> {
+    key: Option<&'a Value>,
+    item: &'a Value,
+}
 
 // A copy of the items in ascending order of their keys, or the refusal to sort them.
 pub(crate) fn sorted(
@@ -22,27 +30,38 @@ pub(crate) fn sorted(
 ) -> Result<Result<Vec<Value>, String>, AllocError>
     ensures { IfOk result (λ made. IsSortedList made (sorted_by (key_val key.entry) (map view items.now))) }
 {
-    if let Some(text) = refusal(alloc, items, key)? {
+    let mut rows = rows(alloc, items, key)?;
+    if let Some(text) = refusal(alloc, &rows)? {
         return Ok(Err(text));
     }
-    let mut copies = copy_items(alloc, items)?;
-    sort(&mut copies, key)?;
-    Ok(Ok(copies))
+    sort(&mut rows)?;
+    Ok(Ok(copied(alloc, &rows)?))
 }
 
-// The refusal to sort items, if the key of one cannot be compared with the key of the first.
-fn refusal(alloc: Global, items: &[Value], key: Key) -> Result<Option<String>, AllocError>
-    ensures { IfOk result (λ text. option_map string_bytes text
-        ≡ keys_refusal (map (key_val key.entry) (map view items.now))) }
+// The items with their keys.
+fn rows<'a>(alloc: Global, items: &'a [Value], key: Key) -> Result<Vec<Row<'a>>, AllocError>
+    ensures { IfOk result (λ rows. AreRows (key_val key.entry) (map view items.now) rows.items) }
 {
-    let Some((first, others)) = items.split_first() else {
+    let mut rows = Vec::with_capacity(alloc, items.len())?;
+    for item in items {
+        rows.push(Row {
+            key: key.of(item),
+            item,
+        })?;
+    }
+    Ok(rows)
+}
+
+// The refusal to sort rows, if the key of one cannot be compared with the key of the first.
+fn refusal(alloc: Global, rows: &[Row]) -> Result<Option<String>, AllocError>
+    ensures { IfOk result (λ text. option_map string_bytes text ≡ keys_refusal (map row_key rows.now)) }
+{
+    let Some((first, others)) = rows.split_first() else {
         return Ok(None);
     };
-    let first = key.of(first);
-    for item in others {
-        let other = key.of(item);
-        if order(first, other).is_none() {
-            return Ok(Some(unordered(alloc, first, other)?));
+    for row in others {
+        if order(first.key, row.key).is_none() {
+            return Ok(Some(unordered(alloc, first.key, row.key)?));
         }
     }
     Ok(None)
@@ -84,12 +103,23 @@ fn kind(key: Option<&Value>) -> &'static str
     }
 }
 
-// Sorts items by the rank of their keys.
-fn sort(items: &mut Vec<Value>, key: Key) -> Result<(), AllocError>
-    ensures { OnOk result (map view items.new.items
-        ≡ ascending (λ v w. is_lt (rank_cmp (key_val key.entry v) (key_val key.entry w))) (map view items.old.items)) }
+// Sorts rows by the rank of their keys.
+fn sort(rows: &mut Vec<Row>) -> Result<(), AllocError>
+    ensures { OnOk result (rows.new.items
+        ≡ ascending (λ one other. is_lt (rank_cmp (row_key one) (row_key other))) rows.old.items) }
 {
-    items.sort_by(|one, other| compare(key.of(one), key.of(other)))
+    rows.sort_by(|one, other| compare(one.key, other.key))
+}
+
+// Copies of the items of rows.
+fn copied(alloc: Global, rows: &[Row]) -> Result<Vec<Value>, AllocError>
+    ensures { IfOk result (λ copies. map view copies.items ≡ map row_val rows.now) }
+{
+    let mut copies = Vec::with_capacity(alloc, rows.len())?;
+    for row in rows {
+        copies.push(row.item.try_clone()?)?;
+    }
+    Ok(copies)
 }
 
 // How two keys are ordered; of two that `order` does not order, an integer comes first, then a text.
