@@ -7,5 +7,7 @@ pub mod Readings
 pub mod Seen
 pub mod Giving
 pub mod LawLemmas
+pub mod Placing
+pub mod Meeting
 pub mod Groups
 pub mod Storing

@@ -4,6 +4,7 @@ pub mod Rows
 pub mod Sorting
 pub mod Ranks
 pub mod Distinct
+pub mod Places
 pub mod Grouping
 pub mod Buckets
 pub mod Spelling
