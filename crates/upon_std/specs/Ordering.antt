@@ -6,7 +6,7 @@ pub mod Ranks
 pub mod Distinct
 pub mod Places
 pub mod Grouping
-pub mod Buckets
+pub mod Groups
 pub mod Spelling
 pub mod PartSpelling
 pub mod Outcomes

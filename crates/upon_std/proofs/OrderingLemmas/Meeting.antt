@@ -30,7 +30,7 @@ place_in ks v = cond (has ks v) (Some (next_place ks v)) None
 abbrev pub met : List Val → Val → List Val
 met ks x = ks ++ cond (has ks x) [] (x ∷ [])
 
-neither : (a b : Bool) → (a || b) ≡ false → (a ≡ false) × (b ≡ false)
+pub neither : (a b : Bool) → (a || b) ≡ false → (a ≡ false) × (b ≡ false)
 neither true b h = absurd (cc)
 neither false b h = (refl, h)
 

@@ -3,12 +3,9 @@ use Rattle.upon_types.specs.View.{view}
 use Rattle.upon_std.specs.Ordering.Keys.{key_val}
 use Rattle.upon_std.specs.Ordering.Rows.{row_key, row_val}
 use Rattle.upon_std.specs.Ordering.Sorting.{keys_refusal}
+use Rattle.upon_std.proofs.OrderingLemmas.Absent.{not_some}
 use Rattle.upon_std.proofs.OrderingLemmas.SortedRows.{rows_sorted}
 use Rattle.upon_std.proofs.ordering.sorting.sorted.Goals as goal
-
-not_some : {A : Type 0} (o : Option A) → ((x : A) → o ≡ Some x → ⊥) → o ≡ None
-not_some None h = refl
-not_some (Some x) h = absurd (h x refl)
 
 pub returns : goal.returns
 returns c =

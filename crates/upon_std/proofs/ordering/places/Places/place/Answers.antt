@@ -7,16 +7,13 @@ use Rattle.upon_types.proofs.Views.{view-None, view-Integer, view-String}
 use Rattle.upon_std.specs.Ordering.Keys.{lent_val}
 use Rattle.upon_std.specs.Ordering.Places.{place_of}
 use Rattle.upon_std.specs.Ordering.Spelling.{spelling}
+use Rattle.upon_std.proofs.OrderingLemmas.Absent.{not_some}
 use Rattle.upon_std.proofs.OrderingLemmas.Placing.{found_at, of_same, integer_placed, text_placed, other_placed, is_spelled, spelled_place}
 use Rattle.upon_std.proofs.ordering.places.Places.place.Goals as goal
 
 under_ok : {T E : Type 0} {P Q : T → Type 0} (r : Result T E) → ((x : T) → P x → Q x) → IfOk r P → IfOk r Q
 under_ok (Ok x) f p = f x p
 under_ok (Err e) f p = tt
-
-not_some : {A : Type 0} (o : Option A) → ((x : A) → o ≡ Some x → ⊥) → o ≡ None
-not_some None h = refl
-not_some (Some x) h = absurd (h x refl)
 
 pub returns-in_default-clause-updates : goal.returns-in_default-clause-updates
 returns-in_default-clause-updates c =
