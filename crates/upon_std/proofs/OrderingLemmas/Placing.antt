@@ -1,6 +1,6 @@
 -- The places of values that are found in maps: of integers, of texts and of spellings.
-use Rattle.std.proofs.Common.{◌≡◌, ℕ, ℤ, Bool, true, false, cond, String, List, [], ◌∷◌, Option, Some, None, Decides, Vec, Global, nat_cmp, int_cmp, bytes_eq, refl, ap, sym, subst, ◌∙◌}
-use Rattle.std.specs.BTreeMap.{BTreeMap, get_by, is_at, Updates, UpdatesBy}
+use Rattle.std.proofs.Common.{◌≡◌, ℕ, ℤ, Bool, true, false, cond, String, List, Option, Some, Decides, Vec, Global, nat_cmp, int_cmp, bytes_eq, refl, ap, sym, subst, ◌∙◌}
+use Rattle.std.specs.BTreeMap.{BTreeMap, get_by, Updates, UpdatesBy}
 use Rattle.std.specs.Cmp.{eq_by_cmp_equiv}
 use Rattle.std.specs.Cmp.Lexicographic.{slice_cmp, nat_list_cmp_total}
 use Rattle.std.specs.Map.{lookup, IsKeyTest, AreApart, KeepsOthers}

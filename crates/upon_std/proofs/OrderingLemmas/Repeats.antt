@@ -1,14 +1,10 @@
 -- Whether values are the same, and whether an element is in a list.
-use Rattle.std.proofs.Common.{◌≡◌, ℕ, ◌+◌, ◌<◌, ◌≤◌, Bool, true, false, cond, List, [], ◌∷◌, ◌++◌, length, get_or, map, drop, Decides, refl, ap, sym, ◌∙◌, append_assoc}
-use Rattle.std.specs.Prelude.{not, ◌&&◌, ◌||◌}
+use Rattle.std.proofs.Common.{◌≡◌, Bool, true, false, cond, List, [], ◌∷◌, ◌++◌, Decides, refl, ap, sym, ◌∙◌}
+use Rattle.std.specs.Prelude.{◌&&◌, ◌||◌}
 use Rattle.std.specs.List.{filter, list_any}
-use Rattle.std.proofs.lemmas.List.{append-nil, at_drop_more, at_drop_all}
 use Rattle.std.proofs.Math.Bool.{decide_iff}
 use Rattle.upon_types.specs.Same.{one_or_two, val_eq}
 use Rattle.upon_types.specs.Val.{Val}
-use Rattle.upon_types.specs.View.{view}
-use Rattle.upon_types.specs.declared.value.Value.{Value}
-use Rattle.upon_std.specs.Ordering.Distinct.{distinct}
 
 -- two filters one after the other are one
 pub filter_twice : {X : Type 0} (p q r : X → Bool) → ((x : X) → r x ≡ (p x && q x)) → (xs : List X) → filter q (filter p xs) ≡ filter r xs

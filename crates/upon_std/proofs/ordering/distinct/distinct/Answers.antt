@@ -1,8 +1,7 @@
-use Rattle.std.proofs.Common.{◌≡◌, ℕ, ◌+◌, ◌++◌, [], ◌∷◌, length, Vec, Global, map, take, refl, ap, sym, subst, ◌∙◌, arith}
+use Rattle.std.proofs.Common.{◌≡◌, ◌++◌, [], ◌∷◌, length, Vec, Global, map, take, refl, ap, sym, ◌∙◌, arith}
 use Rattle.std.specs.Prelude.{unwrap_or}
-use Rattle.std.proofs.lemmas.List.{map-append, length-map, take_all}
+use Rattle.std.proofs.lemmas.List.{map-append, length-map}
 use Rattle.upon_types.specs.Same.{val_eq}
-use Rattle.upon_types.specs.Val.{Val}
 use Rattle.upon_types.specs.View.{view}
 use Rattle.upon_types.specs.declared.value.Value.{Value}
 use Rattle.upon_std.specs.Ordering.Distinct.{distinct}

@@ -1,4 +1,4 @@
-use Rattle.std.proofs.Common.{◌≡◌, Option, Some, None, map, option_map, string_bytes, refl, ap, ◌∙◌}
+use Rattle.std.proofs.Common.{map, option_map, string_bytes, ap, ◌∙◌}
 use Rattle.upon_types.specs.View.{view}
 use Rattle.upon_std.specs.Ordering.Keys.{key_val}
 use Rattle.upon_std.specs.Ordering.Rows.{row_key, row_val}

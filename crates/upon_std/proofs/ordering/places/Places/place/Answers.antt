@@ -1,7 +1,7 @@
-use Rattle.std.proofs.Common.{◌≡◌, ℕ, Option, Some, None, Result, Ok, Err, IfOk, w64, to_z, of_z, refl, ap, sym, ◌∙◌, arith}
+use Rattle.std.proofs.Common.{◌≡◌, Result, Ok, Err, IfOk, w64, to_z, of_z, ap, sym, ◌∙◌, arith}
 use Rattle.std.proofs.lemmas.Int.{ints}
 use Rattle.std.specs.Prelude.{unwrap_or}
-use Rattle.upon_types.specs.Val.{Val, none_val, int_val, text_val}
+use Rattle.upon_types.specs.Val.{none_val, int_val, text_val}
 use Rattle.upon_types.specs.View.{view}
 use Rattle.upon_types.proofs.Views.{view-None, view-Integer, view-String}
 use Rattle.upon_std.specs.Ordering.Keys.{lent_val}
