@@ -21,7 +21,7 @@ use Rattle.upon_types.specs.declared.value.Value.{Value, Integer as IntegerValue
 use Rattle.upon_types.specs.declared.value.Value.TheOpen.{Value-F}
 use Rattle.upon_types.specs.declared.value.Value.TheViews.{out-Value, roll-Value, roll-out-Value, rolls-None, rolls-Bool, rolls-Integer, rolls-String, rolls-List, rolls-Map}
 use Rattle.upon_types.proofs.Views.{view-None, view-Bool, view-List, view-Map}
-use Rattle.upon_std.specs.Ordering.Places.{place_of}
+use Rattle.upon_std.specs.Ordering.Places.{place_met}
 use Rattle.upon_std.specs.Ordering.Spelling.{spelling}
 use Rattle.upon_std.specs.declared.ordering.places.Places.{Places}
 use Rattle.upon_std.proofs.OrderingLemmas.Readings.{one_spelling}
@@ -88,17 +88,17 @@ spelling_test v w =
 
 -- ---- one place more
 pub integer_placed : (old : Places) (new : BTreeMap ℤ ℕ) (z : ℤ) (place : ℕ) → Updates int_cmp old.integers new z (Some place)
-    → (v : Val) → place_of (record old { integers = new }) v ≡ cond (val_eq (int_val z) v) (Some place) (place_of old v)
+    → (v : Val) → place_met (record old { integers = new }) v ≡ cond (val_eq (int_val z) v) (Some place) (place_met old v)
 unfolding decide
-integer_placed old new z place up (int_val y) = up.0 y ∙ ap (λ b. cond b (Some place) (place_of old (int_val y))) (integer_test z y)
+integer_placed old new z place up (int_val y) = up.0 y ∙ ap (λ b. cond b (Some place) (place_met old (int_val y))) (integer_test z y)
 integer_placed old new z place up _ = refl
 
 pub text_placed : (old : Places) (new : BTreeMap (Bor (List ℕ)) ℕ) (s : List ℕ) (place : ℕ)
     → UpdatesBy (λ x y. slice_cmp nat_cmp x.now y.now) (λ k. slice_cmp nat_cmp s k.now) old.texts new (Some place)
-    → (v : Val) → place_of (record old { texts = new }) v ≡ cond (val_eq (text_val s) v) (Some place) (place_of old v)
+    → (v : Val) → place_met (record old { texts = new }) v ≡ cond (val_eq (text_val s) v) (Some place) (place_met old v)
 unfolding decide
 text_placed old new s place up (text_val t) =
-    found_after (λ k. k.now) old.texts new s t (Some place) up ∙ ap (λ b. cond b (Some place) (place_of old (text_val t))) (text_test s t)
+    found_after (λ k. k.now) old.texts new s t (Some place) up ∙ ap (λ b. cond b (Some place) (place_met old (text_val t))) (text_test s t)
 text_placed old new s place up _ = refl
 
 -- a value that is found by its spelling
@@ -119,24 +119,24 @@ no_text (int_val y) s spelled = absurd spelled
 no_text (text_val t) s spelled = absurd spelled
 no_text _ s spelled = refl
 
-pub spelled_place : (places : Places) (v : Val) → IsSpelled v → place_of places v ≡ found_at (λ k. k.items) places.others (spelling v)
+pub spelled_place : (places : Places) (v : Val) → IsSpelled v → place_met places v ≡ found_at (λ k. k.items) places.others (spelling v)
 spelled_place places (int_val z) spelled = absurd spelled
 spelled_place places (text_val s) spelled = absurd spelled
 spelled_place places _ spelled = refl
 
 pub other_placed : (old : Places) (new : BTreeMap (Vec ℕ Global) ℕ) (v : Val) (numbers : List ℕ) (place : ℕ) → IsSpelled v → numbers ≡ spelling v
     → UpdatesBy (λ x y. slice_cmp nat_cmp x.items y.items) (λ k. slice_cmp nat_cmp numbers k.items) old.others new (Some place)
-    → (w : Val) → place_of (record old { others = new }) w ≡ cond (val_eq v w) (Some place) (place_of old w)
-other_placed old new v numbers place spelled of_v up (int_val y) = sym (ap (λ b. cond b (Some place) (place_of old (int_val y))) (no_integer v y spelled))
-other_placed old new v numbers place spelled of_v up (text_val t) = sym (ap (λ b. cond b (Some place) (place_of old (text_val t))) (no_text v t spelled))
+    → (w : Val) → place_met (record old { others = new }) w ≡ cond (val_eq v w) (Some place) (place_met old w)
+other_placed old new v numbers place spelled of_v up (int_val y) = sym (ap (λ b. cond b (Some place) (place_met old (int_val y))) (no_integer v y spelled))
+other_placed old new v numbers place spelled of_v up (text_val t) = sym (ap (λ b. cond b (Some place) (place_met old (text_val t))) (no_text v t spelled))
 other_placed old new v numbers place spelled of_v up w =
     found_after (λ k. k.items) old.others new numbers (spelling w) (Some place) up
-    ∙ ap (λ b. cond b (Some place) (place_of old w)) (ap (λ xs. bytes_eq xs (spelling w)) of_v ∙ spelling_test v w)
+    ∙ ap (λ b. cond b (Some place) (place_met old w)) (ap (λ xs. bytes_eq xs (spelling w)) of_v ∙ spelling_test v w)
 
 -- ---- the value that is looked up
-pub of_same : (old new : Places) (v w : Val) (place : ℕ) → v ≡ w → ((u : Val) → place_of new u ≡ cond (val_eq w u) (Some place) (place_of old u))
-    → (u : Val) → place_of new u ≡ cond (val_eq v u) (Some place) (place_of old u)
-of_same old new v w place same placed = λ u. placed u ∙ ap (λ t. cond (val_eq t u) (Some place) (place_of old u)) (sym same)
+pub of_same : (old new : Places) (v w : Val) (place : ℕ) → v ≡ w → ((u : Val) → place_met new u ≡ cond (val_eq w u) (Some place) (place_met old u))
+    → (u : Val) → place_met new u ≡ cond (val_eq v u) (Some place) (place_met old u)
+of_same old new v w place same placed = λ u. placed u ∙ ap (λ t. cond (val_eq t u) (Some place) (place_met old u)) (sym same)
 
 -- a value that is neither an integer nor a text
 abbrev IsOther : Value → Type 0

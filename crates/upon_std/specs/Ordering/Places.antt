@@ -8,7 +8,7 @@ use Rattle.upon_std.specs.Ordering.Spelling.{spelling}
 use Rattle.upon_std.specs.declared.ordering.places.Places.{Places}
 
 -- the place of a value, if it has one
-abbrev pub place_of : Places → Val → Option ℕ
-place_of places (int_val z) = get_by (int_cmp z) places.integers
-place_of places (text_val s) = get_by (λ k. slice_cmp nat_cmp s k.now) places.texts
-place_of places v = get_by (λ k. slice_cmp nat_cmp (spelling v) k.items) places.others
+abbrev pub place_met : Places → Val → Option ℕ
+place_met places (int_val z) = get_by (int_cmp z) places.integers
+place_met places (text_val s) = get_by (λ k. slice_cmp nat_cmp s k.now) places.texts
+place_met places v = get_by (λ k. slice_cmp nat_cmp (spelling v) k.items) places.others

@@ -1,18 +1,31 @@
--- The rows that are sorted: each has an item that is lent, and what the item is sorted by.
+-- The rows that are sorted: each has an item that is lent, and the rank of what the item is sorted by.
 use Rattle.std.specs.Prelude.{◌≡◌, List, map}
-use Rattle.upon_types.specs.Val.{Val}
+use Rattle.upon_types.specs.Val.{Val, none_val, int_val, text_val}
 use Rattle.upon_types.specs.View.{view}
-use Rattle.upon_std.specs.Ordering.Keys.{lent_val}
+use Rattle.upon_std.specs.declared.ordering.sorting.Rank.{Rank}
+use Rattle.upon_std.specs.declared.ordering.sorting.Rank.TheVariants.{Integer, Text, Other}
 use Rattle.upon_std.specs.declared.ordering.sorting.Row.{Row}
 
--- what the item of a row is sorted by
+-- a key as far as items are sorted by it: an integer, a text, or none for any other
+abbrev pub ranked : Val → Val
+ranked (int_val z) = int_val z
+ranked (text_val s) = text_val s
+ranked v = none_val
+
+-- the key that a rank stands for
+abbrev pub rank_val : Rank → Val
+rank_val (Integer z) = int_val z
+rank_val (Text s) = text_val s.now
+rank_val Other = none_val
+
+-- what a row is sorted by
 abbrev pub row_key : Row → Val
-row_key row = lent_val row.key
+row_key row = rank_val row.rank
 
 -- the item of a row
-abbrev pub row_val : Row → Val
-row_val row = view row.item.now
+abbrev pub row_item : Row → Val
+row_item row = view row.item.now
 
--- rows have these items, each with its key
+-- rows have these items, each with the rank of its key
 abbrev pub AreRows : (Val → Val) → List Val → List Row → Type 0
-AreRows key vs rows = (map row_val rows ≡ vs) × (map row_key rows ≡ map key vs)
+AreRows key vs rows = (map row_item rows ≡ vs) × (map row_key rows ≡ map (λ v. ranked (key v)) vs)

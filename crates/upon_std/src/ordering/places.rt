@@ -5,7 +5,7 @@ ghost use Rattle.std.specs.BTreeMap.{get, Updates};
 ghost use Rattle.upon_types.specs.Same.{val_eq};
 ghost use Rattle.upon_types.specs.Val.{Val};
 ghost use Rattle.upon_std.specs.Ordering.Keys.{lent_val};
-ghost use Rattle.upon_std.specs.Ordering.Places.{place_of};
+ghost use Rattle.upon_std.specs.Ordering.Places.{place_met};
 
 use crate::ordering::spelling::spelling;
 use std::alloc::{AllocError, Global};
@@ -22,7 +22,7 @@ pub(crate) struct Places<'a> {
 
 impl<'a> Places<'a> {
     pub(crate) fn new(alloc: Global) -> Places<'a>
-        ensures { (v : Val) → place_of result v ≡ None }
+        ensures { (v : Val) → place_met result v ≡ None }
     {
         Places {
             integers: BTreeMap::new(alloc),
@@ -38,9 +38,9 @@ impl<'a> Places<'a> {
         value: Option<&'a Value>,
         next: usize,
     ) -> Result<usize, AllocError>
-        ensures found { IfOk result (λ place. place ≡ unwrap_or (place_of self.old (lent_val value.entry)) next) }
-        ensures updates { IfOk result (λ place. (v : Val) → place_of self.new v
-            ≡ (if val_eq (lent_val value.entry) v then Some place else place_of self.old v)) }
+        ensures found { IfOk result (λ place. place ≡ unwrap_or (place_met self.old (lent_val value.entry)) next) }
+        ensures updates { IfOk result (λ place. (v : Val) → place_met self.new v
+            ≡ (if val_eq (lent_val value.entry) v then Some place else place_met self.old v)) }
     {
         let Some(value) = value else {
             let numbers = spelling(alloc, &Value::None)?;

@@ -1,5 +1,5 @@
-// Sorts lists. Each item's key is looked up once: what is sorted are rows of a key and an item, both lent, and the items
-// are copied in the order of their rows.
+// Sorts lists. What is sorted are rows of an item that is lent and of what it is sorted by, so that no comparison looks
+// into the item; the items are copied in the order of their rows.
 ghost use Rattle.std.specs.Prelude.{◌≡◌, ◌++◌, IfOk, OnOk, codes, map, option_map, string_bytes};
 ghost use Rattle.std.specs.Ordering.{is_lt};
 ghost use Rattle.upon_types.specs.Val.{kind_word};
@@ -7,7 +7,7 @@ ghost use Rattle.upon_types.specs.View.{view};
 ghost use Rattle.upon_std.specs.Ordering.Keys.{lent_val, key_val};
 ghost use Rattle.upon_std.specs.Basic.Order.{order_of, unordered};
 ghost use Rattle.upon_std.specs.Ordering.Ranks.{kind_rank, rank_cmp};
-ghost use Rattle.upon_std.specs.Ordering.Rows.{row_key, row_val, AreRows};
+ghost use Rattle.upon_std.specs.Ordering.Rows.{rank_val, ranked, row_key, row_item, AreRows};
 ghost use Rattle.upon_std.specs.Ordering.Sorting.{ascending, keys_refusal, sorted_by, IsSortedList};
 
 use crate::ordering::keys::Key;
@@ -15,10 +15,19 @@ use std::alloc::{AllocError, Global};
 use std::cmp::Ordering;
 use upon_types::value::Value;
 
-// An item, and what it is sorted by.
+// A key, as far as items are sorted by it.
+#[derive(Clone, Copy)]
+enum Rank<'a> {
+    Integer(i64),
+    Text(&'a str),
+    // Any other key. There is one only where no two items are compared.
+    Other,
+}
+
+// An item, and the rank of its key.
 #[derive(Clone, Copy)]
 struct Row<'a> {
-    key: Option<&'a Value>,
+    rank: Rank<'a>,
     item: &'a Value,
 }
 
@@ -30,50 +39,57 @@ pub(crate) fn sorted(
 ) -> Result<Result<Vec<Value>, String>, AllocError>
     ensures { IfOk result (λ made. IsSortedList made (sorted_by (key_val key.entry) (map view items.now))) }
 {
-    let mut rows = rows(alloc, items, key)?;
-    if let Some(text) = refusal(alloc, &rows)? {
+    if let Some(text) = refusal(alloc, items, key)? {
         return Ok(Err(text));
     }
+    let mut rows = rows(alloc, items, key)?;
     sort(&mut rows)?;
     Ok(Ok(copied(alloc, &rows)?))
 }
 
-// The items with their keys.
-fn rows<'a>(alloc: Global, items: &'a [Value], key: Key) -> Result<Vec<Row<'a>>, AllocError>
-    ensures { IfOk result (λ rows. AreRows (key_val key.entry) (map view items.now) rows.items) }
+// The refusal to sort items, if the key of one cannot be compared with the key of the first.
+fn refusal(alloc: Global, items: &[Value], key: Key) -> Result<Option<String>, AllocError>
+    ensures { IfOk result (λ text. option_map string_bytes text
+        ≡ keys_refusal (map (key_val key.entry) (map view items.now))) }
 {
-    let mut rows = Vec::with_capacity(alloc, items.len())?;
-    for item in items {
-        rows.push(Row {
-            key: key.of(item),
-            item,
-        })?;
-    }
-    Ok(rows)
-}
-
-// The refusal to sort rows, if the key of one cannot be compared with the key of the first.
-fn refusal(alloc: Global, rows: &[Row]) -> Result<Option<String>, AllocError>
-    ensures { IfOk result (λ text. option_map string_bytes text ≡ keys_refusal (map row_key rows.now)) }
-{
-    let Some((first, others)) = rows.split_first() else {
+    let Some((first, others)) = items.split_first() else {
         return Ok(None);
     };
-    for row in others {
-        if order(first.key, row.key).is_none() {
-            return Ok(Some(unordered(alloc, first.key, row.key)?));
+    let first = key.of(first);
+    for item in others {
+        let other = key.of(item);
+        if key_order(first, other).is_none() {
+            return Ok(Some(unordered(alloc, first, other)?));
         }
     }
     Ok(None)
 }
 
 // How two keys are ordered, if they are.
-fn order(first: Option<&Value>, second: Option<&Value>) -> Option<Ordering>
+fn key_order(first: Option<&Value>, second: Option<&Value>) -> Option<Ordering>
     ensures { result ≡ order_of (lent_val first.entry) (lent_val second.entry) }
 {
+    order(rank_of(first), rank_of(second))
+}
+
+// The rank of a key.
+fn rank_of<'a>(key: Option<&'a Value>) -> Rank<'a>
+    ensures { rank_val result ≡ ranked (lent_val key.entry) }
+{
+    match key {
+        Some(Value::Integer(number)) => Rank::Integer(*number),
+        Some(Value::String(text)) => Rank::Text(text.as_str()),
+        _ => Rank::Other,
+    }
+}
+
+// How two ranks are ordered, if they are.
+fn order(first: Rank, second: Rank) -> Option<Ordering>
+    ensures { result ≡ order_of (rank_val first.entry) (rank_val second.entry) }
+{
     match (first, second) {
-        (Some(Value::Integer(one)), Some(Value::Integer(other))) => Some(one.cmp(other)),
-        (Some(Value::String(one)), Some(Value::String(other))) => Some(one.cmp(other)),
+        (Rank::Integer(one), Rank::Integer(other)) => Some(one.cmp(&other)),
+        (Rank::Text(one), Rank::Text(other)) => Some(one.cmp(other)),
         _ => None,
     }
 }
@@ -103,42 +119,56 @@ fn kind(key: Option<&Value>) -> &'static str
     }
 }
 
-// Sorts rows by the rank of their keys.
+// The items with the ranks of their keys.
+fn rows<'a>(alloc: Global, items: &'a [Value], key: Key) -> Result<Vec<Row<'a>>, AllocError>
+    ensures { IfOk result (λ rows. AreRows (key_val key.entry) (map view items.now) rows.items) }
+{
+    let mut rows = Vec::with_capacity(alloc, items.len())?;
+    for item in items {
+        rows.push(Row {
+            rank: rank_of(key.of(item)),
+            item,
+        })?;
+    }
+    Ok(rows)
+}
+
+// Sorts rows by the ranks of their keys.
 fn sort(rows: &mut Vec<Row>) -> Result<(), AllocError>
     ensures { OnOk result (rows.new.items
         ≡ ascending (λ one other. is_lt (rank_cmp (row_key one) (row_key other))) rows.old.items) }
 {
-    rows.sort_by(|one, other| compare(one.key, other.key))
+    rows.sort_by(|one, other| compare(one.rank, other.rank))
+}
+
+// How two ranks are ordered; of two that `order` does not order, an integer comes first, then a text.
+fn compare(first: Rank, second: Rank) -> Ordering
+    ensures { result ≡ rank_cmp (rank_val first.entry) (rank_val second.entry) }
+{
+    match order(first, second) {
+        Some(order) => order,
+        None => place(first).cmp(&place(second)),
+    }
+}
+
+// The place of a rank's kind among the kinds.
+fn place(rank: Rank) -> u8
+    ensures { result ≡ kind_rank (rank_val rank.entry) }
+{
+    match rank {
+        Rank::Integer(_) => 0,
+        Rank::Text(_) => 1,
+        Rank::Other => 2,
+    }
 }
 
 // Copies of the items of rows.
 fn copied(alloc: Global, rows: &[Row]) -> Result<Vec<Value>, AllocError>
-    ensures { IfOk result (λ copies. map view copies.items ≡ map row_val rows.now) }
+    ensures { IfOk result (λ copies. map view copies.items ≡ map row_item rows.now) }
 {
     let mut copies = Vec::with_capacity(alloc, rows.len())?;
     for row in rows {
         copies.push(row.item.try_clone()?)?;
     }
     Ok(copies)
-}
-
-// How two keys are ordered; of two that `order` does not order, an integer comes first, then a text.
-fn compare(first: Option<&Value>, second: Option<&Value>) -> Ordering
-    ensures { result ≡ rank_cmp (lent_val first.entry) (lent_val second.entry) }
-{
-    match order(first, second) {
-        Some(order) => order,
-        None => rank(first).cmp(&rank(second)),
-    }
-}
-
-// The place of a key's kind among the kinds.
-fn rank(key: Option<&Value>) -> u8
-    ensures { result ≡ kind_rank (lent_val key.entry) }
-{
-    match key {
-        Some(Value::Integer(_)) => 0,
-        Some(Value::String(_)) => 1,
-        _ => 2,
-    }
 }

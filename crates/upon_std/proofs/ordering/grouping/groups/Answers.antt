@@ -9,7 +9,7 @@ use Rattle.upon_std.specs.Ordering.Distinct.{distinct}
 use Rattle.upon_std.specs.Ordering.Grouping.{members}
 use Rattle.upon_std.specs.Ordering.Groups.{added_at, group_parts, parted}
 use Rattle.upon_std.specs.Ordering.Keys.{lent_val}
-use Rattle.upon_std.specs.Ordering.Places.{place_of}
+use Rattle.upon_std.specs.Ordering.Places.{place_met}
 use Rattle.upon_std.proofs.OrderingLemmas.Meeting.{next_place, place_in, place_is, places_after, distinct_met, one_more}
 use Rattle.upon_std.proofs.OrderingLemmas.Parting.{parted_more}
 use Rattle.upon_std.proofs.ordering.grouping.groups.Goals as goal
@@ -24,7 +24,7 @@ loop-item-preserved c =
     let vs = map view (take i items) in
     let ks = distinct val_eq (map key vs) in
     let groups = c.loop-item.groups in
-    let old = place_of c.loop-item.places in
+    let old = place_met c.loop-item.places in
     let place = c.in_ok-place.place in
     let so_far = one_more items i c.item-item.result (omega arith) c.item-item.is in
     let of_key : lent_val c.entry-key.result ≡ k = ap (λ o. unwrap_or o none_val) c.entry-key.ensures in
@@ -39,7 +39,7 @@ loop-item-preserved c =
           ∙ ap (λ j. added_at (next_place ks k) j x (map group_parts groups.items)) of_key
           ∙ ap (added_at (next_place ks k) k x) c.loop-item.invariant.parts ∙ parted_more key vs x ∙ ap (parted key) (sym so_far);
       places = λ v.
-          places_after old (place_of c.place.new.self) ks k place c.loop-item.invariant.places found
+          places_after old (place_met c.place.new.self) ks k place c.loop-item.invariant.places found
           (λ w. c.in_ok-place.ensures.updates w ∙ ap (λ j. cond (val_eq j w) (Some place) (old w)) of_key) v
           ∙ ap (λ js. place_in js v) (sym (distinct_met (map key vs) k)
           ∙ ap (distinct val_eq) (sym (map-append key vs (x ∷ [])) ∙ ap (map key) (sym so_far)));

@@ -1,9 +1,11 @@
 use Rattle.std.proofs.Common.{◌≡◌, map, drop}
-use Rattle.upon_std.specs.Ordering.Rows.{row_key}
+use Rattle.upon_types.specs.View.{view}
+use Rattle.upon_std.specs.Ordering.Keys.{lent_val, key_val}
 use Rattle.upon_std.specs.Ordering.Sorting.{first_unlike}
 use Rattle.upon_std.proofs.ordering.sorting.refusal.Given as goal
 
--- the first key that has no order with the first is among those that are left
-abbrev pub invariant-loop-row : goal.invariant-loop-row
-invariant-loop-row l =
-    first_unlike (row_key l.first) (map row_key (drop l.row-index l.others)) ≡ first_unlike (row_key l.first) (map row_key l.others)
+-- the first item that has no order with the first is among those that are left
+abbrev pub invariant-loop-item : goal.invariant-loop-item
+invariant-loop-item l =
+    first_unlike (lent_val l.first) (map (key_val l.key) (map view (drop l.item-index l.others)))
+    ≡ first_unlike (lent_val l.first) (map (key_val l.key) (map view l.others))

@@ -5,7 +5,7 @@ use Rattle.upon_types.specs.Val.{none_val, int_val, text_val}
 use Rattle.upon_types.specs.View.{view}
 use Rattle.upon_types.proofs.Views.{view-None, view-Integer, view-String}
 use Rattle.upon_std.specs.Ordering.Keys.{lent_val}
-use Rattle.upon_std.specs.Ordering.Places.{place_of}
+use Rattle.upon_std.specs.Ordering.Places.{place_met}
 use Rattle.upon_std.specs.Ordering.Spelling.{spelling}
 use Rattle.upon_std.proofs.OrderingLemmas.Absent.{not_some}
 use Rattle.upon_std.proofs.OrderingLemmas.Placing.{found_at, of_same, integer_placed, text_placed, other_placed, is_spelled, spelled_place}
@@ -51,7 +51,7 @@ returns-in_ok-numbers-in_default-value c =
     let spelled = is_spelled c.in-Some.value.now c.in_default-value.not-Integer c.in_default-value.not-String in
     record {
       found = under_ok c.place_in-in_default-value.result
-          (λ place is. is ∙ ap (λ o. unwrap_or o c.args.next) (ap (found_at (λ k. k.items) old.others) of_v ∙ sym (spelled_place old v spelled) ∙ ap (place_of old) (sym value)))
+          (λ place is. is ∙ ap (λ o. unwrap_or o c.args.next) (ap (found_at (λ k. k.items) old.others) of_v ∙ sym (spelled_place old v spelled) ∙ ap (place_met old) (sym value)))
           c.place_in-in_default-value.ensures.found;
       updates = under_ok c.place_in-in_default-value.result
           (λ place up. of_same old (record old { others = c.place_in-in_default-value.new.places }) (lent_val c.args.value) v place value
