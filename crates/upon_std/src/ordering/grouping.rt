@@ -36,11 +36,12 @@ fn groups<'a>(alloc: Global, items: &'a [Value], name: &str) -> Result<Vec<Group
     ensures { IfOk result
         (λ groups. map group_parts groups.items ≡ parted (value_at_key name.now) (map view items.now)) }
 {
+    let none = Value::None;
     let mut groups = Vec::new(alloc);
     let mut places = Places::new(alloc);
     for item in items {
         let key = look::entry(item, name);
-        let place = places.place(alloc, key, groups.len())?;
+        let place = places.place(alloc, key.unwrap_or(&none), groups.len())?;
         add(alloc, &mut groups, place, key, item)?;
     }
     Ok(groups)
@@ -77,7 +78,10 @@ fn map_of(alloc: Global, group: &Group) -> Result<Value, AllocError>
         None => Value::None,
     };
     let members = copied(alloc, &group.members)?;
-    group_of(alloc, key, members)
+    let mut entries = BTreeMap::new(alloc);
+    drop(entries.insert(String::from_str(alloc, "items")?, Value::List(members))?);
+    drop(entries.insert(String::from_str(alloc, "key")?, key)?);
+    Ok(Value::Map(entries))
 }
 
 // Copies of lent items.
@@ -89,14 +93,4 @@ fn copied(alloc: Global, items: &[&Value]) -> Result<Vec<Value>, AllocError>
         copies.push(item.try_clone()?)?;
     }
     Ok(copies)
-}
-
-// The map with a key and with the items that have it.
-fn group_of(alloc: Global, key: Value, members: Vec<Value>) -> Result<Value, AllocError>
-    ensures { IfOk result (λ v. view v ≡ group_val (view key) (map view members.items)) }
-{
-    let mut entries = BTreeMap::new(alloc);
-    drop(entries.insert(String::from_str(alloc, "items")?, Value::List(members))?);
-    drop(entries.insert(String::from_str(alloc, "key")?, key)?);
-    Ok(Value::Map(entries))
 }

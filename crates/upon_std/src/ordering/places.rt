@@ -4,7 +4,7 @@ ghost use Rattle.std.specs.Prelude.{◌≡◌, IfOk, Some, None, unwrap_or, if�
 ghost use Rattle.std.specs.BTreeMap.{get, Updates};
 ghost use Rattle.upon_types.specs.Same.{val_eq};
 ghost use Rattle.upon_types.specs.Val.{Val};
-ghost use Rattle.upon_std.specs.Ordering.Keys.{lent_val};
+ghost use Rattle.upon_types.specs.View.{view};
 ghost use Rattle.upon_std.specs.Ordering.Places.{place_met};
 
 use crate::ordering::spelling::spelling;
@@ -31,21 +31,17 @@ impl<'a> Places<'a> {
         }
     }
 
-    // The place of a value, or of none. A value that was not met before gets the next place.
+    // The place of a value. One that was not met before gets the next place.
     pub(crate) fn place(
         &mut self,
         alloc: Global,
-        value: Option<&'a Value>,
+        value: &'a Value,
         next: usize,
     ) -> Result<usize, AllocError>
-        ensures found { IfOk result (λ place. place ≡ unwrap_or (place_met self.old (lent_val value.entry)) next) }
+        ensures found { IfOk result (λ place. place ≡ unwrap_or (place_met self.old (view value.now)) next) }
         ensures updates { IfOk result (λ place. (v : Val) → place_met self.new v
-            ≡ (if val_eq (lent_val value.entry) v then Some place else place_met self.old v)) }
+            ≡ (if val_eq (view value.now) v then Some place else place_met self.old v)) }
     {
-        let Some(value) = value else {
-            let numbers = spelling(alloc, &Value::None)?;
-            return place_in(&mut self.others, numbers, next);
-        };
         match value {
             Value::Integer(number) => place_in(&mut self.integers, *number, next),
             Value::String(text) => place_in(&mut self.texts, text.as_str(), next),

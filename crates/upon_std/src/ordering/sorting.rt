@@ -1,15 +1,14 @@
 // Sorts lists. What is sorted are rows of an item that is lent and of what it is sorted by, so that no comparison looks
 // into the item; the items are copied in the order of their rows.
-ghost use Rattle.std.specs.Prelude.{◌≡◌, ◌++◌, IfOk, OnOk, codes, map, option_map, string_bytes};
+ghost use Rattle.std.specs.Prelude.{◌≡◌, IfOk, OnOk, map, option_map, string_bytes};
 ghost use Rattle.std.specs.Ordering.{is_lt};
-ghost use Rattle.upon_types.specs.Val.{kind_word};
 ghost use Rattle.upon_types.specs.View.{view};
 ghost use Rattle.upon_std.specs.Ordering.Keys.{lent_val, key_val};
-ghost use Rattle.upon_std.specs.Basic.Order.{order_of, unordered};
 ghost use Rattle.upon_std.specs.Ordering.Ranks.{kind_rank, rank_cmp};
 ghost use Rattle.upon_std.specs.Ordering.Rows.{rank_val, ranked, row_key, row_item, AreRows};
 ghost use Rattle.upon_std.specs.Ordering.Sorting.{ascending, keys_refusal, sorted_by, IsSortedList};
 
+use crate::basic::order::{order, refusal as unordered};
 use crate::ordering::keys::Key;
 use std::alloc::{AllocError, Global};
 use std::cmp::Ordering;
@@ -55,21 +54,15 @@ fn refusal(alloc: Global, items: &[Value], key: Key) -> Result<Option<String>, A
     let Some((first, others)) = items.split_first() else {
         return Ok(None);
     };
-    let first = key.of(first);
+    let none = Value::None;
+    let first = key.of(first).unwrap_or(&none);
     for item in others {
-        let other = key.of(item);
-        if key_order(first, other).is_none() {
+        let other = key.of(item).unwrap_or(&none);
+        if order(first, other).is_none() {
             return Ok(Some(unordered(alloc, first, other)?));
         }
     }
     Ok(None)
-}
-
-// How two keys are ordered, if they are.
-fn key_order(first: Option<&Value>, second: Option<&Value>) -> Option<Ordering>
-    ensures { result ≡ order_of (lent_val first.entry) (lent_val second.entry) }
-{
-    order(rank_of(first), rank_of(second))
 }
 
 // The rank of a key.
@@ -80,42 +73,6 @@ fn rank_of<'a>(key: Option<&'a Value>) -> Rank<'a>
         Some(Value::Integer(number)) => Rank::Integer(*number),
         Some(Value::String(text)) => Rank::Text(text.as_str()),
         _ => Rank::Other,
-    }
-}
-
-// How two ranks are ordered, if they are.
-fn order(first: Rank, second: Rank) -> Option<Ordering>
-    ensures { result ≡ order_of (rank_val first.entry) (rank_val second.entry) }
-{
-    match (first, second) {
-        (Rank::Integer(one), Rank::Integer(other)) => Some(one.cmp(&other)),
-        (Rank::Text(one), Rank::Text(other)) => Some(one.cmp(other)),
-        _ => None,
-    }
-}
-
-// The refusal to compare two keys.
-fn unordered(
-    alloc: Global,
-    first: Option<&Value>,
-    second: Option<&Value>,
-) -> Result<String, AllocError>
-    ensures { IfOk result (λ text. string_bytes text ≡ unordered (lent_val first.entry) (lent_val second.entry)) }
-{
-    let mut text = String::from_str(alloc, "cannot compare ")?;
-    text.push_str(kind(first))?;
-    text.push_str(" with ")?;
-    text.push_str(kind(second))?;
-    Ok(text)
-}
-
-// What a message calls the kind of a key.
-fn kind(key: Option<&Value>) -> &'static str
-    ensures { result.now ≡ kind_word (lent_val key.entry) }
-{
-    match key {
-        Some(value) => value.human(),
-        None => "none",
     }
 }
 
@@ -141,13 +98,14 @@ fn sort(rows: &mut Vec<Row>) -> Result<(), AllocError>
     rows.sort_by(|one, other| compare(one.rank, other.rank))
 }
 
-// How two ranks are ordered; of two that `order` does not order, an integer comes first, then a text.
+// How two ranks are ordered: an integer before a text, and both before others.
 fn compare(first: Rank, second: Rank) -> Ordering
     ensures { result ≡ rank_cmp (rank_val first.entry) (rank_val second.entry) }
 {
-    match order(first, second) {
-        Some(order) => order,
-        None => place(first).cmp(&place(second)),
+    match (first, second) {
+        (Rank::Integer(one), Rank::Integer(other)) => one.cmp(&other),
+        (Rank::Text(one), Rank::Text(other)) => one.cmp(other),
+        _ => place(first).cmp(&place(second)),
     }
 }
 
