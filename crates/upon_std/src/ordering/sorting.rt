@@ -1,12 +1,12 @@
 // Sorts lists. What is sorted are rows of an item that is lent and of what it is sorted by, so that no comparison looks
 // into the item; the items are copied in the order of their rows.
-ghost use Rattle.std.specs.Prelude.{◌≡◌, IfOk, OnOk, map, option_map, string_bytes};
+ghost use Rattle.std.specs.Prelude.{◌≡◌, IfOk, OnOk, map};
 ghost use Rattle.std.specs.Ordering.{is_lt};
 ghost use Rattle.upon_types.specs.View.{view};
 ghost use Rattle.upon_std.specs.Ordering.Keys.{lent_val, key_val};
 ghost use Rattle.upon_std.specs.Ordering.Ranks.{kind_rank, rank_cmp};
-ghost use Rattle.upon_std.specs.Ordering.Rows.{rank_val, ranked, row_key, row_item, AreRows};
-ghost use Rattle.upon_std.specs.Ordering.Sorting.{ascending, keys_refusal, sorted_by, IsSortedList};
+ghost use Rattle.upon_std.specs.Ordering.Rows.{rank_val, ranked, row_key, row_item, AreRowsOrRefusal};
+ghost use Rattle.upon_std.specs.Ordering.Sorting.{ascending, sorted_by, IsSortedList};
 
 use crate::basic::order::{order, refusal as unordered};
 use crate::ordering::keys::Key;
@@ -38,31 +38,45 @@ pub(crate) fn sorted(
 ) -> Result<Result<Vec<Value>, String>, AllocError>
     ensures { IfOk result (λ made. IsSortedList made (sorted_by (key_val key.entry) (map view items.now))) }
 {
-    if let Some(text) = refusal(alloc, items, key)? {
-        return Ok(Err(text));
-    }
-    let mut rows = rows(alloc, items, key)?;
+    let mut rows = match rows(alloc, items, key)? {
+        Ok(rows) => rows,
+        Err(text) => return Ok(Err(text)),
+    };
     sort(&mut rows)?;
     Ok(Ok(copied(alloc, &rows)?))
 }
 
-// The refusal to sort items, if the key of one cannot be compared with the key of the first.
-fn refusal(alloc: Global, items: &[Value], key: Key) -> Result<Option<String>, AllocError>
-    ensures { IfOk result (λ text. option_map string_bytes text
-        ≡ keys_refusal (map (key_val key.entry) (map view items.now))) }
+// The items with the ranks of their keys, or the refusal to sort them if one key cannot be compared with the first.
+fn rows<'a>(
+    alloc: Global,
+    items: &'a [Value],
+    key: Key,
+) -> Result<Result<Vec<Row<'a>>, String>, AllocError>
+    ensures { IfOk result (λ made. AreRowsOrRefusal made (key_val key.entry) (map view items.now)) }
 {
+    let mut rows = Vec::with_capacity(alloc, items.len())?;
     let Some((first, others)) = items.split_first() else {
-        return Ok(None);
+        return Ok(Ok(rows));
     };
     let none = Value::None;
-    let first = key.of(first).unwrap_or(&none);
+    let first_key = key.of(first);
+    let first_value = first_key.unwrap_or(&none);
+    rows.push(Row {
+        rank: rank_of(first_key),
+        item: first,
+    })?;
     for item in others {
-        let other = key.of(item).unwrap_or(&none);
-        if order(first, other).is_none() {
-            return Ok(Some(unordered(alloc, first, other)?));
+        let other_key = key.of(item);
+        let other = other_key.unwrap_or(&none);
+        if order(first_value, other).is_none() {
+            return Ok(Err(unordered(alloc, first_value, other)?));
         }
+        rows.push(Row {
+            rank: rank_of(other_key),
+            item,
+        })?;
     }
-    Ok(None)
+    Ok(Ok(rows))
 }
 
 // The rank of a key.
@@ -74,20 +88,6 @@ fn rank_of<'a>(key: Option<&'a Value>) -> Rank<'a>
         Some(Value::String(text)) => Rank::Text(text.as_str()),
         _ => Rank::Other,
     }
-}
-
-// The items with the ranks of their keys.
-fn rows<'a>(alloc: Global, items: &'a [Value], key: Key) -> Result<Vec<Row<'a>>, AllocError>
-    ensures { IfOk result (λ rows. AreRows (key_val key.entry) (map view items.now) rows.items) }
-{
-    let mut rows = Vec::with_capacity(alloc, items.len())?;
-    for item in items {
-        rows.push(Row {
-            rank: rank_of(key.of(item)),
-            item,
-        })?;
-    }
-    Ok(rows)
 }
 
 // Sorts rows by the ranks of their keys.

@@ -12,13 +12,10 @@ use Rattle.upon_std.specs.Ordering.Grouping.{members}
 use Rattle.upon_std.specs.Ordering.Groups.{added_at, group_parts, parted}
 use Rattle.upon_std.specs.Ordering.Keys.{lent_val}
 use Rattle.upon_std.specs.Ordering.Places.{place_met}
+use Rattle.upon_std.proofs.OrderingLemmas.Absent.{value_or_none}
 use Rattle.upon_std.proofs.OrderingLemmas.Meeting.{next_place, place_in, place_is, places_after, distinct_met, one_more}
 use Rattle.upon_std.proofs.OrderingLemmas.Parting.{parted_more}
 use Rattle.upon_std.proofs.ordering.grouping.groups.Goals as goal
-
-value_or_none : (found : Option (Bor Value)) (none : Bor Value) → view none.now ≡ none_val → view (unwrap_or found none).now ≡ lent_val found
-value_or_none None none is = is
-value_or_none (Some value) none is = refl
 
 pub loop-item-preserved : goal.loop-item-preserved
 loop-item-preserved c =
