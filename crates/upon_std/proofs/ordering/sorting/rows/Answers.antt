@@ -1,10 +1,9 @@
-use Rattle.std.proofs.Common.{◌≡◌, Option, Some, None, Bor, refl, ap, sym, ◌∙◌, arith}
+use Rattle.std.proofs.Common.{Bor, refl, ap, sym, ◌∙◌, arith}
 use Rattle.std.specs.Prelude.{is_some, not}
-use Rattle.upon_types.specs.Val.{none_val}
 use Rattle.upon_types.specs.View.{view}
 use Rattle.upon_types.specs.declared.value.Value.{Value}
 use Rattle.upon_types.proofs.Views.{view-None}
-use Rattle.upon_std.specs.Ordering.Keys.{lent_val, key_val}
+use Rattle.upon_std.specs.Ordering.Keys.{key_val}
 use Rattle.upon_std.specs.Ordering.Rows.{ranked}
 use Rattle.upon_std.proofs.OrderingLemmas.Absent.{value_or_none}
 use Rattle.upon_std.proofs.OrderingLemmas.SortedRows.{one_row_more, all_rows, one_like_more}

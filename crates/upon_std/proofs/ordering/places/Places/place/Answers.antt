@@ -1,10 +1,9 @@
 use Rattle.std.proofs.Common.{◌≡◌, Result, Ok, Err, IfOk, w64, to_z, of_z, ap, sym, ◌∙◌, arith}
 use Rattle.std.proofs.lemmas.Int.{ints}
 use Rattle.std.specs.Prelude.{unwrap_or}
-use Rattle.upon_types.specs.Val.{none_val, int_val, text_val}
+use Rattle.upon_types.specs.Val.{int_val, text_val}
 use Rattle.upon_types.specs.View.{view}
-use Rattle.upon_types.proofs.Views.{view-None, view-Integer, view-String}
-use Rattle.upon_std.specs.Ordering.Places.{place_met}
+use Rattle.upon_types.proofs.Views.{view-Integer, view-String}
 use Rattle.upon_std.specs.Ordering.Spelling.{spelling}
 use Rattle.upon_std.proofs.OrderingLemmas.Placing.{found_at, of_same, integer_placed, text_placed, other_placed, is_spelled, spelled_place}
 use Rattle.upon_std.proofs.ordering.places.Places.place.Goals as goal
