@@ -1,10 +1,13 @@
+pub mod Absent
 pub mod Rising
 pub mod Ranks
+pub mod SortedRows
 pub mod Repeats
 pub mod PartSpelling
 pub mod Readings
-pub mod Seen
 pub mod Giving
 pub mod LawLemmas
+pub mod Placing
+pub mod Meeting
+pub mod Parting
 pub mod Groups
-pub mod Storing

@@ -7,6 +7,6 @@ pub mod integers;
 mod joined;
 pub mod laws;
 pub mod lists;
-mod order;
+pub(crate) mod order;
 pub mod table;
 pub mod texts;

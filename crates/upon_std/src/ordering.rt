@@ -6,5 +6,6 @@ mod grouping;
 mod keys;
 pub mod laws;
 pub mod orders;
+mod places;
 mod sorting;
 mod spelling;

@@ -1,5 +1,5 @@
 -- The rank of values is a total order, and that of integers and of texts; of keys that compare with one it is the order.
-use Rattle.std.proofs.Common.{◌≡◌, ℕ, List, [], ◌∷◌, Option, Some, None, Ok, option_map, map, Ordering, Less, Equal, Greater, nat_cmp, int_cmp, refl, ap, sym, ◌∙◌}
+use Rattle.std.proofs.Common.{◌≡◌, List, [], ◌∷◌, Option, Some, None, option_map, map, Ordering, Less, Equal, Greater, nat_cmp, int_cmp, refl, ap}
 use Rattle.std.specs.Cmp.{IsTotalOrder, IsStrictWeakOrder, on_total, then_total, nat_cmp_total, int_cmp_total}
 use Rattle.std.specs.Cmp.Lexicographic.{slice_cmp, on_texts}
 use Rattle.std.specs.List.{AllByRecursion}
@@ -8,7 +8,7 @@ use Rattle.std.proofs.lemmas.List.Sorted.{ranks_by}
 use Rattle.upon_types.specs.Val.{Val, int_val, text_val}
 use Rattle.upon_std.specs.Basic.Order.{order_of, unordered}
 use Rattle.upon_std.specs.Ordering.Ranks.{kind_rank, integer_in, bytes_in, rank_cmp}
-use Rattle.upon_std.specs.Ordering.Sorting.{ascending, is_below, unless_ordered, first_unlike, keys_refusal, values_or_refusal, sorted_by}
+use Rattle.upon_std.specs.Ordering.Sorting.{ascending, is_below, unless_ordered, first_unlike, keys_refusal}
 use Rattle.upon_std.proofs.OrderingLemmas.Rising.{ascending_agree}
 
 pub rank_total : IsTotalOrder rank_cmp
@@ -74,11 +74,3 @@ ranked_is_sorted key (v ∷ w ∷ ws) none =
     let first = like_itself (key v) (key w) likes.0 in
     ascending_agree (λ x. IsLike (key v) (key x)) (λ x y. is_lt (rank_cmp (key x) (key y))) (λ x y. is_below (key x) (key y))
     (λ x y p q. like_ordered (key v) (key x) (key y) p q) (v ∷ w ∷ ws) (by_keys (IsLike (key v)) key (v ∷ w ∷ ws) (first, likes))
-
--- the copies of items that are not refused, in order
-pub made_sorted : (key : Val → Val) (vs copies made : List Val) (refused : Option (List ℕ)) → refused ≡ keys_refusal (map key vs) → refused ≡ None
-    → copies ≡ vs → made ≡ ascending (λ v w. is_lt (rank_cmp (key v) (key w))) copies → sorted_by key vs ≡ Ok made
-made_sorted key vs copies made refused is none copied sorted =
-    let kept = sym is ∙ none in
-    ap (λ o. values_or_refusal o (ascending (λ v w. is_below (key v) (key w)) vs)) kept
-    ∙ ap Ok (sym (ranked_is_sorted key vs kept) ∙ sym (ap (ascending (λ v w. is_lt (rank_cmp (key v) (key w)))) copied) ∙ sym sorted)

@@ -1,5 +1,5 @@
 -- What values are sorted and grouped by.
-use Rattle.std.specs.Prelude.{ℕ, List, Option, option_map, unwrap_or}
+use Rattle.std.specs.Prelude.{Option, option_map, unwrap_or}
 use denote.Ref.{Bor}
 use Rattle.upon_types.specs.Val.{Val, none_val}
 use Rattle.upon_types.specs.View.{view}

@@ -4,9 +4,8 @@ ghost use Rattle.upon_types.specs.Same.{val_eq};
 ghost use Rattle.upon_types.specs.View.{view};
 ghost use Rattle.upon_std.specs.Ordering.Distinct.{distinct};
 
-use crate::ordering::spelling::spelling;
+use crate::ordering::places::Places;
 use std::alloc::{AllocError, Global};
-use std::collections::BTreeSet;
 use upon_types::value::Value;
 
 // A copy of the first of items that are the same, in their order.
@@ -14,10 +13,11 @@ pub(crate) fn distinct(alloc: Global, items: &[Value]) -> Result<Vec<Value>, All
     ensures { IfOk result (λ kept. map view kept.items ≡ distinct val_eq (map view items.now)) }
 {
     let mut kept = Vec::new(alloc);
-    let mut seen = BTreeSet::new(alloc);
+    let mut places = Places::new(alloc);
     for item in items {
-        let is_new = seen.insert(spelling(alloc, item)?)?;
-        if is_new {
+        let next = kept.len();
+        let place = places.place(alloc, item, next)?;
+        if place == next {
             kept.push(item.try_clone()?)?;
         }
     }

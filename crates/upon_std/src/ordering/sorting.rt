@@ -1,18 +1,34 @@
-// Sorts lists.
-ghost use Rattle.std.specs.Prelude.{◌≡◌, ◌++◌, IfOk, OnOk, codes, map, option_map, string_bytes};
+// Sorts lists. What is sorted are rows of an item that is lent and of what it is sorted by, so that no comparison looks
+// into the item; the items are copied in the order of their rows.
+ghost use Rattle.std.specs.Prelude.{◌≡◌, IfOk, OnOk, map};
 ghost use Rattle.std.specs.Ordering.{is_lt};
-ghost use Rattle.upon_types.specs.Val.{kind_word};
 ghost use Rattle.upon_types.specs.View.{view};
 ghost use Rattle.upon_std.specs.Ordering.Keys.{lent_val, key_val};
-ghost use Rattle.upon_std.specs.Basic.Order.{order_of, unordered};
 ghost use Rattle.upon_std.specs.Ordering.Ranks.{kind_rank, rank_cmp};
-ghost use Rattle.upon_std.specs.Ordering.Sorting.{ascending, keys_refusal, sorted_by, IsSortedList};
+ghost use Rattle.upon_std.specs.Ordering.Rows.{rank_val, ranked, row_key, row_item, AreRowsOrRefusal};
+ghost use Rattle.upon_std.specs.Ordering.Sorting.{ascending, sorted_by, IsSortedList};
 
-use crate::basic::copies::copy_items;
+use crate::basic::order::{order, refusal as unordered};
 use crate::ordering::keys::Key;
 use std::alloc::{AllocError, Global};
 use std::cmp::Ordering;
 use upon_types::value::Value;
+
+// A key, as far as items are sorted by it.
+#[derive(Clone, Copy)]
+enum Rank<'a> {
+    Integer(i64),
+    Text(&'a str),
+    // Any other key. There is one only where no two items are compared.
+    Other,
+}
+
+// An item, and the rank of its key.
+#[derive(Clone, Copy)]
+struct Row<'a> {
+    rank: Rank<'a>,
+    item: &'a Value,
+}
 
 // A copy of the items in ascending order of their keys, or the refusal to sort them.
 pub(crate) fn sorted(
@@ -22,93 +38,95 @@ pub(crate) fn sorted(
 ) -> Result<Result<Vec<Value>, String>, AllocError>
     ensures { IfOk result (λ made. IsSortedList made (sorted_by (key_val key.entry) (map view items.now))) }
 {
-    if let Some(text) = refusal(alloc, items, key)? {
-        return Ok(Err(text));
-    }
-    let mut copies = copy_items(alloc, items)?;
-    sort(&mut copies, key)?;
-    Ok(Ok(copies))
-}
-
-// The refusal to sort items, if the key of one cannot be compared with the key of the first.
-fn refusal(alloc: Global, items: &[Value], key: Key) -> Result<Option<String>, AllocError>
-    ensures { IfOk result (λ text. option_map string_bytes text
-        ≡ keys_refusal (map (key_val key.entry) (map view items.now))) }
-{
-    let Some((first, others)) = items.split_first() else {
-        return Ok(None);
+    let mut rows = match rows(alloc, items, key)? {
+        Ok(rows) => rows,
+        Err(text) => return Ok(Err(text)),
     };
-    let first = key.of(first);
-    for item in others {
-        let other = key.of(item);
-        if order(first, other).is_none() {
-            return Ok(Some(unordered(alloc, first, other)?));
-        }
-    }
-    Ok(None)
+    sort(&mut rows)?;
+    Ok(Ok(copied(alloc, &rows)?))
 }
 
-// How two keys are ordered, if they are.
-fn order(first: Option<&Value>, second: Option<&Value>) -> Option<Ordering>
-    ensures { result ≡ order_of (lent_val first.entry) (lent_val second.entry) }
+// The items with the ranks of their keys, or the refusal to sort them if one key cannot be compared with the first.
+fn rows<'a>(
+    alloc: Global,
+    items: &'a [Value],
+    key: Key,
+) -> Result<Result<Vec<Row<'a>>, String>, AllocError>
+    ensures { IfOk result (λ made. AreRowsOrRefusal made (key_val key.entry) (map view items.now)) }
+{
+    let mut rows = Vec::with_capacity(alloc, items.len())?;
+    let Some((first, others)) = items.split_first() else {
+        return Ok(Ok(rows));
+    };
+    let none = Value::None;
+    let first_key = key.of(first);
+    let first_value = first_key.unwrap_or(&none);
+    rows.push(Row {
+        rank: rank_of(first_key),
+        item: first,
+    })?;
+    for item in others {
+        let other_key = key.of(item);
+        let other = other_key.unwrap_or(&none);
+        if order(first_value, other).is_none() {
+            return Ok(Err(unordered(alloc, first_value, other)?));
+        }
+        rows.push(Row {
+            rank: rank_of(other_key),
+            item,
+        })?;
+    }
+    Ok(Ok(rows))
+}
+
+// The rank of a key.
+fn rank_of<'a>(key: Option<&'a Value>) -> Rank<'a>
+    ensures { rank_val result ≡ ranked (lent_val key.entry) }
+{
+    match key {
+        Some(Value::Integer(number)) => Rank::Integer(*number),
+        Some(Value::String(text)) => Rank::Text(text.as_str()),
+        _ => Rank::Other,
+    }
+}
+
+// Sorts rows by the ranks of their keys.
+fn sort(rows: &mut Vec<Row>) -> Result<(), AllocError>
+    ensures { OnOk result (rows.new.items
+        ≡ ascending (λ one other. is_lt (rank_cmp (row_key one) (row_key other))) rows.old.items) }
+{
+    rows.sort_by(|one, other| compare(one.rank, other.rank))
+}
+
+// How two ranks are ordered: an integer before a text, and both before others.
+fn compare(first: Rank, second: Rank) -> Ordering
+    ensures { result ≡ rank_cmp (rank_val first.entry) (rank_val second.entry) }
 {
     match (first, second) {
-        (Some(Value::Integer(one)), Some(Value::Integer(other))) => Some(one.cmp(other)),
-        (Some(Value::String(one)), Some(Value::String(other))) => Some(one.cmp(other)),
-        _ => None,
+        (Rank::Integer(one), Rank::Integer(other)) => one.cmp(&other),
+        (Rank::Text(one), Rank::Text(other)) => one.cmp(other),
+        _ => place(first).cmp(&place(second)),
     }
 }
 
-// The refusal to compare two keys.
-fn unordered(
-    alloc: Global,
-    first: Option<&Value>,
-    second: Option<&Value>,
-) -> Result<String, AllocError>
-    ensures { IfOk result (λ text. string_bytes text ≡ unordered (lent_val first.entry) (lent_val second.entry)) }
+// The place of a rank's kind among the kinds.
+fn place(rank: Rank) -> u8
+    ensures { result ≡ kind_rank (rank_val rank.entry) }
 {
-    let mut text = String::from_str(alloc, "cannot compare ")?;
-    text.push_str(kind(first))?;
-    text.push_str(" with ")?;
-    text.push_str(kind(second))?;
-    Ok(text)
-}
-
-// What a message calls the kind of a key.
-fn kind(key: Option<&Value>) -> &'static str
-    ensures { result.now ≡ kind_word (lent_val key.entry) }
-{
-    match key {
-        Some(value) => value.human(),
-        None => "none",
+    match rank {
+        Rank::Integer(_) => 0,
+        Rank::Text(_) => 1,
+        Rank::Other => 2,
     }
 }
 
-// Sorts items by the rank of their keys.
-fn sort(items: &mut Vec<Value>, key: Key) -> Result<(), AllocError>
-    ensures { OnOk result (map view items.new.items
-        ≡ ascending (λ v w. is_lt (rank_cmp (key_val key.entry v) (key_val key.entry w))) (map view items.old.items)) }
+// Copies of the items of rows.
+fn copied(alloc: Global, rows: &[Row]) -> Result<Vec<Value>, AllocError>
+    ensures { IfOk result (λ copies. map view copies.items ≡ map row_item rows.now) }
 {
-    items.sort_by(|one, other| compare(key.of(one), key.of(other)))
-}
-
-// How two keys are ordered; of two that `order` does not order, an integer comes first, then a text.
-fn compare(first: Option<&Value>, second: Option<&Value>) -> Ordering
-    ensures { result ≡ rank_cmp (lent_val first.entry) (lent_val second.entry) }
-{
-    match order(first, second) {
-        Some(order) => order,
-        None => rank(first).cmp(&rank(second)),
+    let mut copies = Vec::with_capacity(alloc, rows.len())?;
+    for row in rows {
+        copies.push(row.item.try_clone()?)?;
     }
-}
-
-// The place of a key's kind among the kinds.
-fn rank(key: Option<&Value>) -> u8
-    ensures { result ≡ kind_rank (lent_val key.entry) }
-{
-    match key {
-        Some(Value::Integer(_)) => 0,
-        Some(Value::String(_)) => 1,
-        _ => 2,
-    }
+    Ok(copies)
 }

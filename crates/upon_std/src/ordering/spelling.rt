@@ -15,22 +15,11 @@ pub(crate) fn spelling(alloc: Global, value: &Value) -> Result<Vec<u64>, AllocEr
     ensures { IfOk result (λ numbers. numbers.items ≡ spelling (view value.now)) }
 {
     let mut numbers = Vec::new(alloc);
-    match value {
-        Value::List(_) | Value::Map(_) => spell_parts(alloc, value, &mut numbers)?,
-        _ => spell_leaf(value, &mut numbers)?,
-    }
-    Ok(numbers)
-}
-
-// Appends the spelling of a value, part by part.
-fn spell_parts(alloc: Global, value: &Value, numbers: &mut Vec<u64>) -> Result<(), AllocError>
-    ensures { OnOk result (numbers.new.items ≡ numbers.old.items ++ spelling (view value.now)) }
-{
     let mut walk = Walk::over(alloc, value);
     while let Some(part) = walk.next_part()? {
-        spell_part(part, numbers)?;
+        spell_part(part, &mut numbers)?;
     }
-    Ok(())
+    Ok(numbers)
 }
 
 // Appends the spelling of a part.

@@ -1,52 +1,39 @@
-use Rattle.std.proofs.Common.{◌≡◌, ◌+◌, ◌++◌, [], ◌∷◌, Vec, Global, map, drop, ap, sym, subst, ◌∙◌, arith}
-use Rattle.std.proofs.lemmas.List.{map-append}
+use Rattle.std.proofs.Common.{◌≡◌, ◌++◌, [], ◌∷◌, length, Vec, Global, map, take, refl, ap, sym, ◌∙◌, arith}
+use Rattle.std.specs.Prelude.{unwrap_or}
+use Rattle.std.proofs.lemmas.List.{map-append, length-map}
+use Rattle.upon_types.specs.Same.{val_eq}
 use Rattle.upon_types.specs.View.{view}
 use Rattle.upon_types.specs.declared.value.Value.{Value}
-use Rattle.upon_std.proofs.OrderingLemmas.Repeats.{val_eq-Decides, kept_of, none_kept, all_kept, one_skipped, one_kept}
-use Rattle.upon_std.proofs.OrderingLemmas.Seen.{HasSpelled, none_seen, one_again, one_more, is_among, is_not_among}
+use Rattle.upon_std.specs.Ordering.Distinct.{distinct}
+use Rattle.upon_std.specs.Ordering.Places.{place_met}
+use Rattle.upon_std.proofs.OrderingLemmas.Meeting.{has, next_place, place_in, met, place_is, places_after, distinct_met, met_first, met_again, one_more}
 use Rattle.upon_std.proofs.ordering.distinct.distinct.Goals as goal
-use Rattle.upon_std.proofs.ordering.distinct.distinct.Goals.{then-is_new+in_ok-try_clone+in_ok-push, else-is_new}
-
-pub loop-item-init : goal.loop-item-init
-loop-item-init c =
-    let none = ap (map view) c.new-kept.ensures.items in
-    record {
-      kept = none_kept view val_eq-Decides (map view c.new-kept.result.items) c.args.items.now none;
-      seen = none_seen c.new-seen.result (map view c.new-kept.result.items) c.new-seen.ensures.empty none;
-    }
-
-pub returns : goal.returns
-returns c = all_kept view val_eq-Decides (map view c.loop-item.kept.items) c.args.items.now c.loop-item.item-index _ (omega arith) c.loop-item.invariant.kept
+use Rattle.upon_std.proofs.ordering.distinct.distinct.Goals.{then-place-next+in_ok-try_clone+in_ok-push, else-place-next}
 
 pub loop-item-preserved : goal.loop-item-preserved
 loop-item-preserved c =
     let items = c.args.items.now in
     let i = c.loop-item.item-index in
-    let x = c.item-item.result in
+    let x = view c.item-item.result in
     let kept = c.loop-item.kept.items in
-    let key = c.in_ok-spelling.field-0 in
-    let new = c.insert.new.self in
-    let next = λ (k : Vec Value Global). kept_of view val_eq-Decides (map view k.items) (drop (i + 1) items) in
-    let has = λ (k : Vec Value Global). HasSpelled new (map view k.items) in
-    let updates = c.in_ok-is_new.ensures.updates.0 in
-    let found = c.loop-item.invariant.seen key (view x) c.in_ok-spelling.ensures in
-    elim c.if-is_new.branch [
-      | then-is_new+in_ok-try_clone+in_ok-push w ↦
-          (let pushed : map view w.push.new.self.items ≡ map view kept ++ view x ∷ [] =
-          ap (map view) w.in_ok-push.ensures.items ∙ map-append view kept _ ∙ ap (λ v. map view kept ++ v ∷ []) w.in_ok-try_clone.ensures in
-          let unseen = sym found ∙ is_not_among _ _ c.in_ok-is_new.ensures.added w.if-is_new.true in
-          record {
-            kept = ap next w.kept-is ∙ ap (λ ks. kept_of view val_eq-Decides ks (drop (i + 1) items)) pushed
-                ∙ one_kept view val_eq-Decides (map view kept) items i x _ (omega arith) c.item-item.is unseen c.loop-item.invariant.kept;
-            seen = subst has (sym w.kept-is) (subst (HasSpelled new) (sym pushed)
-                (one_more c.loop-item.seen new (map view kept) key (view x) c.in_ok-spelling.ensures updates c.loop-item.invariant.seen));
-          })
-      | else-is_new w ↦
-          (let seen = sym found ∙ is_among _ _ c.in_ok-is_new.ensures.added w.if-is_new.false in
-          record {
-            kept = ap next w.kept-is
-                ∙ one_skipped view val_eq-Decides (map view kept) items i x _ (omega arith) c.item-item.is seen c.loop-item.invariant.kept;
-            seen = subst has (sym w.kept-is)
-                (one_again c.loop-item.seen new (map view kept) key (view x) c.in_ok-spelling.ensures updates seen c.loop-item.invariant.seen);
-          })
-    ]
+    let ks = map view kept in
+    let next : c.len-next.result ≡ length ks = omega (arith, c.len-next.ensures, c.loop-item.kept.ok.0, length-map kept view) in
+    let found : c.in_ok-place.place ≡ unwrap_or (place_met c.loop-item.places x) (length ks) =
+    c.in_ok-place.ensures.found ∙ ap (unwrap_or (place_met c.loop-item.places x)) next in
+    let place : c.in_ok-place.place ≡ next_place ks x = found ∙ ap (λ o. unwrap_or o (length ks)) (c.loop-item.invariant.places x) ∙ place_is ks x in
+    let made : map view c.if-place-next.kept.items ≡ met ks x =
+    elim c.if-place-next.branch [
+      | then-place-next+in_ok-try_clone+in_ok-push w ↦
+          (ap (λ (k : Vec Value Global). map view k.items) w.kept-is ∙ ap (map view) w.in_ok-push.ensures.items ∙ map-append view kept _
+          ∙ ap (λ v. ks ++ v ∷ []) w.in_ok-try_clone.ensures ∙ met_first ks x (has ks x) refl (sym place ∙ w.if-place-next.true ∙ next))
+      | else-place-next w ↦
+          (ap (λ (k : Vec Value Global). map view k.items) w.kept-is
+          ∙ met_again ks x (has ks x) refl (λ e. w.if-place-next.false (place ∙ e ∙ sym next)))
+    ] in
+    let after = places_after (place_met c.loop-item.places) (place_met c.place.new.self) ks x c.in_ok-place.place c.loop-item.invariant.places found
+    c.in_ok-place.ensures.updates in
+    record {
+      kept = made ∙ ap (λ js. met js x) c.loop-item.invariant.kept ∙ sym (distinct_met (map view (take i items)) x)
+          ∙ sym (ap (distinct val_eq) (one_more items i c.item-item.result (omega arith) c.item-item.is));
+      places = λ v. after v ∙ ap (λ js. place_in js v) (sym made);
+    }

@@ -1,10 +1,9 @@
-use Rattle.std.proofs.Common.{Result, Ok, Err, OnOk, map, ap, ◌∙◌, rules}
+use Rattle.std.proofs.Common.{Result, Ok, Err, OnOk, rules}
 use Rattle.std.specs.Ordering.{is_lt}
-use Rattle.upon_types.specs.View.{view}
-use Rattle.upon_types.specs.declared.value.Value.{Value}
-use Rattle.upon_std.specs.Ordering.Keys.{key_val}
 use Rattle.upon_std.specs.Ordering.Ranks.{rank_cmp}
-use Rattle.upon_std.proofs.OrderingLemmas.Rising.{sorted_by_closure, ascending-map}
+use Rattle.upon_std.specs.Ordering.Rows.{row_key}
+use Rattle.upon_std.specs.declared.ordering.sorting.Row.{Row}
+use Rattle.upon_std.proofs.OrderingLemmas.Rising.{sorted_by_closure}
 use Rattle.upon_std.proofs.OrderingLemmas.Ranks.{rank_weak}
 use Rattle.upon_std.proofs.ordering.sorting.sort.Goals as goal
 
@@ -14,10 +13,7 @@ on_ok (Err e) f p = tt
 
 pub returns : goal.returns
 returns c =
-    let key = c.args.key in
     on_ok c.sort_by.result
-    (λ up. ap (map view)
-    (sorted_by_closure (λ (x y : Value). is_lt (rank_cmp (key_val key (view x)) (key_val key (view y)))) (rank_weak (λ (x : Value). key_val key (view x)))
-    c.args.items.now.items c.sort_by.new.self.items up c.sort_by.ensures.stable (λ a r f' q. search rules))
-    ∙ ascending-map view (λ v w. is_lt (rank_cmp (key_val key v) (key_val key w))) c.args.items.now.items)
+    (λ up. sorted_by_closure (λ (one other : Row). is_lt (rank_cmp (row_key one) (row_key other))) (rank_weak row_key)
+    c.args.rows.now.items c.sort_by.new.self.items up c.sort_by.ensures.stable (λ a r f' q. search rules))
     c.sort_by.ensures.sorted

@@ -1,15 +1,14 @@
-use Rattle.std.proofs.Common.{◌≡◌, Option, Some, None, map, option_map, string_bytes, refl, ap}
+use Rattle.std.proofs.Common.{map, ap, subst, ◌∙◌}
 use Rattle.upon_types.specs.View.{view}
 use Rattle.upon_std.specs.Ordering.Keys.{key_val}
-use Rattle.upon_std.proofs.OrderingLemmas.Ranks.{made_sorted}
+use Rattle.upon_std.specs.Ordering.Rows.{row_item, AreRowsOrRefusal}
+use Rattle.upon_std.proofs.OrderingLemmas.SortedRows.{rows_sorted}
 use Rattle.upon_std.proofs.ordering.sorting.sorted.Goals as goal
-
-not_some : {A : Type 0} (o : Option A) → ((x : A) → o ≡ Some x → ⊥) → o ≡ None
-not_some None h = refl
-not_some (Some x) h = absurd (h x refl)
 
 pub returns : goal.returns
 returns c =
-    let none = not_some c.in_ok-text.field-0 c.in_default.not-Some in
-    made_sorted (key_val c.args.key) (map view c.args.items.now) (map view c.in_ok-copies.copies.items) (map view c.sort.new.items.items) _
-    c.in_ok-text.ensures (ap (option_map string_bytes) none) c.in_ok-copies.ensures c.in_ok-sort.ensures
+    let key = key_val c.args.key in
+    let vs = map view c.args.items.now in
+    let made = subst (λ r. AreRowsOrRefusal r key vs) c.in-Ok.is c.in_ok-rows.ensures in
+    rows_sorted key vs (map view c.in_ok-copied.field-0.items) c.in-Ok.rows.items c.sort.new.rows.items made.0 made.1
+    c.in_ok-sort.ensures (c.in_ok-copied.ensures ∙ ap (map row_item) c.deref.ensures.value)

@@ -1,7 +1,7 @@
 use Rattle.std.proofs.Common.{◌≡◌, ◌++◌, flat_map, length}
 use Rattle.upon_types.specs.Walked.{parts_left}
 use Rattle.upon_std.specs.Ordering.PartSpelling.{part_spelling}
-use Rattle.upon_std.proofs.ordering.spelling.spell_parts.Given as goal
+use Rattle.upon_std.proofs.ordering.spelling.spelling.Given as goal
 
 -- what is spelled so far, and after it the parts that are left, is the whole
 abbrev pub invariant-loop-walk : goal.invariant-loop-walk
