@@ -28,5 +28,5 @@ PutsBack covered now was = IsTrue (rises now) × IsTrue (rises was)
     × ((key : List ℕ) → all_put_back covered (λ key. entry_at key now) key ≡ entry_at key was)
 
 -- a map is made of entries that are what they were once all that was covered is put back
-abbrev pub IsLent : Laid → Entries → Type 0
-IsLent laid was = (now : Entries) × (view laid.value ≡ map_val now) × PutsBack laid.covered.items now was
+abbrev pub IsLaidOver : Laid → Entries → Type 0
+IsLaidOver laid was = (now : Entries) × (view laid.value ≡ map_val now) × PutsBack laid.covered.items now was

@@ -217,8 +217,8 @@ fn build_page<R: Sources + AllocGlobal, T: Targets>(
     context: &mut Value,
     page: Page<Source>,
 ) -> DonePage
-    ensures done { DoesPage (R.world rt.now) (⟦<AnyEngine as EngineTexts>⟧.texts engine.now) asked.now (view context.old)
-        page result (T.written targets.old) (T.written targets.new) }
+    ensures done { DoesPage (R.world rt.now) (⟦<AnyEngine as EngineTexts>⟧.texts engine.now) asked.now
+        (view context.old) page result (T.written targets.old) (T.written targets.new) }
     ensures kept { view context.new ≡ view context.old }
 {
     let Page { name, from } = page;

@@ -4,7 +4,7 @@ ghost use Rattle.std.specs.Prelude.{◌≡◌, ℕ, List, IfOk, OnErr, OnOk};
 ghost use Rattle.upon_types.specs.Conversions.{or_else};
 ghost use Rattle.upon_types.specs.Val.{Entries, entry_at};
 ghost use Rattle.upon_types.specs.View.{view, entries_view};
-ghost use Rattle.upon_tool_many.specs.Laid.{IsLent, PutsBack};
+ghost use Rattle.upon_tool_many.specs.Laid.{IsLaidOver, PutsBack};
 ghost use Rattle.upon_tool_many.specs.Values.{IsMapOfKeys};
 
 use std::alloc::{AllocError, Global};
@@ -33,7 +33,7 @@ pub struct Laid {
 impl Laid {
     /// Puts back what is covered, and the entries to where they were taken from. It takes no memory.
     pub fn put_back(self, entries: &mut BTreeMap<String, Value>)
-        ensures { (was : Entries) → IsLent self was → entries_view entries.new.entries ≡ was }
+        ensures { (was : Entries) → IsLaidOver self was → entries_view entries.new.entries ≡ was }
     {
         let Laid { value, covered } = self;
         if let Ok(lent) = value.into_entries() {
@@ -51,7 +51,7 @@ pub fn lay_over(
 ) -> Result<Laid, AllocError>
     ensures laid { IfOk result (λ laid. IsMapOfKeys (λ key. or_else (entry_at key (entries_view over.entries))
         (entry_at key (entries_view entries.old.entries))) (view laid.value)) }
-    ensures lent { IfOk result (λ laid. IsLent laid (entries_view entries.old.entries)) }
+    ensures lent { IfOk result (λ laid. IsLaidOver laid (entries_view entries.old.entries)) }
     ensures kept { OnErr result (entries_view entries.new.entries ≡ entries_view entries.old.entries) }
 {
     // Gives the proof that the keys are in order.

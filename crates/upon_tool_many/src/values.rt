@@ -2,7 +2,7 @@
 ghost use Rattle.std.specs.Prelude.{◌≡◌, ℕ, List, Some, option_map, IfOk, IfSome, IsNone, OnErr, string_bytes};
 ghost use Rattle.upon_types.specs.Val.{Vals, entry_at, key_of, list_val, map_val};
 ghost use Rattle.upon_types.specs.View.{view, vals_view, entries_view};
-ghost use Rattle.upon_tool_many.specs.Laid.{IsLent};
+ghost use Rattle.upon_tool_many.specs.Laid.{IsLaidOver};
 ghost use Rattle.upon_tool_many.specs.Values.{list_in, IsContentValue, IsItemValue, IsSplit};
 
 use crate::laid::{Laid, lay_over};
@@ -10,8 +10,8 @@ use std::alloc::{AllocError, Global};
 use std::collections::BTreeMap;
 use upon_types::value::{Value, clone_entries};
 
-/// Takes the other entries for the page of an item: lays the entries of the item over them, if it is a map, and the item
-/// itself under `item`. If there is no memory, the others are as they were.
+/// Takes the other entries for the page of an item: lays the entries of the item over them, if it is a map, and the
+/// item itself under `item`. If there is no memory, the others are as they were.
 pub fn item_value(
     alloc: Global,
     others: &mut BTreeMap<String, Value>,
@@ -19,7 +19,7 @@ pub fn item_value(
 ) -> Result<Laid, AllocError>
     ensures means { IfOk result
         (λ laid. IsItemValue (entries_view others.old.entries) (view item.now) (view laid.value)) }
-    ensures lent { IfOk result (λ laid. IsLent laid (entries_view others.old.entries)) }
+    ensures lent { IfOk result (λ laid. IsLaidOver laid (entries_view others.old.entries)) }
     ensures kept { OnErr result (entries_view others.new.entries ≡ entries_view others.old.entries) }
 {
     let mut over = own_entries(alloc, item)?;
@@ -48,7 +48,7 @@ pub fn content_value(
 ) -> Result<Laid, AllocError>
     ensures means { IfOk result (λ laid. IsContentValue (map_val (entries_view entries.old.entries)) (string_bytes text)
         (view laid.value)) }
-    ensures lent { IfOk result (λ laid. IsLent laid (entries_view entries.old.entries)) }
+    ensures lent { IfOk result (λ laid. IsLaidOver laid (entries_view entries.old.entries)) }
     ensures kept { OnErr result (entries_view entries.new.entries ≡ entries_view entries.old.entries) }
 {
     let mut over = BTreeMap::new(alloc);

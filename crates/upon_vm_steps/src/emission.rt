@@ -60,7 +60,6 @@ pub fn emit_value<C: Callables, W: Output>(
 
 /// Does the same of what a loop says of itself. It becomes a value only if the default formatter is not the plain one.
 pub fn emit_made<C: Callables, W: Output>(
-    alloc: Global,
     callables: &C,
     made: Made<'_>,
     span: Span,
@@ -81,7 +80,7 @@ pub fn emit_made<C: Callables, W: Output>(
             Err(_) => Err(Halt::Output),
         };
     }
-    match made.to_value(alloc) {
+    match made.to_value(f.allocator()) {
         Ok(value) => emit_formatted(callables, &value, span, f, out),
         Err(_) => Err(Halt::Memory),
     }
