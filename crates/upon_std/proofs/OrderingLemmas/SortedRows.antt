@@ -1,5 +1,5 @@
 -- The items of sorted rows are the sorted items.
-use Rattle.std.proofs.Common.{◌≡◌, ℕ, suc, ◌+◌, ◌<◌, ◌≤◌, true, List, [], ◌∷◌, ◌++◌, Option, Some, None, Ok, Ordering, length, get_or, map, option_map, take, drop, nat_cmp, int_cmp, refl, ap, sym, subst, ◌∙◌, arith}
+use Rattle.std.proofs.Common.{◌≡◌, ℕ, suc, ◌+◌, ◌<◌, ◌≤◌, true, false, List, [], ◌∷◌, ◌++◌, Option, Some, None, Ok, Ordering, length, get_or, map, option_map, take, drop, nat_cmp, int_cmp, refl, ap, sym, subst, ◌∙◌, arith}
 use Rattle.std.specs.Prelude.{is_some}
 use Rattle.std.specs.List.{AllByRecursion}
 use Rattle.std.proofs.lemmas.Bool.{false≢true}
@@ -113,3 +113,22 @@ one_like_more key others x v w i whole within is of_x some so_far =
     ∙ ap (λ u. unless_ordered (order_of v u) u later) of_x
     ∙ ap (λ y. first_unlike v (map key (map view (y ∷ drop (i + 1) others)))) is
     ∙ sym (at_drop_more (λ xs. first_unlike v (map key (map view xs))) others i x within) ∙ so_far
+
+unordered_next : (o : Option Ordering) (w : Val) (later : Option Val) → is_some o ≡ false → unless_ordered o w later ≡ Some w
+unordered_next (Some order) w later none = absurd (false≢true (sym none))
+unordered_next None w later none = refl
+
+-- the first item whose key does not compare with the first is the one that is refused
+pub refused_at : (key : Val → Val) (items others : List Value) (first x : Value) (v w : Val) (i : ℕ) → items ≡ first ∷ others → i < length others → x ≡ get_or others i x
+    → v ≡ key (view first) → w ≡ key (view x) → is_some (order_of v w) ≡ false
+    → first_unlike v (map key (map view (drop i others))) ≡ first_unlike v (map key (map view others))
+    → keys_refusal (map key (map view items)) ≡ Some (unordered v w)
+refused_at key items others first x v w i split within is of_first of_x none so_far =
+    let later = first_unlike v (map key (map view (drop (i + 1) others))) in
+    let unlike : first_unlike v (map key (map view others)) ≡ Some w =
+    sym so_far ∙ at_drop_more (λ xs. first_unlike v (map key (map view xs))) others i x within
+    ∙ ap (λ y. first_unlike v (map key (map view (y ∷ drop (i + 1) others)))) (sym is)
+    ∙ ap (λ u. unless_ordered (order_of v u) u later) (sym of_x) ∙ unordered_next (order_of v w) w later none in
+    ap (λ xs. keys_refusal (map key (map view xs))) split
+    ∙ ap (λ u. option_map (unordered u) (first_unlike u (map key (map view others)))) (sym of_first)
+    ∙ ap (option_map (unordered v)) unlike

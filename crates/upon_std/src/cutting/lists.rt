@@ -58,8 +58,7 @@ pub(crate) fn having(
 {
     let mut made = Vec::new(alloc);
     for item in items {
-        let has = has_at(alloc, item, key, wanted)?;
-        if has {
+        if has_at(alloc, item, key, wanted)? {
             made.push(item.try_clone()?)?;
         }
     }

@@ -16,8 +16,7 @@ pub(crate) fn distinct(alloc: Global, items: &[Value]) -> Result<Vec<Value>, All
     let mut places = Places::new(alloc);
     for item in items {
         let next = kept.len();
-        let place = places.place(alloc, item, next)?;
-        if place == next {
+        if places.place(alloc, item, next)? == next {
             kept.push(item.try_clone()?)?;
         }
     }

@@ -45,10 +45,7 @@ impl<'a> Places<'a> {
         match value {
             Value::Integer(number) => place_in(&mut self.integers, *number, next),
             Value::String(text) => place_in(&mut self.texts, text.as_str(), next),
-            other => {
-                let numbers = spelling(alloc, other)?;
-                place_in(&mut self.others, numbers, next)
-            }
+            other => place_in(&mut self.others, spelling(alloc, other)?, next),
         }
     }
 }

@@ -1,12 +1,11 @@
 // Sorts lists. What is sorted are rows of an item that is lent and of what it is sorted by, so that no comparison looks
 // into the item; the items are copied in the order of their rows.
-ghost use Rattle.std.specs.Prelude.{◌≡◌, IfOk, OnOk, map};
-ghost use Rattle.std.specs.Ordering.{is_lt};
+ghost use Rattle.std.specs.Prelude.{◌≡◌, IfOk, map};
 ghost use Rattle.upon_types.specs.View.{view};
 ghost use Rattle.upon_std.specs.Ordering.Keys.{lent_val, key_val};
-ghost use Rattle.upon_std.specs.Ordering.Ranks.{kind_rank, rank_cmp};
+ghost use Rattle.upon_std.specs.Ordering.Ranks.{rank_cmp};
 ghost use Rattle.upon_std.specs.Ordering.Rows.{rank_val, ranked, row_key, row_item, AreRowsOrRefusal};
-ghost use Rattle.upon_std.specs.Ordering.Sorting.{ascending, sorted_by, IsSortedList};
+ghost use Rattle.upon_std.specs.Ordering.Sorting.{sorted_by, IsSortedList};
 
 use crate::basic::order::{order, refusal as unordered};
 use crate::ordering::keys::Key;
@@ -42,7 +41,7 @@ pub(crate) fn sorted(
         Ok(rows) => rows,
         Err(text) => return Ok(Err(text)),
     };
-    sort(&mut rows)?;
+    rows.sort_by(|one, other| compare(one.rank, other.rank))?;
     Ok(Ok(copied(alloc, &rows)?))
 }
 
@@ -61,41 +60,29 @@ fn rows<'a>(
     let none = Value::None;
     let first_key = key.of(first);
     let first_value = first_key.unwrap_or(&none);
-    rows.push(Row {
-        rank: rank_of(first_key),
-        item: first,
-    })?;
+    rows.push(row_of(first_key, first))?;
     for item in others {
         let other_key = key.of(item);
         let other = other_key.unwrap_or(&none);
         if order(first_value, other).is_none() {
             return Ok(Err(unordered(alloc, first_value, other)?));
         }
-        rows.push(Row {
-            rank: rank_of(other_key),
-            item,
-        })?;
+        rows.push(row_of(other_key, item))?;
     }
     Ok(Ok(rows))
 }
 
-// The rank of a key.
-fn rank_of<'a>(key: Option<&'a Value>) -> Rank<'a>
-    ensures { rank_val result ≡ ranked (lent_val key.entry) }
+// The row of an item with a key.
+fn row_of<'a>(key: Option<&'a Value>, item: &'a Value) -> Row<'a>
+    ensures rank { row_key result ≡ ranked (lent_val key.entry) }
+    ensures item { row_item result ≡ view item.now }
 {
-    match key {
+    let rank = match key {
         Some(Value::Integer(number)) => Rank::Integer(*number),
         Some(Value::String(text)) => Rank::Text(text.as_str()),
         _ => Rank::Other,
-    }
-}
-
-// Sorts rows by the ranks of their keys.
-fn sort(rows: &mut Vec<Row>) -> Result<(), AllocError>
-    ensures { OnOk result (rows.new.items
-        ≡ ascending (λ one other. is_lt (rank_cmp (row_key one) (row_key other))) rows.old.items) }
-{
-    rows.sort_by(|one, other| compare(one.rank, other.rank))
+    };
+    Row { rank, item }
 }
 
 // How two ranks are ordered: an integer before a text, and both before others.
@@ -105,18 +92,9 @@ fn compare(first: Rank, second: Rank) -> Ordering
     match (first, second) {
         (Rank::Integer(one), Rank::Integer(other)) => one.cmp(&other),
         (Rank::Text(one), Rank::Text(other)) => one.cmp(other),
-        _ => place(first).cmp(&place(second)),
-    }
-}
-
-// The place of a rank's kind among the kinds.
-fn place(rank: Rank) -> u8
-    ensures { result ≡ kind_rank (rank_val rank.entry) }
-{
-    match rank {
-        Rank::Integer(_) => 0,
-        Rank::Text(_) => 1,
-        Rank::Other => 2,
+        (Rank::Integer(_), _) | (Rank::Text(_), Rank::Other) => Ordering::Less,
+        (Rank::Other, Rank::Other) => Ordering::Equal,
+        _ => Ordering::Greater,
     }
 }
 

@@ -1,7 +1,6 @@
 use Rattle.std.proofs.Common.{ap, ◌∙◌}
 use Rattle.std.proofs.lemmas.Result.{IfOk-weaker}
-use Rattle.upon_types.specs.View.{view, vals_of, vals_view}
-use Rattle.upon_std.specs.Cutting.Items.{sliced}
+use Rattle.upon_types.specs.View.{vals_of}
 use Rattle.upon_std.proofs.CuttingLemmas.Items.{cut_view}
 use Rattle.upon_std.proofs.cutting.lists.sliced.Goals as goal
 

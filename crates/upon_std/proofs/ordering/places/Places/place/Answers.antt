@@ -30,12 +30,12 @@ returns-in-String-clause-updates c =
     (text_placed c.args.self.now c.place_in-in-String.new.places c.as_str.result.now place up))
     c.place_in-in-String.ensures.updates
 
-pub returns-in_ok-numbers-in_default : goal.returns-in_ok-numbers-in_default
-returns-in_ok-numbers-in_default c =
+pub returns-in_ok-spelling-in_default : goal.returns-in_ok-spelling-in_default
+returns-in_ok-spelling-in_default c =
     let old = c.args.self.now in
     let v = view c.args.value.now in
-    let numbers = c.in_ok-numbers-in_default.numbers.items in
-    let of_v : numbers ≡ spelling v = c.in_ok-numbers-in_default.ensures in
+    let numbers = c.in_ok-spelling-in_default.field-0.items in
+    let of_v : numbers ≡ spelling v = c.in_ok-spelling-in_default.ensures in
     let spelled = is_spelled c.args.value.now c.in_default.not-Integer c.in_default.not-String in
     record {
       found = under_ok c.place_in-in_default.result
