@@ -42,7 +42,7 @@ pub work_each : (world : World) (work : Work) (value : Value) (asked : Bor Each)
     → Works world work e input status old old was now
 work_each world work value asked terminal e input status old was now is well = subst (λ work. Works world work e input status old old was now) (sym is) (refl, well)
 
-pub work_built : (world : World) (work : Work) (value : Value) (asked : Bor Build) (terminal : Bool) (e : Texts) (input : Option (List ℕ)) (status : ℕ) (old : Option (List ℕ)) (was now : Log) → work ≡ BuildWork value asked terminal → BuildIsWell world e (view value) asked.now status was now
+pub work_built : (world : World) (work : Work) (value : Bor Value) (asked : Bor Build) (terminal : Bool) (e : Texts) (input : Option (List ℕ)) (status : ℕ) (old : Option (List ℕ)) (was now : Log) → work ≡ BuildWork value asked terminal → BuildIsWell world e (view value.now) asked.now status was now
     → Works world work e input status old old was now
 work_built world work value asked terminal e input status old was now is well = subst (λ work. Works world work e input status old old was now) (sym is) (refl, well)
 

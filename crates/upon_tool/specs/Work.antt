@@ -113,7 +113,7 @@ module _ (world : World) where
   Works (EachWork value asked terminal) e input status old new was now =
       (new ≡ old) × EachIsWell world e (view value) asked.now status was now
   Works (BuildWork value asked terminal) e input status old new was now =
-      (new ≡ old) × BuildIsWell world e (view value) asked.now status was now
+      (new ≡ old) × BuildIsWell world e (view value.now) asked.now status was now
 
   -- one of some files gives no text, by what standard input had left at some time
   abbrev pub IsOneUnread : List (Bor (List ℕ)) → Bor (List ℕ) → ReadFault → Type 0

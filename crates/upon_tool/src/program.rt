@@ -366,7 +366,7 @@ fn run_build<'a, R: Sources + Clock + AllocGlobal, T: Targets, I: Read, O: Write
         rt,
         targets,
         templates,
-        Work::Build(value, &build, is_terminal),
+        Work::Build(&value, &build, is_terminal),
         input,
         out,
         err,

@@ -66,7 +66,7 @@ pub(crate) enum Work<'w, 'a> {
     /// A page is rendered for each item of a list of a value, and a user may wait for that at a terminal.
     Each(Value, &'w Each<'a>, bool),
     /// A folder is built into another, on a value; likewise.
-    Build(Value, &'w Build<'a>, bool),
+    Build(&'w Value, &'w Build<'a>, bool),
 }
 
 /// Puts templates into an engine, does a piece of work with it, and returns the status.

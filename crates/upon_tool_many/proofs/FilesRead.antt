@@ -1,5 +1,5 @@
 -- What is read and written of the files of paths.
-use Rattle.std.proofs.Common.{◌≡◌, ℕ, List, Bool, String, Vec, Global, Result, Ok, Err, IsErrAnd, sym, subst, inl}
+use Rattle.std.proofs.Common.{◌≡◌, ℕ, List, Bool, true, false, String, Vec, Global, Result, Ok, Err, IsErrAnd, sym, subst, inl, ◌∙◌}
 use Rattle.upon_tool_io.specs.World.{World, GivesBytes, GivesFileText, RefusesName}
 use Rattle.upon_tool_io.specs.Written.{Changes, Log}
 use Rattle.upon_tool_io.specs.declared.files.ReadFault.{ReadFault}

@@ -1,6 +1,5 @@
 pub mod Rows
 pub mod Keys
-pub mod LaidOver
 pub mod Paths
 pub mod Places
 pub mod Texts

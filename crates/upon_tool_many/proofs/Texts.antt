@@ -1,11 +1,10 @@
 -- The texts of pages.
 use Rattle.std.proofs.Common.{◌≡◌, ◌⊎◌, ℕ, List, Bor, Option, Some, None, Result, Ok, Err, IsErr, IfErr, IsErrAnd, IsSomeAnd, String, string_bytes, refl, sym, ap, subst}
 use Rattle.std.specs.declared.alloc.Global.{Global}
-use Rattle.std.specs.Prelude.{bytes_eq, if◌then◌else◌}
 use Rattle.upon_types.specs.Error.{fault_of}
 use Rattle.upon_types.specs.Fault.{out_of_memory}
 use Rattle.upon_types.specs.Tree.{Statements}
-use Rattle.upon_types.specs.Val.{Val, key_of, text_val}
+use Rattle.upon_types.specs.Val.{Val}
 use Rattle.upon_types.specs.declared.error.Error.{Error}
 use Rattle.upon_vm.specs.declared.limits.Limits.{Limits}
 use Rattle.upon_engine.specs.Texts.{Texts}
@@ -13,7 +12,7 @@ use Rattle.upon_engine.specs.Theorem.{AnswersTree}
 use Rattle.upon_engine.specs.Within.{AnswersWithin}
 use Rattle.upon_tool_many.specs.Build.{FramesText}
 use Rattle.upon_tool_many.specs.Pages.{as_page, AnswersIn, IsHeldText, IsMemoryOut}
-use Rattle.upon_tool_many.specs.Values.{at_content, content_key, IsMapOfKeys}
+use Rattle.upon_tool_many.specs.Values.{IsContentValue}
 use Rattle.upon_tool_many.specs.declared.pages.PageFault.{PageFault}
 use Rattle.upon_tool_many.specs.declared.pages.PageFault.TheVariants.{Fault, NoTemplate}
 
@@ -49,11 +48,6 @@ memory_out (Err fault) said = (said.0, said.1, ap Err said.2)
 pub frames_none : (limits : Option Limits) (e : Texts) (layout : Option (Bor (List ℕ))) (context : Val) (text : String Global) → layout ≡ None → FramesText limits e layout context (Ok text) (Ok text)
 frames_none limits e layout context text is = subst (λ layout. FramesText limits e layout context (Ok text) (Ok text)) (sym is) refl
 
--- the text in a layout on one context is that on another, where that has the same at each key
-pub frames_same : (limits : Option Limits) (e : Texts) (layout : Option (Bor (List ℕ))) (name : Bor (List ℕ)) (on context : Val) (text : String Global) (result : Result (String Global) PageFault) → layout ≡ Some name → ((key : List ℕ) → key_of key on ≡ key_of key context)
-    → FramesText limits e (Some name) on (Ok text) result → FramesText limits e layout context (Ok text) result
-frames_same limits e layout name on context text result is same framed =
-    let bytes = string_bytes text in
-    let agree : at_content on bytes ≡ at_content context bytes = λ i key. if bytes_eq key content_key then Some (text_val bytes) else same key i in
-    let whole : FramesText limits e (Some name) context (Ok text) result = subst (λ at. ((v : Val) × IsMapOfKeys at v × IsHeldText limits e name.now v result) ⊎ IsMemoryOut result) agree framed in
-    subst (λ layout. FramesText limits e layout context (Ok text) result) (sym is) whole
+pub frames_some : (limits : Option Limits) (e : Texts) (layout : Option (Bor (List ℕ))) (name : Bor (List ℕ)) (context : Val) (text : String Global) (result : Result (String Global) PageFault) → layout ≡ Some name
+    → ((v : Val) × IsContentValue context (string_bytes text) v × IsHeldText limits e name.now v result) ⊎ IsMemoryOut result → FramesText limits e layout context (Ok text) result
+frames_some limits e layout name context text result is said = subst (λ layout. FramesText limits e layout context (Ok text) result) (sym is) said

@@ -1,7 +1,6 @@
 // A folder that is built into another: its templates are rendered, its other files are copied.
-ghost use Rattle.std.specs.Prelude.{◌≡◌, IfErr, IfOk, Ok, OnErr, OnOk, Some, length, string_bytes};
-ghost use Rattle.upon_types.specs.Val.{map_val};
-ghost use Rattle.upon_types.specs.View.{view, entries_view};
+ghost use Rattle.std.specs.Prelude.{◌≡◌, IfErr, IfOk, Ok, OnErr, OnOk, length, string_bytes};
+ghost use Rattle.upon_types.specs.View.{view};
 ghost use Rattle.upon_tool_io.specs.Paths.{joined_path};
 ghost use Rattle.upon_tool_io.specs.World.{GivesBytes, GivesFileText};
 ghost use Rattle.upon_tool_many.specs.Build.{DoesBuild, DoesPage, EndsOf, EndsOfCopy, EndsOfTemplate, FramesText, IsPageOf, IsPageText, RefusesBuild, RefusesSame};
@@ -16,7 +15,6 @@ use crate::progress::Progress;
 use crate::values::content_value;
 use std::alloc::{AllocError, AllocFailed, Global};
 use std::collections::BTreeMap;
-use std::mem;
 use upon_engine::engine::Engine;
 use upon_engine::texts::{AnyEngine, EngineTexts};
 use upon_engine::within::Limits;
@@ -97,17 +95,15 @@ pub fn build_folder<R: Sources + AllocGlobal, T: Targets, P: Progress>(
     targets: &mut T,
     engine: &Engine<'_>,
     asked: &Build<'_>,
-    context: &mut Value,
+    context: &Value,
     progress: &mut P,
 ) -> Result<Vec<DonePage>, BuildFault>
     ensures done { IfOk result
-        (λ done. DoesBuild (R.world rt.now) (⟦<AnyEngine as EngineTexts>⟧.texts engine.now) asked.now (view context.old)
+        (λ done. DoesBuild (R.world rt.now) (⟦<AnyEngine as EngineTexts>⟧.texts engine.now) asked.now (view context.now)
         done.items (T.written targets.old) (T.written targets.new)) }
     // Else nothing is written.
     ensures unwritten { OnErr result (T.written targets.new ≡ T.written targets.old) }
     ensures refused { IfErr result (RefusesBuild (R.world rt.now) asked.now) }
-    // The context is as it was.
-    ensures kept { view context.new ≡ view context.old }
 {
     let alloc = rt.alloc();
     let files = match rt.files_of(alloc, asked.source, asked.follows) {
@@ -183,15 +179,14 @@ fn build_all<R: Sources + AllocGlobal, T: Targets, P: Progress>(
     targets: &mut T,
     engine: &Engine<'_>,
     asked: &Build<'_>,
-    context: &mut Value,
+    context: &Value,
     pages: Vec<Page<Source>>,
     progress: &mut P,
 ) -> Result<Vec<DonePage>, AllocError>
     ensures done { IfOk result (λ done. DoneInOrder asked.now.keep_going
-        (DoesPage (R.world rt.now) (⟦<AnyEngine as EngineTexts>⟧.texts engine.now) asked.now (view context.old))
+        (DoesPage (R.world rt.now) (⟦<AnyEngine as EngineTexts>⟧.texts engine.now) asked.now (view context.now))
         pages.items done.items (T.written targets.old) (T.written targets.new)) }
     ensures unwritten { OnErr result (T.written targets.new ≡ T.written targets.old) }
-    ensures kept { view context.new ≡ view context.old }
 {
     let alloc = rt.alloc();
     let all = pages.len();
@@ -214,12 +209,11 @@ fn build_page<R: Sources + AllocGlobal, T: Targets>(
     targets: &mut T,
     engine: &Engine<'_>,
     asked: &Build<'_>,
-    context: &mut Value,
+    context: &Value,
     page: Page<Source>,
 ) -> DonePage
-    ensures done { DoesPage (R.world rt.now) (⟦<AnyEngine as EngineTexts>⟧.texts engine.now) asked.now
-        (view context.old) page result (T.written targets.old) (T.written targets.new) }
-    ensures kept { view context.new ≡ view context.old }
+    ensures { DoesPage (R.world rt.now) (⟦<AnyEngine as EngineTexts>⟧.texts engine.now) asked.now (view context.now)
+        page result (T.written targets.old) (T.written targets.new) }
 {
     let Page { name, from } = page;
     let end = end_of(rt, targets, engine, asked, context, name.as_str(), from);
@@ -232,14 +226,13 @@ fn end_of<R: Sources + AllocGlobal, T: Targets>(
     targets: &mut T,
     engine: &Engine<'_>,
     asked: &Build<'_>,
-    context: &mut Value,
+    context: &Value,
     name: &str,
     from: Source,
 ) -> PageEnd
-    ensures end { EndsOf (R.world rt.now) from.fault from.is_template name.now (string_bytes from.path)
-        (⟦<AnyEngine as EngineTexts>⟧.texts engine.now) asked.now (view context.old) result
+    ensures { EndsOf (R.world rt.now) from.fault from.is_template name.now (string_bytes from.path)
+        (⟦<AnyEngine as EngineTexts>⟧.texts engine.now) asked.now (view context.now) result
         (T.written targets.old) (T.written targets.new) }
-    ensures kept { view context.new ≡ view context.old }
 {
     let Source {
         path,
@@ -262,14 +255,13 @@ fn end_of_template<R: Sources + AllocGlobal, T: Targets>(
     targets: &mut T,
     engine: &Engine<'_>,
     asked: &Build<'_>,
-    context: &mut Value,
+    context: &Value,
     name: &str,
     path: &str,
 ) -> PageEnd
-    ensures end { EndsOfTemplate (R.world rt.now) name.now path.now (⟦<AnyEngine as EngineTexts>⟧.texts engine.now)
-        asked.now (view context.old) result
+    ensures { EndsOfTemplate (R.world rt.now) name.now path.now (⟦<AnyEngine as EngineTexts>⟧.texts engine.now)
+        asked.now (view context.now) result
         (T.written targets.old) (T.written targets.new) }
-    ensures kept { view context.new ≡ view context.old }
 {
     match read_source(rt, asked.source, path) {
         Ok(source) => {
@@ -324,12 +316,11 @@ fn page_text(
     alloc: Global,
     engine: &Engine<'_>,
     asked: &Build<'_>,
-    context: &mut Value,
+    context: &Value,
     source: &str,
 ) -> Result<String, PageFault>
-    ensures text { IsPageText (⟦<AnyEngine as EngineTexts>⟧.texts engine.now) asked.now (view context.old) source.now
+    ensures { IsPageText (⟦<AnyEngine as EngineTexts>⟧.texts engine.now) asked.now (view context.now) source.now
         result }
-    ensures kept { view context.new ≡ view context.old }
 {
     match source_text(engine, asked.limits, source, context) {
         Ok(text) => framed_text(alloc, engine, asked, context, text),
@@ -337,50 +328,20 @@ fn page_text(
     }
 }
 
-// The text of a page in the layout, if there is one. A context that is no map has no entries.
+// The text of a page in the layout, if there is one.
 fn framed_text(
     alloc: Global,
     engine: &Engine<'_>,
     asked: &Build<'_>,
-    context: &mut Value,
+    context: &Value,
     text: String,
 ) -> Result<String, PageFault>
-    ensures text { FramesText asked.now.limits (⟦<AnyEngine as EngineTexts>⟧.texts engine.now) asked.now.layout
-        (view context.old) (Ok text) result }
-    ensures kept { view context.new ≡ view context.old }
+    ensures { FramesText asked.now.limits (⟦<AnyEngine as EngineTexts>⟧.texts engine.now) asked.now.layout
+        (view context.now) (Ok text) result }
 {
     let Some(layout) = asked.layout else {
         return Ok(text);
     };
-    match mem::replace(context, Value::None).into_entries() {
-        Ok(mut entries) => {
-            let framed = layout_text(alloc, engine, asked.limits, layout, &mut entries, text);
-            *context = Value::Map(entries);
-            framed
-        }
-        Err(other) => {
-            *context = other;
-            let mut none = BTreeMap::new(alloc);
-            layout_text(alloc, engine, asked.limits, layout, &mut none, text)
-        }
-    }
-}
-
-// The text of a layout on entries with the text of a page.
-fn layout_text(
-    alloc: Global,
-    engine: &Engine<'_>,
-    limits: Option<Limits>,
-    layout: &str,
-    entries: &mut BTreeMap<String, Value>,
-    text: String,
-) -> Result<String, PageFault>
-    ensures text { FramesText limits (⟦<AnyEngine as EngineTexts>⟧.texts engine.now) (Some layout.entry)
-        (map_val (entries_view entries.old.entries)) (Ok text) result }
-    ensures kept { entries_view entries.new.entries ≡ entries_view entries.old.entries }
-{
-    let laid = content_value(alloc, entries, text)?;
-    let framed = held_text(engine, limits, layout, &laid.value);
-    laid.put_back(entries);
-    framed
+    let value = content_value(alloc, context, text)?;
+    held_text(engine, asked.limits, layout, &value)
 }

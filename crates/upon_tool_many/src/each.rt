@@ -93,12 +93,12 @@ pub fn render_each<R: Sources + AllocGlobal, T: Targets, P: Progress>(
         (view context)) }
 {
     let alloc = rt.alloc();
-    let Some((mut others, items)) = split(context, asked.key) else {
+    let Some((others, items)) = split(context, asked.key) else {
         return Err(EachFault::NoList);
     };
-    let pages = named(alloc, engine, asked, &mut others, items)?;
+    let pages = named(alloc, engine, asked, &others, items)?;
     refuse_twice(alloc, pages.as_slice())?;
-    Ok(render_all(rt, targets, engine, asked, &mut others, pages, progress)?)
+    Ok(render_all(rt, targets, engine, asked, &others, pages, progress)?)
 }
 
 // The pages of items, with their names.
@@ -106,14 +106,13 @@ fn named(
     alloc: Global,
     engine: &Engine<'_>,
     asked: &Each<'_>,
-    others: &mut BTreeMap<String, Value>,
+    others: &BTreeMap<String, Value>,
     items: Vec<Value>,
 ) -> Result<Vec<Page<Value>>, EachFault>
     ensures named { IfOk result (λ pages. NamesItems (⟦<AnyEngine as EngineTexts>⟧.texts engine.now) asked.now
-        (entries_view others.old.entries) items.items pages.items) }
+        (entries_view others.now.entries) items.items pages.items) }
     ensures refused { IfErr result (RefusesNames (⟦<AnyEngine as EngineTexts>⟧.texts engine.now) asked.now
-        (entries_view others.old.entries) items.items) }
-    ensures kept { entries_view others.new.entries ≡ entries_view others.old.entries }
+        (entries_view others.now.entries) items.items) }
 {
     let mut pages = Vec::new(alloc);
     for item in items {
@@ -128,15 +127,14 @@ fn page_of_item(
     alloc: Global,
     engine: &Engine<'_>,
     asked: &Each<'_>,
-    others: &mut BTreeMap<String, Value>,
+    others: &BTreeMap<String, Value>,
     place: usize,
     item: Value,
 ) -> Result<Page<Value>, EachFault>
     ensures named { IfOk result (NamesItem (⟦<AnyEngine as EngineTexts>⟧.texts engine.now) asked.now
-        (entries_view others.old.entries) item) }
+        (entries_view others.now.entries) item) }
     ensures refused { IfErr result (RefusesItem (⟦<AnyEngine as EngineTexts>⟧.texts engine.now) asked.now
-        (entries_view others.old.entries) place item) }
-    ensures kept { entries_view others.new.entries ≡ entries_view others.old.entries }
+        (entries_view others.now.entries) place item) }
 {
     let name = match item_name(alloc, engine, asked, others, &item) {
         Ok(name) => name,
@@ -154,17 +152,14 @@ fn item_name(
     alloc: Global,
     engine: &Engine<'_>,
     asked: &Each<'_>,
-    others: &mut BTreeMap<String, Value>,
+    others: &BTreeMap<String, Value>,
     item: &Value,
 ) -> Result<String, PageFault>
-    ensures name { IsItemName (⟦<AnyEngine as EngineTexts>⟧.texts engine.now) asked.now
-        (entries_view others.old.entries) (view item.now) result }
-    ensures kept { entries_view others.new.entries ≡ entries_view others.old.entries }
+    ensures { IsItemName (⟦<AnyEngine as EngineTexts>⟧.texts engine.now) asked.now
+        (entries_view others.now.entries) (view item.now) result }
 {
-    let laid = item_value(alloc, others, item)?;
-    let name = source_text(engine, asked.limits, asked.name, &laid.value);
-    laid.put_back(others);
-    name
+    let value = item_value(alloc, others, item)?;
+    source_text(engine, asked.limits, asked.name, &value)
 }
 
 // The text of the page of an item, or why there is none.
@@ -172,17 +167,14 @@ fn item_text(
     alloc: Global,
     engine: &Engine<'_>,
     asked: &Each<'_>,
-    others: &mut BTreeMap<String, Value>,
+    others: &BTreeMap<String, Value>,
     item: &Value,
 ) -> Result<String, PageFault>
-    ensures text { IsItemText (⟦<AnyEngine as EngineTexts>⟧.texts engine.now) asked.now
-        (entries_view others.old.entries) (view item.now) result }
-    ensures kept { entries_view others.new.entries ≡ entries_view others.old.entries }
+    ensures { IsItemText (⟦<AnyEngine as EngineTexts>⟧.texts engine.now) asked.now
+        (entries_view others.now.entries) (view item.now) result }
 {
-    let laid = item_value(alloc, others, item)?;
-    let text = held_text(engine, asked.limits, asked.page, &laid.value);
-    laid.put_back(others);
-    text
+    let value = item_value(alloc, others, item)?;
+    held_text(engine, asked.limits, asked.page, &value)
 }
 
 // Refuses two pages of one name.
@@ -205,13 +197,13 @@ fn render_all<R: Sources + AllocGlobal, T: Targets, P: Progress>(
     targets: &mut T,
     engine: &Engine<'_>,
     asked: &Each<'_>,
-    others: &mut BTreeMap<String, Value>,
+    others: &BTreeMap<String, Value>,
     pages: Vec<Page<Value>>,
     progress: &mut P,
 ) -> Result<Vec<DonePage>, AllocError>
     ensures done { IfOk result (λ done. DoneInOrder asked.now.keep_going
         (DoesItem (R.world rt.now) (⟦<AnyEngine as EngineTexts>⟧.texts engine.now) asked.now
-        (entries_view others.old.entries)) pages.items done.items (T.written targets.old) (T.written targets.new)) }
+        (entries_view others.now.entries)) pages.items done.items (T.written targets.old) (T.written targets.new)) }
     ensures unwritten { OnErr result (T.written targets.new ≡ T.written targets.old) }
 {
     let alloc = rt.alloc();
@@ -235,12 +227,11 @@ fn render_page<R: Sources + AllocGlobal, T: Targets>(
     targets: &mut T,
     engine: &Engine<'_>,
     asked: &Each<'_>,
-    others: &mut BTreeMap<String, Value>,
+    others: &BTreeMap<String, Value>,
     page: Page<Value>,
 ) -> DonePage
-    ensures done { DoesItem (R.world rt.now) (⟦<AnyEngine as EngineTexts>⟧.texts engine.now) asked.now
-        (entries_view others.old.entries) page result (T.written targets.old) (T.written targets.new) }
-    ensures kept { entries_view others.new.entries ≡ entries_view others.old.entries }
+    ensures { DoesItem (R.world rt.now) (⟦<AnyEngine as EngineTexts>⟧.texts engine.now) asked.now
+        (entries_view others.now.entries) page result (T.written targets.old) (T.written targets.new) }
 {
     let Page { name, from } = page;
     let text = item_text(rt.alloc(), engine, asked, others, &from);

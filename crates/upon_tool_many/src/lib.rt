@@ -4,7 +4,6 @@
 
 pub mod build;
 pub mod each;
-pub mod laid;
 pub mod names;
 pub mod pages;
 pub mod progress;

@@ -1,31 +1,31 @@
 // The values that pages are rendered on.
-ghost use Rattle.std.specs.Prelude.{◌≡◌, ℕ, List, Some, option_map, IfOk, IfSome, IsNone, OnErr, string_bytes};
-ghost use Rattle.upon_types.specs.Val.{Vals, entry_at, key_of, list_val, map_val};
+ghost use Rattle.std.specs.Prelude.{◌≡◌, ℕ, List, Some, option_map, IfOk, IfSome, IsNone, string_bytes};
+ghost use Rattle.upon_types.specs.Val.{Vals, entry_at, key_of, list_val};
 ghost use Rattle.upon_types.specs.View.{view, vals_view, entries_view};
-ghost use Rattle.upon_tool_many.specs.Laid.{IsLaidOver};
 ghost use Rattle.upon_tool_many.specs.Values.{list_in, IsContentValue, IsItemValue, IsSplit};
 
-use crate::laid::{Laid, lay_over};
 use std::alloc::{AllocError, Global};
 use std::collections::BTreeMap;
 use upon_types::value::{Value, clone_entries};
 
-/// Takes the other entries for the page of an item: lays the entries of the item over them, if it is a map, and the
-/// item itself under `item`. If there is no memory, the others are as they were.
+/// Returns the value that the page of an item is rendered on: the entries of the item over the others, if it is a map,
+/// and the item itself under `item`. It fails if there is no memory.
 pub fn item_value(
     alloc: Global,
-    others: &mut BTreeMap<String, Value>,
+    others: &BTreeMap<String, Value>,
     item: &Value,
-) -> Result<Laid, AllocError>
-    ensures means { IfOk result
-        (λ laid. IsItemValue (entries_view others.old.entries) (view item.now) (view laid.value)) }
-    ensures lent { IfOk result (λ laid. IsLaidOver laid (entries_view others.old.entries)) }
-    ensures kept { OnErr result (entries_view others.new.entries ≡ entries_view others.old.entries) }
+) -> Result<Value, AllocError>
+    ensures { IfOk result (λ v. IsItemValue (entries_view others.now.entries) (view item.now) (view v)) }
 {
-    let mut over = own_entries(alloc, item)?;
+    let mut entries = own_entries(alloc, item)?;
+    for (key, value) in others.iter() {
+        if !entries.contains_key(key.as_str()) {
+            drop(entries.insert(key.clone()?, value.try_clone()?)?);
+        }
+    }
     let key = String::from_str(alloc, "item")?;
-    drop(over.insert(key, item.try_clone()?)?);
-    lay_over(alloc, others, over)
+    drop(entries.insert(key, item.try_clone()?)?);
+    Ok(Value::Map(entries))
 }
 
 // A copy of the entries of a value; one that is no map has none.
@@ -39,22 +39,15 @@ fn own_entries(alloc: Global, value: &Value) -> Result<BTreeMap<String, Value>, 
     }
 }
 
-/// Takes the entries of a context for the layout of a page: lays the text of the page over them, under `content`. If
-/// there is no memory, the entries are as they were.
-pub fn content_value(
-    alloc: Global,
-    entries: &mut BTreeMap<String, Value>,
-    text: String,
-) -> Result<Laid, AllocError>
-    ensures means { IfOk result (λ laid. IsContentValue (map_val (entries_view entries.old.entries)) (string_bytes text)
-        (view laid.value)) }
-    ensures lent { IfOk result (λ laid. IsLaidOver laid (entries_view entries.old.entries)) }
-    ensures kept { OnErr result (entries_view entries.new.entries ≡ entries_view entries.old.entries) }
+/// Returns the value that a layout is rendered on: the entries of the context with the text of a page under
+/// `content`. It fails if there is no memory.
+pub fn content_value(alloc: Global, context: &Value, text: String) -> Result<Value, AllocError>
+    ensures { IfOk result (λ v. IsContentValue (view context.now) (string_bytes text) (view v)) }
 {
-    let mut over = BTreeMap::new(alloc);
+    let mut entries = own_entries(alloc, context)?;
     let key = String::from_str(alloc, "content")?;
-    drop(over.insert(key, Value::String(text))?);
-    lay_over(alloc, entries, over)
+    drop(entries.insert(key, Value::String(text))?);
+    Ok(Value::Map(entries))
 }
 
 /// Returns the entries of a context but for the one of a key, and the items of the list there. It is `None` if there is

@@ -57,24 +57,24 @@ pub fn show_build<R: Sources + Clock + AllocGlobal, T: Targets, E: Write>(
     targets: &mut T,
     engine: &Engine<'_>,
     library: &Library,
-    mut value: Value,
+    value: &Value,
     asked: &Build<'_>,
     is_terminal: bool,
     err: &mut E,
 ) -> u8
     ensures range { result ≤ 2 }
-    ensures well { BuildIsWell (R.world rt.now) (⟦<AnyEngine as EngineTexts>⟧.texts engine.now) (view value) asked.now
-        result (T.written targets.old) (T.written targets.new) }
+    ensures well { BuildIsWell (R.world rt.now) (⟦<AnyEngine as EngineTexts>⟧.texts engine.now) (view value.now)
+        asked.now result (T.written targets.old) (T.written targets.new) }
 {
     let alloc = rt.alloc();
-    let mut waiting = Waiting::new(rt, err, is_terminal);
-    let made = build_folder(rt, targets, engine, asked, &mut value, &mut waiting);
-    drop(waiting);
     let known = Known {
         library,
-        value: Some(&value),
+        value: Some(value),
         page: asked.layout,
     };
+    let mut waiting = Waiting::new(rt, err, is_terminal);
+    let made = build_folder(rt, targets, engine, asked, value, &mut waiting);
+    drop(waiting);
     match made {
         Ok(done) => show_done(alloc, engine, &known, asked.out, done, err),
         Err(fault) => report_build(alloc, asked, fault, err),

@@ -1,4 +1,4 @@
-use Rattle.std.proofs.Common.{◌≡◌, ◌≤◌, length}
+use Rattle.std.proofs.Common.{◌≤◌, length}
 use Rattle.std.specs.Vec.{vec_capacity, vec_len}
 use Rattle.std.specs.Vec.Iter.{into_iter_items}
 use Rattle.upon_types.specs.View.{entries_view}
@@ -7,10 +7,9 @@ use Rattle.upon_tool_many.specs.Each.{DoesItem}
 use Rattle.upon_tool_many.proofs.Rows.{DoneSoFar, LeftAt}
 use Rattle.upon_tool_many.proofs.each.render_all.Given as goal
 
--- the pages so far are done, there is room for those that are left, and the other entries are as they were
+-- the pages so far are done, and there is room for those that are left
 abbrev pub invariant-loop-page : goal.invariant-loop-page
 invariant-loop-page g l =
-    DoneSoFar l.fn.asked.keep_going (DoesItem (g.R.Sources.world l.rt) (texts_of (λ f. (g.dyn-1.0.entry f.vtable).1.formats f.value) (λ f. (g.dyn-2.0.entry f.vtable).1.answers f.value) l.fn.engine) l.fn.asked (entries_view l.initial.others.entries)) (into_iter_items l.page-iterator) (into_iter_items l.initial.page-iterator) l.done.items (g.T.Targets.written l.initial.targets) (g.T.Targets.written l.targets)
+    DoneSoFar l.fn.asked.keep_going (DoesItem (g.R.Sources.world l.rt) (texts_of (λ f. (g.dyn-1.0.entry f.vtable).1.formats f.value) (λ f. (g.dyn-2.0.entry f.vtable).1.answers f.value) l.fn.engine) l.fn.asked (entries_view l.fn.others.entries)) (into_iter_items l.page-iterator) (into_iter_items l.initial.page-iterator) l.done.items (g.T.Targets.written l.initial.targets) (g.T.Targets.written l.targets)
     × LeftAt (into_iter_items l.page-iterator) (into_iter_items l.initial.page-iterator) (vec_len l.done)
     × (length (into_iter_items l.initial.page-iterator) ≤ vec_capacity l.done)
-    × (entries_view l.others.entries ≡ entries_view l.initial.others.entries)

@@ -1,9 +1,7 @@
 use Rattle.std.proofs.Common.{length, refl, subst, inl}
 use Rattle.upon_types.specs.View.{view, entries_view}
 use Rattle.upon_engine.specs.Texts.{texts_of}
-use Rattle.upon_tool_many.specs.Each.{DoesItem}
 use Rattle.upon_tool_many.specs.Names.{page_names, DifferBelow}
-use Rattle.upon_tool_many.specs.Pages.{DoneInOrder}
 use Rattle.upon_tool_many.specs.declared.each.EachFault.TheVariants.{OutOfMemory}
 use Rattle.upon_tool_many.proofs.Refused.{names_refused, twice_refused}
 use Rattle.upon_tool_many.proofs.each.render_each.Goals as goal
@@ -16,7 +14,7 @@ returns-clause-done g c = record {
   listed = c.in-Some.ensures.split;
   named = c.in_ok-pages.ensures.named;
   differ = subst (λ pages. DifferBelow (page_names pages) (length (page_names pages))) c.as_slice.ensures.value c.in_ok-refuse_twice.ensures.differ;
-  done_in_order = subst (λ others. DoneInOrder c.args.asked.now.keep_going (DoesItem (g.R.Sources.world c.args.rt.now) (texts_of (λ f. (g.dyn-1.0.entry f.vtable).1.formats f.value) (λ f. (g.dyn-2.0.entry f.vtable).1.answers f.value) c.args.engine.now) c.args.asked.now others) c.in_ok-pages.pages.items c.in_ok-render_all.field-0.items (g.T.Targets.written c.args.targets.now) (g.T.Targets.written c.render_all.new.targets)) c.in_ok-pages.ensures.kept c.in_ok-render_all.ensures.done;
+  done_in_order = c.in_ok-render_all.ensures.done;
 }
 
 pub returns-in_err-pages-clause-refused : goal.returns-in_err-pages-clause-refused

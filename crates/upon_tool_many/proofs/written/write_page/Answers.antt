@@ -1,4 +1,5 @@
-use Rattle.std.proofs.Common.{◌∙◌}
+use Rattle.std.proofs.Common.{subst, ◌∙◌}
+use Rattle.upon_tool_io.specs.Written.{Changes}
 use Rattle.upon_tool_many.proofs.FilesRead.{changes_from}
 use Rattle.upon_tool_many.proofs.written.write_page.Goals as goal
 
